@@ -1,0 +1,35 @@
+-- Laws of little-endian numbers, over the width. Assumes nothing.
+use Prim.Native.Nat.{ℕ, zero, suc, _+_, _*_, _/_, _%_, _<_, _≤_, _^_}
+use mathlib.Core.Path.{_≡_, refl, ap, _∙_}
+use mathlib.Core.List.{List, [], _∷_, _++_}
+use native.Mathlib.Nat.{pow-suc, div-lt-iff-lt-mul, div-add-mod, zero-lt-suc, mul-add, mul-comm, mul-assoc}
+use native.Mathlib.Omega.{arith}
+use lib.ListN.{length, take, drop, getD, length-drop}
+use lib.Seq.{length-take-le, take-add, drop-drop, drop-cons}
+use Rattle.buffers.specs.LittleEndian.{leBytes, leNumber, leField}
+
+pub length-leBytes : (n x : ℕ) → length (leBytes n x) ≡ n
+length-leBytes zero x = refl
+length-leBytes (suc n) x = ap suc (length-leBytes n (x / 256))
+
+pub leNumber-leBytes : (n x : ℕ) → x < 256 ^ n → leNumber (leBytes n x) ≡ x
+leNumber-leBytes zero x h = omega arith
+leNumber-leBytes (suc n) x h =
+    let small : x < 256 ^ n * 256 = rw pow-suc at h in
+    rw (leNumber-leBytes n (x / 256) (div-lt-iff-lt-mul (zero-lt-suc 255) .1 small)) (omega (arith, div-add-mod x 256))
+
+leNumber-append : (xs ys : List ℕ) → leNumber (xs ++ ys) ≡ leNumber xs + 256 ^ length xs * leNumber ys
+leNumber-append [] ys = omega arith
+leNumber-append (x ∷ xs) ys =
+    rw (leNumber-append xs ys, pow-suc, mul-add, mul-comm (256 ^ length xs) 256, mul-assoc) (omega arith)
+
+-- a field of m + n bytes is one of m bytes, the low ones, and one of n
+pub leField-add : (at m n : ℕ) (l : List ℕ) → at + m ≤ length l → leField at (m + n) l ≡ leField at m l + 256 ^ m * leField (at + m) n l
+leField-add at m n l h =
+    let len : length (take m (drop at l)) ≡ m = length-take-le m (drop at l) (simp length-drop (omega arith)) in
+    ap leNumber (take-add m n (drop at l)) ∙ leNumber-append (take m (drop at l)) (take n (drop m (drop at l)))
+    ∙ rw (len, drop-drop)
+
+-- a field of one byte
+pub leField-one : (at : ℕ) (l : List ℕ) → at < length l → leField at 1 l ≡ getD l at 0
+leField-one at l h = rw (drop-cons l at 0 h) (omega arith)

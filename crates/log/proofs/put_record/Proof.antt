@@ -1,0 +1,37 @@
+-- `log::put_record` meets its contract: the bytes laid over the log are the encoded record's, and a record that is a value of its type fits its bytes.
+-- Assumes nothing.
+use mathlib.Core.Path.{ap, _∙_}
+use mathlib.Core.List.{append-nil}
+use Rattle.log.specs.Logs.{logged, encodeAll}
+use native.Mathlib.Omega.{arith}
+use borrow.Author.Needs.{needs}
+use Rattle.log.proofs.put_record.Statement.{statement}
+use Rattle.log.proofs.put_record.Tie as tie
+
+encoded-requires : tie.Need-encoded-requires
+encoded-requires c κs = search needs
+
+mul-lay : tie.Need-mul-lay
+mul-lay c = search needs
+
+slice-aggregate-lay : tie.Need-slice-aggregate-lay
+slice-aggregate-lay c = search needs
+
+lay-requires : tie.Need-lay-requires
+lay-requires c κs = search needs
+
+same-length : tie.Need-same-length
+same-length c = search needs
+
+returns : tie.Need-returns
+unfolding logged encodeAll
+returns c =
+    let l = c .before .before in
+    let s = l .before .before .before .before .before in
+    let g = s .good .1 .1 .0 in
+    record { log = cc; fits = (record { address = omega (arith, g); length = omega (arith, g .1 .1 .1 .1 .1 .1); start = omega (arith, g .1 .1 .1 .1 .1 .1 .1); value = omega (arith, g .1 .1 .1 .1 .1 .1 .1 .1 .1); index = omega (arith, g .1 .1 .1 .1 .1 .1 .1 .1 .1 .1) }, tt) }
+
+pub put-record-spec : {M : Type 1} → statement M
+put-record-spec =
+    tie.close
+    (tie.spec encoded-requires mul-lay slice-aggregate-lay lay-requires same-length returns)

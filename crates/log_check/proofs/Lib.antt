@@ -1,0 +1,2 @@
+pub mod RecordsInLaws
+pub mod WellFormedLaws

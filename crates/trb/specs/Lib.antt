@@ -1,0 +1,5 @@
+pub mod Limits
+pub mod Ids
+pub mod Trbs
+pub mod Codes
+pub mod Refusals

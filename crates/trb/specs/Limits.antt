@@ -1,0 +1,53 @@
+-- The limits of document 01, each under one name. `limits` in src/lib.rt proves that the code's constants are these.
+-- Assumes nothing.
+use Prim.Native.Nat.{ℕ, _*_}
+use Rattle.trb.specs.declared.LimitTable.{LimitTable}
+
+-- 01, Submission: at most 64 TRBs held
+abbrev pub maxHeld : ℕ
+maxHeld = 64
+
+-- 01, Submission: the length of a DataStage or Normal TRB at most 131,071
+abbrev pub maxTransferLength : ℕ
+maxTransferLength = 131071
+
+-- 01, Submission: collected count at most 65,535; the collect buffer at least as long
+abbrev pub maxCollected : ℕ
+maxCollected = 65535
+
+-- 01, Completion: the device's data at most 16,777,215 bytes
+abbrev pub maxData : ℕ
+maxData = 16777215
+
+-- 01, Creation: the endpoint id 1 to 31
+abbrev pub maxEndpointId : ℕ
+maxEndpointId = 31
+
+-- 01, The log: records of 32 bytes
+abbrev pub recordLength : ℕ
+recordLength = 32
+
+-- 01, The log: a call writes at most 128 records, two for each TRB held
+abbrev pub maxRecords : ℕ
+maxRecords = 2 * maxHeld
+
+-- 01, Submission: the log at least 4,096 bytes, room for that many records
+abbrev pub minLog : ℕ
+minLog = recordLength * maxRecords
+
+-- 01, Examples: a log longer than 65,536 bytes is not printed
+abbrev pub maxPrintedLog : ℕ
+maxPrintedLog = 65536
+
+abbrev pub limitTable : LimitTable
+limitTable = record {
+  held = maxHeld;
+  «transfer_length» = maxTransferLength;
+  collected = maxCollected;
+  «data» = maxData;
+  «endpoint_id» = maxEndpointId;
+  «record_length» = recordLength;
+  records = maxRecords;
+  log = minLog;
+  «printed_log» = maxPrintedLog;
+}

@@ -1,0 +1,19 @@
+-- The numbers of document 01's questions. Assumes nothing.
+use Prim.Native.Nat.{ℕ}
+use Rattle.trb.specs.declared.Refusal.{Refusal}
+use Rattle.trb.specs.declared.Refusal.the-variants.{BufferTooShort, UnsoundBlock, OutOfTurn, TransferTooLong, TooManyHeld, OutsideGuestMemory, TooMuchCollected, DeviceResultMismatch, DataTooLong, MalformedLog, WriteOutOfRange, IdOutOfRange}
+
+-- 01, Questions asked
+abbrev pub refusalNumber : Refusal → ℕ
+refusalNumber BufferTooShort = 1
+refusalNumber UnsoundBlock = 2
+refusalNumber OutOfTurn = 3
+refusalNumber TransferTooLong = 4
+refusalNumber TooManyHeld = 5
+refusalNumber OutsideGuestMemory = 6
+refusalNumber TooMuchCollected = 7
+refusalNumber DeviceResultMismatch = 8
+refusalNumber DataTooLong = 9
+refusalNumber MalformedLog = 10
+refusalNumber WriteOutOfRange = 11
+refusalNumber IdOutOfRange = 12
