@@ -1,0 +1,50 @@
+-- 01, Examples from the bench: the text of a log, and what printing it into a lent buffer answers. Assumes nothing.
+use Prim.Native.Nat.{ℕ, _/_, _≤_}
+use mathlib.Core.Bool.{Bool, cond, _&&_}
+use mathlib.Core.Path.{_≡_}
+use mathlib.Core.List.{List, [], _∷_, _++_}
+use lib.Dec.{leb}
+use lib.ListN.{length}
+use Rattle.buffers.specs.Patch.{patch}
+use Rattle.trb.specs.Limits.{recordLength, maxPrintedLog}
+use Rattle.trb.specs.declared.Answer.the-variants.{Accepted, Refused}
+use Rattle.trb.specs.declared.Refusal.the-variants.{BufferTooShort, MalformedLog}
+use Rattle.trb.specs.Refusals.{refusalNumber}
+use Rattle.numerals.specs.Digits.{decimalOf}
+use Rattle.log_check.specs.WellFormed.{wellFormed}
+use Rattle.log_text.specs.declared.Printed.{Printed}
+use Rattle.log_text.specs.Widths.{maxText}
+use Rattle.log_text.specs.Lines.{lineFeed, field, linesIn}
+
+-- `refused`
+abbrev pub refusedWord : List ℕ
+refusedWord = 114 ∷ 101 ∷ 102 ∷ 117 ∷ 115 ∷ 101 ∷ 100 ∷ []
+
+-- `refused 10` and a line feed
+unfoldable pub refusedText : List ℕ
+refusedText = field refusedWord ++ decimalOf (refusalNumber MalformedLog) ++ (lineFeed ∷ [])
+
+-- 01, Examples: a log refused with 10, or longer than 65,536 bytes, prints only `refused 10`
+unfoldable pub printable : List ℕ → Bool
+printable l = leb (length l) maxPrintedLog && wellFormed l
+
+-- the text of a log: a line for each record
+unfoldable pub logText : List ℕ → List ℕ
+logText l = cond (printable l) (linesIn (length l / recordLength) l) refusedText
+
+-- the answer for the log l and the text buffer t: a text of any log must fit
+unfoldable pub printed : List ℕ → List ℕ → Printed
+printed l t =
+    cond (leb maxText (length t))
+    (record { answer = Accepted; «length» = length (logText l) })
+    (record { answer = Refused BufferTooShort; «length» = 0 })
+
+-- the text buffer afterwards
+unfoldable pub textAfter : List ℕ → List ℕ → List ℕ
+textAfter l t = cond (leb maxText (length t)) (patch t 0 (logText l)) t
+
+-- of a call of print_log with the log l and the text buffer t: it returned r and left the buffer t', in which the text lies
+pub record Prints (l t : List ℕ) (r : Printed) (t' : List ℕ) : Type 0 where
+  pub printed : r ≡ printed l t
+  pub text : t' ≡ textAfter l t
+  pub within : r .«length» ≤ length t'

@@ -1,0 +1,4 @@
+pub mod ListLaws
+pub mod DigitLaws
+pub mod NumberLaws
+pub mod WrittenLaws
