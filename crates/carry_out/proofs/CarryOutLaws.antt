@@ -1,0 +1,47 @@
+-- Carrying out the log of a call: its records are what is carried out. Assumes nothing.
+use Prim.Native.Nat.{ℕ, _*_, _/_, _%_, _≤_}
+use mathlib.Core.Bool.{true, cond}
+use mathlib.Core.Path.{_≡_, sym, ap, _∙_}
+use mathlib.Core.List.{List, [], append-nil}
+use native.Mathlib.Omega.{arith}
+use lib.ListN.{length, take}
+use lib.Seq.{take-at}
+use borrow.Author.Tests.{eq-eqb}
+use Rattle.buffers.specs.Patch.{patch}
+use Rattle.trb.specs.Limits.{recordLength}
+use Rattle.trb.specs.declared.Answer.the-variants.{Accepted, Refused}
+use Rattle.trb.specs.declared.Refusal.the-variants.{WriteOutOfRange}
+use Rattle.log.specs.declared.Record.{Record}
+use Rattle.log.specs.Logs.{encodeAll, logged, recordsIn, AllFit}
+use Rattle.log.proofs.LogLaws.{length-encodeAll, recordsIn-encodeAll}
+use Rattle.log_check.specs.WellFormed.{kindsKnown, wellFormed}
+use Rattle.carry_out.specs.Writes.{recordsOf, writesInRange, written}
+use Rattle.carry_out.specs.CarryOut.{answerOf, memoryAfter}
+
+-- the bytes that a call wrote, of a log that was long enough
+pub take-logged : (l : List ℕ) (rs : List Record) → recordLength * length rs ≤ length l → take (recordLength * length rs) (logged l 0 rs) ≡ encodeAll rs
+unfolding logged patch
+take-logged l rs h = take-at (encodeAll rs) _ (recordLength * length rs) (length-encodeAll rs)
+
+module _ (rs : List Record) (fits : AllFit rs) where
+  count : length (encodeAll rs) / recordLength ≡ length rs
+  count = omega (arith, length-encodeAll rs)
+
+  pub recordsOf-encodeAll : recordsOf (encodeAll rs) ≡ rs
+  recordsOf-encodeAll =
+      ap (λ (k : ℕ). recordsIn k (encodeAll rs)) count ∙ ap (recordsIn (length rs)) (sym (append-nil (encodeAll rs))) ∙ recordsIn-encodeAll rs [] fits
+
+  pub wellFormed-encodeAll : wellFormed (encodeAll rs) ≡ kindsKnown rs
+  unfolding wellFormed
+  wellFormed-encodeAll =
+      let whole : length (encodeAll rs) % recordLength ≡ 0 = omega (arith, length-encodeAll rs) in
+      rw (eq-eqb _ _ whole, recordsOf-encodeAll)
+
+  -- of known kinds: only question 11 is left
+  pub answerOf-encodeAll : (n base size : ℕ) → kindsKnown rs ≡ true
+      → answerOf (encodeAll rs) n base size ≡ cond (writesInRange n base size rs) Accepted (Refused WriteOutOfRange)
+  answerOf-encodeAll n base size known = rw (wellFormed-encodeAll, known, recordsOf-encodeAll)
+
+  -- accepted: the records are carried out
+  pub memoryAfter-encodeAll : (bytes : List ℕ) (base : ℕ) (memory : List ℕ) → memoryAfter Accepted (encodeAll rs) bytes base memory ≡ written bytes base memory rs
+  memoryAfter-encodeAll bytes base memory = ap (written bytes base memory) recordsOf-encodeAll
