@@ -1,0 +1,129 @@
+-- How a loop over an array keeps to a walk: after i turns, what the walk over the rest makes of the present state and log is what
+-- the whole walk makes of the first state and log. Assumes nothing.
+use Prim.Native.Nat.{ℕ, suc, _+_, _*_, _<_, _≤_}
+use mathlib.Core.Path.{_≡_, refl, sym, ap, _∙_, subst}
+use mathlib.Core.Bool.{Bool, true, false, cond}
+use mathlib.Core.List.{List, [], _∷_, _++_}
+use native.Mathlib.Nat.{mul-le-mul-left, mul-suc, add-zero}
+use native.Mathlib.Numerals.{add-one}
+use native.Mathlib.Omega.{arith}
+use lib.ListN.{length, take, drop, getD, drop-of-length-le, length-append}
+use lib.Seq.{drop-cons, getD-take, length-take-le}
+use Rattle.trb.specs.Limits.{recordLength}
+use Rattle.log.specs.declared.Record.{Record}
+use Rattle.log.specs.Calls.{Out, silent, Meets}
+use Rattle.log.specs.Logs.{logged, AllFit}
+use Rattle.log.proofs.LogLaws.{logged-append, logged-none, length-logged, AllFit-append}
+use Rattle.walks.specs.Walk.{join, walk}
+
+-- what holds of a step: it keeps what holds of each state, logs at most so many records, and counts them
+pub record Fine {S : Type 0} (Good : S → Type 0) (count : S → ℕ) (most : ℕ) (s : S) (o : Out S) : Type 0 where
+  pub good : Good (o .state)
+  pub few : length (o .records) ≤ most
+  pub counts : count (o .state) ≡ count s + length (o .records)
+
+-- a kind of walk: its step, what stops it, how a state counts the records, at most how many records an element logs
+pub record Walker (S T : Type 0) : Type 1 where
+  pub step : S → T → Out S
+  pub stopped : S → Bool
+  pub count : S → ℕ
+  pub most : ℕ
+  pub Good : S → Type 0
+  pub fine : (s : S) (t : T) → Good s → Fine Good count most s (step s t)
+
+abbrev pub walkOf : {S T : Type 0} → Walker S T → S → List T → Out S
+walkOf k s ts = walk (k .step) (k .stopped) s ts
+
+-- after i elements of ts, of a walk from s₀ and the log l₀, with the state s and the log l
+pub record Walked {S T : Type 0} (k : Walker S T) (s₀ : S) (ts : List T) (l₀ l : List ℕ) (s : S) (i : ℕ) : Type 0 where
+  pub good : k .Good s
+  pub room : k .count s ≤ k .count s₀ + k .most * i
+  pub long : length l ≡ length l₀
+  pub state : walkOf k s (drop i ts) .state ≡ walkOf k s₀ ts .state
+  pub log : logged l (k .count s) (walkOf k s (drop i ts) .records) ≡ logged l₀ (k .count s₀) (walkOf k s₀ ts .records)
+  pub fits : AllFit (walkOf k s (drop i ts) .records) → AllFit (walkOf k s₀ ts .records)
+
+module _ {S T : Type 0} (k : Walker S T) where
+  walk-cons : (s : S) (t : T) (ts : List T) → k .stopped s ≡ false → walkOf k s (t ∷ ts) ≡ join (k .step s t) (walkOf k (k .step s t .state) ts)
+  unfolding walk
+  walk-cons s t ts e = rw e
+
+  walk-none : (s : S) → walkOf k s [] ≡ silent s
+  unfolding walk
+  walk-none s = refl
+
+  walk-stopped : (s : S) (ts : List T) → k .stopped s ≡ true → walkOf k s ts ≡ silent s
+  unfolding walk
+  walk-stopped s [] e = refl
+  walk-stopped s (t ∷ ts) e = rw e
+
+  counts-cons : (s : S) (t : T) (ts : List T) (v : Bool) → k .stopped s ≡ v → k .Good s
+      → k .count (walkOf k (k .step s t .state) ts .state) ≡ k .count (k .step s t .state) + length (walkOf k (k .step s t .state) ts .records)
+      → k .count (walkOf k s (t ∷ ts) .state) ≡ k .count s + length (walkOf k s (t ∷ ts) .records)
+  unfolding walk
+  counts-cons s t ts true e g ih = rw e (sym (add-zero _))
+  counts-cons s t ts false e g ih = rw e
+      (omega (arith, ih, k .fine s t g .counts, length-append (k .step s t .records) (walkOf k (k .step s t .state) ts .records)))
+
+  -- a walk counts its records
+  pub walk-counts : (s : S) (ts : List T) → k .Good s → k .count (walkOf k s ts .state) ≡ k .count s + length (walkOf k s ts .records)
+  unfolding walk
+  walk-counts s [] g = sym (add-zero _)
+  walk-counts s (t ∷ ts) g = counts-cons s t ts (k .stopped s) refl g (walk-counts (k .step s t .state) ts (k .fine s t g .good))
+
+  -- before the first element
+  pub walked-none : (s : S) (ts : List T) (l : List ℕ) → k .Good s → Walked k s ts l l s 0
+  walked-none s ts l g = record { good = g; room = omega arith; long = refl; state = refl; log = refl; fits = λ f. f }
+
+  walked-step : (s₀ : S) (ts : List T) (l₀ l : List ℕ) (s : S) (i : ℕ) (d : T) → Walked k s₀ ts l₀ l s i
+      → k .stopped s ≡ false → i < length ts → recordLength * (k .count s₀ + k .most * length ts) ≤ length l₀
+      → AllFit (k .step s (getD ts i d) .records)
+      → Walked k s₀ ts l₀ (logged l (k .count s) (k .step s (getD ts i d) .records)) (k .step s (getD ts i d) .state) (i + 1)
+  walked-step s₀ ts l₀ l s i d w going more room fit =
+      let o : Out S = k .step s (getD ts i d) in
+      let f : Fine (k .Good) (k .count) (k .most) s o = k .fine s (getD ts i d) (w .good) in
+      let up : k .most * (i + 1) ≡ k .most * i + k .most = rw add-one (mul-suc (k .most) i) in
+      let upto : k .most * (i + 1) ≤ k .most * length ts = mul-le-mul-left (k .most) (omega arith) in
+      let space : recordLength * (k .count s + length (o .records)) ≤ length l = omega (arith, w, f, up, upto) in
+      let rest : List T = drop (suc i) ts in
+      let e : walkOf k s (drop i ts) ≡ join o (walkOf k (o .state) rest) = ap (walkOf k s) (drop-cons ts i d more) ∙ walk-cons s (getD ts i d) rest going in
+      record {
+        good = f .good;
+        room = omega (arith, w, f, up, upto);
+        long = length-logged l (k .count s) (o .records) space ∙ w .long;
+        state = rw add-one (sym (ap (λ (p : Out S). p .state) e) ∙ w .state);
+        log = rw (add-one, f .counts)
+            (logged-append l (k .count s) (o .records) (walkOf k (o .state) rest .records) space
+            ∙ sym (ap (λ (p : Out S). logged l (k .count s) (p .records)) e) ∙ w .log);
+        fits = rw add-one
+            (λ g. w .fits (subst (λ (p : Out S). AllFit (p .records)) (sym e) (AllFit-append (o .records) (walkOf k (o .state) rest .records) fit g)));
+      }
+
+  walked-done : (s₀ : S) (ts : List T) (l₀ l : List ℕ) (s : S) (i : ℕ) → Walked k s₀ ts l₀ l s i → walkOf k s (drop i ts) ≡ silent s
+      → Meets (walkOf k s₀ ts) (k .count s₀) l₀ s l
+  walked-done s₀ ts l₀ l s i w e = record {
+    state = sym (ap (λ (p : Out S). p .state) e) ∙ w .state;
+    log = sym (ap (λ (p : Out S). logged l (k .count s) (p .records)) e ∙ logged-none l (k .count s)) ∙ w .log;
+    fits = w .fits (subst (λ (p : Out S). AllFit (p .records)) (sym e) tt);
+  }
+
+  module _ (xs : List T) (n : ℕ) (long : n ≤ length xs) (s₀ : S) (l₀ : List ℕ) where
+    -- a turn of a loop over an array whose first n elements are walked: d is what a read past its end would give
+    pub walked-turn : (l l' : List ℕ) (s r : S) (i : ℕ) (d : T) → Walked k s₀ (take n xs) l₀ l s i
+        → k .stopped s ≡ false → i < n → recordLength * (k .count s₀ + k .most * n) ≤ length l₀
+        → Meets (k .step s (getD xs i d)) (k .count s) l r l' → Walked k s₀ (take n xs) l₀ l' r (i + 1)
+    walked-turn l l' s r i d w going more room m =
+        let e : length (take n xs) ≡ n = length-take-le n xs long in
+        let same : getD (take n xs) i d ≡ getD xs i d = getD-take n xs i d more in
+        rw (m .state, m .log, ← same)
+        (walked-step s₀ (take n xs) l₀ l s i d w going (omega arith) (rw e room) (rw same (m .fits)))
+
+    -- after the last element
+    pub walked-end : (l : List ℕ) (s : S) (i : ℕ) → Walked k s₀ (take n xs) l₀ l s i → n ≤ i → Meets (walkOf k s₀ (take n xs)) (k .count s₀) l₀ s l
+    walked-end l s i w h =
+        let e : length (take n xs) ≡ n = length-take-le n xs long in
+        walked-done s₀ (take n xs) l₀ l s i w (ap (walkOf k s) (drop-of-length-le (take n xs) {i = i} (omega arith)) ∙ walk-none s)
+
+    -- where a state stops the walk
+    pub walked-stop : (l : List ℕ) (s : S) (i : ℕ) → Walked k s₀ (take n xs) l₀ l s i → k .stopped s ≡ true → Meets (walkOf k s₀ (take n xs)) (k .count s₀) l₀ s l
+    walked-stop l s i w h = walked-done s₀ (take n xs) l₀ l s i w (walk-stopped s (drop i (take n xs)) h)
