@@ -1,0 +1,6 @@
+pub mod GuestLaws
+pub mod StepLaws
+pub mod TdLog
+pub mod Accounted
+pub mod WriteLengths
+pub mod ClaimLaws

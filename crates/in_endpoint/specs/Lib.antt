@@ -1,0 +1,3 @@
+pub mod Creation
+pub mod Submission
+pub mod Completion
