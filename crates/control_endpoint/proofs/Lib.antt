@@ -1,0 +1,2 @@
+pub mod EndpointLaws
+pub mod CountLaws

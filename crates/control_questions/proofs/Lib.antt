@@ -1,0 +1,2 @@
+pub mod SubmissionLaws
+pub mod CompletionLaws

@@ -1,0 +1,50 @@
+-- `control_questions::is_room` meets its contract, by the tests that led to each way out. Assumes nothing.
+use borrow.Author.Tests.{not-true, not-false}
+use Rattle.control_questions.specs.Submission.{hasRoom}
+use borrow.Author.Needs.{needs}
+use Rattle.control_questions.proofs.is_room.Statement.{statement}
+use Rattle.control_questions.proofs.is_room.Tie as tie
+
+is-held-requires : tie.Need-is-held-requires
+is-held-requires c κs = search needs
+
+returns : tie.Need-returns
+unfolding hasRoom
+returns c = rw (← c .before .is-held .ensures, not-true (c .before .is-held .result) (c .if1 .taken))
+
+is-restart-requires : tie.Need-is-restart-requires
+is-restart-requires c κs = search needs
+
+returns-2 : tie.Need-returns-2
+unfolding hasRoom
+returns-2 c =
+    let restart = c .before in
+    let if1 = restart .before in
+    let held = if1 .before in
+    rw (
+      ← held .is-held .ensures,
+      not-false (held .is-held .result) (if1 .if1 .left),
+      ← restart .is-restart .ensures,
+      c .if2 .taken,
+    )
+
+add-result : tie.Need-add-result
+add-result c = search needs
+
+returns-3 : tie.Need-returns-3
+unfolding hasRoom
+returns-3 c =
+    let restart = c .before in
+    let if1 = restart .before in
+    let held = if1 .before in
+    rw (
+      ← held .is-held .ensures,
+      not-false (held .is-held .result) (if1 .if1 .left),
+      ← restart .is-restart .ensures,
+      c .if2 .left,
+    )
+
+pub is-room-spec : {M : Type 1} → statement M
+is-room-spec =
+    tie.close
+    (tie.spec is-held-requires returns is-restart-requires returns-2 add-result returns-3)
