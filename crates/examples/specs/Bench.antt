@@ -1,0 +1,147 @@
+-- 01, Examples from the bench: those marked †, as one computed test on a list that holds them all. Assumes nothing.
+use Prim.Native.Nat.{ℕ}
+use mathlib.Core.Bool.{Bool, true, false}
+use mathlib.Core.List.{List, [], _∷_, map}
+use mathlib.Core.Path.{_≡_, refl}
+use Rattle.trb.specs.Ids.{idsInRange}
+use Rattle.trb.specs.declared.CompletionAnswer.the-variants.{Completed}
+use Rattle.trb.specs.declared.CompletionCode.{CompletionCode}
+use Rattle.trb.specs.declared.CompletionCode.the-variants as code
+use Rattle.trb.specs.declared.ControlRequestProcessingResult.the-variants as control
+use Rattle.trb.specs.declared.ControlRequestProcessingResult.the-variants.{SuccessfulControlIn, SuccessfulControlOut}
+use Rattle.trb.specs.declared.InTrbProcessingResult.the-variants.{NoneGiven, Given}
+use Rattle.trb.specs.declared.InTrbProcessingStatus.the-variants as device
+use Rattle.trb.specs.declared.TransferTrb.{TransferTrb}
+use Rattle.trb.specs.declared.TrbProcessingResult.{TrbProcessingResult}
+use Rattle.trb.specs.declared.TrbProcessingResult.the-variants as result
+use Rattle.log.specs.Records.{guestWrite, transferEvent, inRequest, controlRequest}
+use Rattle.log.specs.declared.Record.{Record}
+use Rattle.held.specs.Places.{cleared}
+use Rattle.held.specs.Sound.{soundTrb}
+use Rattle.walks.specs.All.{all}
+use Rattle.walks.specs.Walk.{walk}
+use Rattle.td_part.specs.Parts.{putDma, realizeDma}
+use Rattle.in_td.specs.Td.{handleNormal, processTrb}
+use Rattle.guest_memory.specs.Places.{placeOf}
+use Rattle.in_block.specs.Sound.{hasNormal, soundBlock}
+use Rattle.in_request.specs.Requests.{rangeInside}
+use Rattle.in_endpoint.specs.Completion.{transferred, completion}
+use Rattle.in_endpoint.specs.Creation.{creation}
+use Rattle.in_endpoint.specs.Submission.{tdEnded, holding, taken, submission}
+use Rattle.control_block.specs.Sound as controlBlock
+use Rattle.control_chain.specs.Chain.{moveOut, realizeDataStage, realizeNormal, realizeTrb}
+use Rattle.control_complete.specs.Completes as completes
+use Rattle.control_data.specs.Data.{inReach, windowBytes, bytesOf}
+use Rattle.control_held.specs.Held.{successes}
+use Rattle.control_questions.specs.Completion.{agrees, completionAnswer}
+use Rattle.control_questions.specs.Submission.{hasRoom, reaches, collectable, trbAnswer, submissionAnswer}
+use Rattle.control_questions.specs.Submission as questions
+use Rattle.control_submit.specs.Submits as submits
+use Rattle.control_transfer.specs.Transfers.{transferAfter}
+use Rattle.phase_table.specs.Table.{becomes}
+use Rattle.examples.specs.Control as onControlEndpoint
+use Rattle.examples.specs.Control.{onControl, setup, dataStage, status}
+use Rattle.examples.specs.In.{Seen, play, onIn, normal, eventData, noOp}
+
+-- ---- What is expected: records of endpoint 3, slot 2
+
+wrote : ℕ → ℕ → ℕ → Record
+wrote a n start = guestWrite a n start (record { 0 = 3 }) (record { 0 = 2 })
+
+event : CompletionCode → ℕ → ℕ → Record
+event c a residual = transferEvent a residual c false (record { 0 = 3 }) (record { 0 = 2 })
+
+eventDataOf : CompletionCode → ℕ → ℕ → Record
+eventDataOf c value edtla = transferEvent value edtla c true (record { 0 = 3 }) (record { 0 = 2 })
+
+requested : ℕ → ℕ → Record
+requested a n = inRequest a n (record { 0 = 3 }) (record { 0 = 2 })
+
+asked : ℕ → (requestType request value index length : ℕ) → Record
+asked a requestType request value index length =
+    controlRequest (record { address = a; «request_type» = requestType; request = request; value = value; index = index; length = length })
+    (record { 0 = 3 }) (record { 0 = 2 })
+
+collects : List ℕ → Seen → Seen
+collects bytes s = record { records = s .records; answer = s .answer; collected = bytes }
+
+ends : TrbProcessingResult → List Record → Seen
+ends r rs = record { records = rs; answer = Completed r; collected = [] }
+
+-- ---- TD T: Normals of 512, ISP on all, IOC on the last, chain on the first two
+
+tdT : List TransferTrb
+tdT =
+    normal 0x1000 0x8000 512 true false true
+    ∷ normal 0x1010 0x8200 512 true false true
+    ∷ normal 0x1020 0x8400 512 true true false
+    ∷ []
+
+record Example : Type 0 where
+  found : Seen
+  expected : Seen
+
+examples : List Example
+examples =
+    -- T, Success, 600 bytes
+    record {
+      found = onIn tdT (Given device.Success) 600;
+      expected = ends result.Ok
+          (requested 0x1000 1536
+          ∷ wrote 0x8000 512 0
+          ∷ wrote 0x8200 88 512
+          ∷ event code.ShortPacket 0x1010 424
+          ∷ event code.ShortPacket 0x1020 424
+          ∷ []);
+    }
+    -- T, Stall, 600: two writes, event at 0x1010, code 6, residual 424; result Stall with 0x1010
+    ∷ record {
+      found = onIn tdT (Given device.Stall) 600;
+      expected = ends (result.StallAt 0x1010 true)
+          (requested 0x1000 1536 ∷ wrote 0x8000 512 0 ∷ wrote 0x8200 88 512 ∷ event code.StallError 0x1010 424 ∷ []);
+    }
+    -- T, Stall, 1,536: three writes, Success at 0x1020, result Ok
+    ∷ record {
+      found = onIn tdT (Given device.Stall) 1536;
+      expected = ends result.Ok
+          (requested 0x1000 1536
+          ∷ wrote 0x8000 512 0
+          ∷ wrote 0x8200 512 512
+          ∷ wrote 0x8400 512 1024
+          ∷ event code.Success 0x1020 0
+          ∷ []);
+    }
+    -- T, Success, 0: one write of 0; residual 512 at 0x1000 and at 0x1020
+    ∷ record {
+      found = onIn tdT (Given device.Success) 0;
+      expected = ends result.Ok
+          (requested 0x1000 1536 ∷ wrote 0x8000 0 0 ∷ event code.ShortPacket 0x1000 512 ∷ event code.ShortPacket 0x1020 512 ∷ []);
+    }
+    -- unchained NoOp alone with IOC: no request, Success, Ok
+    ∷ record { found = onIn (noOp 0x1000 true false ∷ []) NoneGiven 0; expected = ends result.Ok (event code.Success 0x1000 0 ∷ []) }
+    -- chained Normal 512 without IOC and ISP, then unchained EventData 0xABCD with IOC; Success, 100 bytes
+    ∷ record {
+      found = onIn (normal 0x1000 0x8000 512 false false true ∷ eventData 0x1010 0xABCD true false ∷ []) (Given device.Success) 100;
+      expected = ends result.Ok (requested 0x1000 512 ∷ wrote 0x8000 100 0 ∷ eventDataOf code.ShortPacket 0xABCD 100 ∷ []);
+    }
+    -- Setup 80 06, value 0x0100, wLength 64; Data IN 18; Status: request of 18
+    ∷ record {
+      found = onControl (setup 0x1000 0x80 6 0x0100 0 64 false ∷ dataStage 0x1010 0x8000 18 false true ∷ status 0x1020 false ∷ []) SuccessfulControlIn 18;
+      expected = ends result.Ok (asked 0x1000 0x80 6 0x0100 0 18 ∷ wrote 0x8000 18 0 ∷ []);
+    }
+    -- Control OUT, immediate, pointer 0x1122334455667788, length 12: collects 88 77 66 55 44 33 22 11; request length 0
+    ∷ record {
+      found = onControl (setup 0x1000 0 9 1 0 12 false ∷ dataStage 0x1010 0x1122334455667788 12 true false ∷ status 0x1020 true ∷ []) SuccessfulControlOut 0;
+      expected = collects (0x88 ∷ 0x77 ∷ 0x66 ∷ 0x55 ∷ 0x44 ∷ 0x33 ∷ 0x22 ∷ 0x11 ∷ []) (ends result.Ok (asked 0x1000 0 9 1 0 0 ∷ []));
+    }
+    -- Setup with IOC, then NoOp: Success for Setup, then code 5
+    ∷ record {
+      found = onControl (setup 0x1000 0x80 6 0x0100 0 64 true ∷ noOp 0x1010 false false ∷ []) control.NoneGiven 0;
+      expected = ends result.TrbError (event code.Success 0x1000 0 ∷ event code.TrbError 0x1010 0 ∷ []);
+    }
+    ∷ []
+
+-- the definitions say of every example what document 01 says
+bench : map (λ (e : Example). e .found) examples ≡ map (λ (e : Example). e .expected) examples
+unfolding examples tdT wrote event eventDataOf requested asked collects ends normal eventData noOp setup dataStage status walk cleared all soundTrb placeOf idsInRange putDma realizeDma onIn play creation submission taken holding tdEnded completion transferred soundBlock hasNormal rangeInside processTrb handleNormal onControl onControlEndpoint.play becomes transferAfter controlBlock.soundBlock submissionAnswer trbAnswer hasRoom reaches questions.collects collectable inReach windowBytes bytesOf submits.submission submits.accepted submits.recordsOf submits.blockAfter completionAnswer agrees completes.completion completes.accepted completes.blockAfter completes.badTrb completes.failed completes.realized successes moveOut realizeDataStage realizeNormal realizeTrb
+bench = refl

@@ -1,0 +1,87 @@
+-- A chain submitted to a fresh control endpoint, TRB by TRB, and completed: what was logged, how it ended, and what was collected.
+-- Assumes nothing.
+use Prim.Native.Nat.{ℕ}
+use mathlib.Core.Bool.{Bool, true, false}
+use mathlib.Core.List.{List, [], _∷_, _++_}
+use lib.ListN.{replicate}
+use Rattle.trb.specs.Limits.{minLog, maxCollected}
+use Rattle.trb.specs.declared.CompletionAnswer.the-variants.{Completed}
+use Rattle.trb.specs.declared.ControlRequestProcessingResult.{ControlRequestProcessingResult}
+use Rattle.trb.specs.declared.ControlRequestProcessingResult.the-variants.{NoneGiven}
+use Rattle.trb.specs.declared.TransferTrb.{TransferTrb}
+use Rattle.trb.specs.declared.TransferTrbVariant.the-variants.{SetupStage, DataStage, StatusStage}
+use Rattle.trb.specs.declared.TrbProcessingResult.the-variants.{Ok}
+use Rattle.log.specs.Calls.{Out}
+use Rattle.control_block.specs.declared.ControlBlock.{ControlBlock}
+use Rattle.control_complete.specs.Completes.{completion}
+use Rattle.control_complete.specs.declared.Completed as call
+use Rattle.control_endpoint.specs.Endpoint.{creation}
+use Rattle.control_submit.specs.Submits.{Submission, submission}
+use Rattle.examples.specs.In.{Seen, windowBase}
+
+-- 1,024 bytes of guest memory
+abbrev pub window : List ℕ
+window = replicate 1024 7
+
+abbrev pub submit : ControlBlock → TransferTrb → Submission
+submit b t = submission minLog maxCollected b t windowBase window
+
+abbrev pub complete : Submission → ControlRequestProcessingResult → ℕ → Out call.Completed
+complete o r n = completion minLog (o .out .state .block) r n
+
+-- a submission and its completion, and then what follows
+abbrev pub also : Submission → Out call.Completed → Seen → Seen
+also o p s = record { records = (o .out .records ++ p .records) ++ s .records; answer = s .answer; collected = o .bytes ++ s .collected }
+
+-- the TRBs ts, each with its completion, the last one with the device's result and n bytes
+unfoldable pub play : ControlBlock → List TransferTrb → ControlRequestProcessingResult → ℕ → Seen
+play b [] r n = record { records = []; answer = Completed Ok; collected = [] }
+play b (t ∷ []) r n =
+    let o = submit b t in
+    let p = complete o r n in
+    record { records = o .out .records ++ p .records; answer = p .state .answer; collected = o .bytes }
+play b (t ∷ u ∷ ts) r n =
+    let o = submit b t in
+    let p = complete o NoneGiven 0 in
+    also o p (play (p .state .block) (u ∷ ts) r n)
+
+-- endpoint 3, slot 2
+unfoldable pub onControl : List TransferTrb → ControlRequestProcessingResult → ℕ → Seen
+onControl ts r n = play (creation (record { 0 = 3 }) (record { 0 = 2 }) .block) ts r n
+
+-- TRBs, with cycle bit on: address, then what the kind has
+unfoldable pub setup : ℕ → (requestType request value index length : ℕ) → (ioc : Bool) → TransferTrb
+setup a requestType request value index length ioc = record {
+  variant = SetupStage (record {
+    «request_type» = requestType;
+    request = request;
+    value = value;
+    index = index;
+    length = length;
+    «interrupt_on_completion» = ioc;
+  });
+  addr = a;
+  «cycle_bit» = true;
+}
+
+unfoldable pub dataStage : ℕ → ℕ → ℕ → (immediate direction : Bool) → TransferTrb
+dataStage a pointer n immediate direction = record {
+  variant = DataStage (record {
+    «data_pointer» = pointer;
+    «transfer_length» = n;
+    chain = false;
+    «interrupt_on_completion» = false;
+    «interrupt_on_short» = false;
+    «immediate_data» = immediate;
+    direction = direction;
+  });
+  addr = a;
+  «cycle_bit» = true;
+}
+
+unfoldable pub status : ℕ → (direction : Bool) → TransferTrb
+status a direction = record {
+  variant = StatusStage (record { chain = false; «interrupt_on_completion» = false; direction = direction });
+  addr = a;
+  «cycle_bit» = true;
+}

@@ -1,0 +1,3 @@
+pub mod In
+pub mod Control
+pub mod Bench
