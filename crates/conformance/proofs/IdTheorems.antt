@@ -1,0 +1,118 @@
+-- Every record of a walk, IN or control, has the ids of its endpoint (xHCI 1.2, 6.4.2.1): each TRB's records have. Assumes nothing.
+use Prim.Native.Nat.{ℕ}
+use mathlib.Core.Path.{refl}
+use mathlib.Core.Bool.{Bool, true, false, cond}
+use mathlib.Core.List.{List, [], _∷_, _++_}
+use lib.Dec.{eqb}
+use Rattle.trb.specs.declared.CompletionCode.{CompletionCode}
+use Rattle.trb.specs.declared.CompletionCode.the-variants.{Success, UsbTransactionError, StallError, ShortPacket}
+use Rattle.trb.specs.declared.EndpointId.{EndpointId}
+use Rattle.trb.specs.declared.InTrbProcessingStatus.{InTrbProcessingStatus}
+use Rattle.trb.specs.declared.InTrbProcessingStatus.the-variants as status
+use Rattle.trb.specs.declared.NormalTrb.{NormalTrb}
+use Rattle.trb.specs.declared.SlotId.{SlotId}
+use Rattle.trb.specs.declared.TransferTrb.{TransferTrb}
+use Rattle.trb.specs.declared.TransferTrbVariant.{TransferTrbVariant}
+use Rattle.trb.specs.declared.TransferTrbVariant.the-variants.{SetupStage, DataStage, StatusStage, Normal, EventData, NoOp, Isoch, Unrecognized}
+use Rattle.log.specs.Calls.{Out, silent}
+use Rattle.log.specs.Records.{transferEvent, when}
+use Rattle.log.specs.declared.Record.{Record}
+use Rattle.td_part.specs.declared.TdInfo.{TdInfo}
+use Rattle.td_part.specs.declared.TdProcessingState.{TdProcessingState}
+use Rattle.td_part.specs.declared.TdProcessingState.the-variants.{Default, ShortTransfer}
+use Rattle.td_part.specs.declared.TdProgress.{TdProgress}
+use Rattle.td_part.specs.declared.TrbDmaInfo.{TrbDmaInfo}
+use Rattle.td_part.specs.Parts.{ofNormal, ofDataStage, atStart, residualOf, codeAfter, putDma, realizeDma}
+use Rattle.walks.specs.Walk.{join, walk}
+use Rattle.in_td.specs.Td.{goesOn, shortNormal, normalIn, handleNormal, processTrb, processTd, inTd, ended, unprocessed}
+use Rattle.in_td.specs.Td as td
+use Rattle.control_chain.specs.Chain.{edtlaZeroed, realizeDataStage, realizeNormal, realizeTrb, realizeChain, never, inputTd}
+use Rattle.control_chain.specs.Chain as chain
+use Rattle.conformance.specs.Translate.{AllOf}
+
+module _ (e : EndpointId) (s : SlotId) where
+  all-append : (rs ss : List Record) → AllOf e s rs → AllOf e s ss → AllOf e s (rs ++ ss)
+  all-append [] ss h k = k
+  all-append (r ∷ rs) ss h k = (h .0, h .1, all-append rs ss (h .2) k)
+
+  event-ids : (due : Bool) (a l : ℕ) (code : CompletionCode) (flag : Bool) → AllOf e s (when due (transferEvent a l code flag e s))
+  event-ids true a l code flag = (refl, refl, tt)
+  event-ids false a l code flag = tt
+
+  -- of any walk whose steps log such records
+  walk-ids : {S T : Type 0} (step : S → T → Out S) (stopped : S → Bool) → ((p : S) (t : T) → AllOf e s (step p t .records))
+      → (p : S) (ts : List T) → AllOf e s (walk step stopped p ts .records)
+  unfolding walk
+  walk-ids step stopped h p [] = tt
+  walk-ids step stopped h p (t ∷ ts) = by-test (stopped p) (all-append (step p t .records) (walk step stopped (step p t .state) ts .records) (h p t) (walk-ids step stopped h (step p t .state) ts))
+    where
+      by-test : (b : Bool) → AllOf e s (step p t .records ++ walk step stopped (step p t .state) ts .records)
+          → AllOf e s (cond b (silent p) (join (step p t) (walk step stopped (step p t .state) ts)) .records)
+      by-test true k = tt
+      by-test false k = k
+
+  module _ (n : ℕ) where
+    abbrev info : TdInfo
+    info = record { «endpoint_id» = e; «slot_id» = s; «data_length» = n }
+
+    put-ids : (w : TdProgress) (d : TrbDmaInfo) (due : Bool) (code : CompletionCode) → AllOf e s (putDma info w d due code .records)
+    unfolding putDma
+    put-ids w d due code = (refl, refl, event-ids due (d .addr) _ code false)
+
+    realize-ids : (w : TdProgress) (d : TrbDmaInfo) → AllOf e s (realizeDma info w d .records)
+    unfolding realizeDma
+    realize-ids w d = put-ids w d _ _
+
+    -- ---- IN
+
+    module _ (st : InTrbProcessingStatus) (w : TdProgress) where
+      short-ids : (st : InTrbProcessingStatus) (m : NormalTrb) (a : ℕ) (cycle : Bool) → AllOf e s (shortNormal st info w m a cycle .records)
+      short-ids status.Success m a cycle = realize-ids w (ofNormal m a)
+      short-ids status.Stall m a cycle = put-ids w (ofNormal m a) true StallError
+      short-ids status.TransactionError m a cycle = put-ids w (ofNormal m a) true UsbTransactionError
+      short-ids status.Disconnect m a cycle = put-ids w (ofNormal m a) true UsbTransactionError
+
+      normal-ids : (state : TdProcessingState) (m : NormalTrb) (a : ℕ) (cycle : Bool) → AllOf e s (normalIn state (inTd e s st n) w m a cycle .records)
+      normal-ids (ShortTransfer missing) m a cycle = event-ids (m .«interrupt_on_completion») a missing ShortPacket false
+      normal-ids Default m a cycle = by-test (eqb (residualOf info w (m .«transfer_length»)) 0)
+        where
+          by-test : (b : Bool) → AllOf e s (cond b (goesOn (realizeDma info w (ofNormal m a))) (shortNormal st info w m a cycle) .records)
+          by-test true = realize-ids w (ofNormal m a)
+          by-test false = short-ids st m a cycle
+
+      trb-ids : (v : TransferTrbVariant) (a : ℕ) (cycle : Bool) → AllOf e s (td.trbIn v (inTd e s st n) w a cycle .records)
+      unfolding handleNormal
+      trb-ids (Normal m) a cycle = normal-ids (w .state) m a cycle
+      trb-ids (EventData t) a cycle = event-ids (t .«interrupt_on_completion») (t .«event_data») (w .edtla) (codeAfter (w .state)) true
+      trb-ids (NoOp t) a cycle = event-ids (t .«interrupt_on_completion») a 0 Success false
+      trb-ids (SetupStage t) a cycle = tt
+      trb-ids (DataStage t) a cycle = tt
+      trb-ids (StatusStage t) a cycle = tt
+      trb-ids Isoch a cycle = tt
+      trb-ids Unrecognized a cycle = tt
+
+    pub processTd-ids : (st : InTrbProcessingStatus) (ts : List TransferTrb) → AllOf e s (processTd (inTd e s st n) ts .records)
+    unfolding processTrb
+    processTd-ids st ts = walk-ids (processTrb (inTd e s st n)) ended (λ p t. trb-ids st (p .progress) (t .variant) (t .addr) (t .«cycle_bit»)) unprocessed ts
+
+    -- ---- Control IN
+
+    module _ (w : TdProgress) where
+      chain-normal-ids : (state : TdProcessingState) (t : NormalTrb) (a : ℕ) → AllOf e s (chain.normalIn state (inputTd e s n) w t a .records)
+      chain-normal-ids (ShortTransfer missing) t a = event-ids (t .«interrupt_on_completion») a missing ShortPacket false
+      chain-normal-ids Default t a = realize-ids w (ofNormal t a)
+
+      chain-trb-ids : (v : TransferTrbVariant) (a : ℕ) → AllOf e s (chain.trbIn v (inputTd e s n) w a .records)
+      unfolding realizeNormal realizeDataStage
+      chain-trb-ids (SetupStage t) a = event-ids (t .«interrupt_on_completion») a 0 Success false
+      chain-trb-ids (DataStage t) a = realize-ids (edtlaZeroed w) (ofDataStage t a)
+      chain-trb-ids (StatusStage t) a = event-ids (t .«interrupt_on_completion») a 0 Success false
+      chain-trb-ids (Normal t) a = chain-normal-ids (w .state) t a
+      chain-trb-ids (EventData t) a = event-ids (t .«interrupt_on_completion») (t .«event_data») (w .edtla) (codeAfter (w .state)) true
+      chain-trb-ids (NoOp t) a = tt
+      chain-trb-ids Isoch a = tt
+      chain-trb-ids Unrecognized a = tt
+
+    pub realizeChain-ids : (ts : List TransferTrb) → AllOf e s (realizeChain (inputTd e s n) ts .records)
+    unfolding realizeTrb
+    realizeChain-ids ts = walk-ids (realizeTrb (inputTd e s n)) never (λ w t. chain-trb-ids w (t .variant) (t .addr)) atStart ts

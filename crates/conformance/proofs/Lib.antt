@@ -1,0 +1,14 @@
+pub mod TranslateLaws
+pub mod PartsConform
+pub mod InConforms
+pub mod InTheorems
+pub mod EventDataSums
+pub mod ControlConforms
+pub mod ControlTheorems
+pub mod PhaseTheorems
+pub mod RequestTheorems
+pub mod PassedTheorems
+pub mod IdTheorems
+pub mod ChainTheorems
+pub mod CallTheorems
+pub mod ControlOutTheorems

@@ -1,0 +1,165 @@
+-- Calls on a fresh endpoint, run on the engine's definitions, and what the public texts say of the same TRBs, in the same words.
+-- Endpoint 3, slot 2; a guest window of 32 bytes at 0x8000. Assumes nothing.
+use Prim.Native.Nat.{ℕ}
+use mathlib.Core.Bool.{Bool, true, false}
+use mathlib.Core.List.{List, [], _∷_, _++_}
+use mathlib.Core.Option.{Option, none, some}
+use lib.ListN.{replicate, length}
+use Rattle.trb.specs.Limits.{minLog, maxCollected}
+use Rattle.trb.specs.declared.CompletionAnswer.{CompletionAnswer}
+use Rattle.trb.specs.declared.CompletionAnswer.the-variants.{Completed, Refused}
+use Rattle.trb.specs.declared.ControlRequestProcessingResult.{ControlRequestProcessingResult}
+use Rattle.trb.specs.declared.InTrbProcessingResult.{InTrbProcessingResult}
+use Rattle.trb.specs.declared.TransferTrb.{TransferTrb}
+use Rattle.trb.specs.declared.TransferTrbVariant.{TransferTrbVariant}
+use Rattle.trb.specs.declared.TransferTrbVariant.the-variants.{SetupStage, DataStage, StatusStage, Normal, EventData, NoOp, Unrecognized}
+use Rattle.log.specs.declared.Record.{Record}
+use Rattle.in_block.specs.Blocks.{freshBlock}
+use Rattle.in_block.specs.declared.InBlock.{InBlock}
+use Rattle.in_block.specs.Sound.{hasNormal, soundBlock as soundIn}
+use Rattle.in_endpoint.specs.Completion.{transferred, completion as completionIn}
+use Rattle.in_endpoint.specs.Submission.{tdEnded, holding, taken, submission as submissionIn}
+use Rattle.in_request.specs.Requests.{rangeInside}
+use Rattle.in_td.specs.Td.{handleNormal, processTrb}
+use Rattle.guest_memory.specs.Places.{placeOf}
+use Rattle.held.specs.Places.{cleared}
+use Rattle.held.specs.Sound.{soundTrb}
+use Rattle.td_part.specs.Parts.{putDma, realizeDma}
+use Rattle.trb.specs.Ids.{idsInRange}
+use Rattle.walks.specs.All.{all}
+use Rattle.walks.specs.Walk.{walk}
+use Rattle.phase_table.specs.Table.{becomes}
+use Rattle.control_block.specs.Blocks.{fresh}
+use Rattle.control_block.specs.declared.ControlBlock.{ControlBlock}
+use Rattle.control_block.specs.Sound.{soundBlock as soundControl}
+use Rattle.control_chain.specs.Chain.{moveOut, realizeDataStage, realizeNormal, realizeTrb}
+use Rattle.control_complete.specs.Completes.{badTrb, failed, realized, blockAfter as blockCompleted, accepted as acceptedCompletion, completion as completionControl}
+use Rattle.control_data.specs.Data.{inReach, windowBytes, bytesOf}
+use Rattle.control_held.specs.Held.{successes}
+use Rattle.control_questions.specs.Completion.{agrees, completionAnswer}
+use Rattle.control_questions.specs.Submission.{hasRoom, reaches, collects, collectable, trbAnswer, submissionAnswer}
+use Rattle.control_submit.specs.Submits.{blockAfter as blockSubmitted, recordsOf, accepted as acceptedSubmission, submission as submissionControl}
+use Rattle.control_transfer.specs.Transfers.{transferAfter}
+use Rattle.standard.specs.Usb.{Setup}
+use Rattle.standard.specs.Xhci.{Trb, TransferEvent, Reading, Ending, outcome, events, Delivery, deliveries, haltedAt}
+use Rattle.conformance.specs.Requests.{setupTrb}
+use Rattle.conformance.specs.Translate.{told, wrote, Halt, runsOn, haltsAt, haltOf}
+
+-- ---- What is seen of a run
+
+-- the events and the writes of all its calls, and what the last completion's result says of the endpoint
+pub record Seen : Type 0 where
+  pub events : List TransferEvent
+  pub writes : List Delivery
+  pub halt : Halt
+
+abbrev haltAnswered : CompletionAnswer → Halt
+haltAnswered (Completed r) = haltOf r
+haltAnswered (Refused q) = runsOn
+
+abbrev pub seen : List Record → Halt → Seen
+seen rs h = record { events = told rs; writes = wrote rs; halt = h }
+
+abbrev haltThere : Option ℕ → Halt
+haltThere none = runsOn
+haltThere (some a) = haltsAt a
+
+-- xHCI 1.2, of an IN TD
+abbrev pub standardSeen : Reading → Ending → (n : ℕ) (td : List Trb) → Seen
+standardSeen r e n td = record { events = events r (outcome e n td) n td; writes = deliveries n td; halt = haltThere (haltedAt (outcome e n td) n td) }
+
+-- ---- The guest window
+
+abbrev windowBase : ℕ
+windowBase = 0x8000
+
+abbrev guestBytes : List ℕ
+guestBytes = replicate 32 7
+
+-- ---- IN
+
+-- a submission, and its completion with a result and n bytes
+pub data InCall : Type 0 where
+  inCall : TransferTrb → InTrbProcessingResult → (n : ℕ) → InCall
+
+unfoldable pub inFrom : InBlock → List Record → Halt → List InCall → Seen
+inFrom b rs h [] = seen rs h
+inFrom b rs h (inCall t r n ∷ calls) =
+    let o = submissionIn minLog b t windowBase (length guestBytes) in
+    let p = completionIn minLog (o .state .block) r n in
+    inFrom (p .state .block) (rs ++ (o .records ++ p .records)) (haltAnswered (p .state .answer)) calls
+
+unfoldable pub inRun : List InCall → Seen
+unfolding inFrom submissionIn taken holding tdEnded completionIn transferred idsInRange soundIn hasNormal soundTrb all rangeInside placeOf cleared walk processTrb handleNormal putDma realizeDma
+inRun calls = inFrom (freshBlock (record { 0 = 3 }) (record { 0 = 2 })) [] runsOn calls
+
+-- ---- Control
+
+pub data ControlCall : Type 0 where
+  controlCall : TransferTrb → ControlRequestProcessingResult → (n : ℕ) → ControlCall
+
+-- the block, and the records of all calls
+pub record ControlRan : Type 0 where
+  pub block : ControlBlock
+  pub records : List Record
+  pub collected : List ℕ
+  pub halt : Halt
+
+unfoldable pub controlFrom : ControlRan → List ControlCall → ControlRan
+controlFrom ran [] = ran
+controlFrom ran (controlCall t r n ∷ calls) =
+    let o = submissionControl minLog maxCollected (ran .block) t windowBase guestBytes in
+    let p = completionControl minLog (o .out .state .block) r n in
+    controlFrom (record {
+      block = p .state .block;
+      records = ran .records ++ (o .out .records ++ p .records);
+      collected = ran .collected ++ o .bytes;
+      halt = haltAnswered (p .state .answer);
+    }) calls
+
+unfoldable pub controlRun : List ControlCall → ControlRan
+unfolding controlFrom submissionControl submissionAnswer trbAnswer hasRoom reaches collects collectable inReach windowBytes bytesOf acceptedSubmission blockSubmitted recordsOf transferAfter becomes successes completionControl completionAnswer agrees acceptedCompletion blockCompleted badTrb failed realized realizeTrb realizeDataStage realizeNormal moveOut idsInRange soundControl soundTrb all placeOf cleared walk putDma realizeDma
+controlRun calls = controlFrom (record { block = fresh (record { 0 = 3 }) (record { 0 = 2 }); records = []; collected = []; halt = runsOn }) calls
+
+-- ---- TRBs: address, then what the kind has; cycle bit on
+
+abbrev at : (address : ℕ) → TransferTrbVariant → TransferTrb
+at a v = record { variant = v; addr = a; «cycle_bit» = true }
+
+abbrev pub normalTrb : (address pointer length : ℕ) (chain ioc isp immediate : Bool) → TransferTrb
+normalTrb a p l chain ioc isp immediate =
+    at a (Normal (record {
+      «data_pointer» = p;
+      «transfer_length» = l;
+      «interrupt_on_short» = isp;
+      chain = chain;
+      «interrupt_on_completion» = ioc;
+      «immediate_data» = immediate;
+    }))
+
+abbrev pub eventDataTrb : (address value : ℕ) (chain ioc : Bool) → TransferTrb
+eventDataTrb a v chain ioc = at a (EventData (record { «event_data» = v; chain = chain; «interrupt_on_completion» = ioc }))
+
+abbrev pub noOpTrb : (address : ℕ) (chain ioc : Bool) → TransferTrb
+noOpTrb a chain ioc = at a (NoOp (record { chain = chain; «interrupt_on_completion» = ioc }))
+
+abbrev pub setupStageTrb : (address : ℕ) → Setup → (ioc : Bool) → TransferTrb
+setupStageTrb a p ioc = at a (SetupStage (setupTrb p ioc))
+
+abbrev pub dataStageTrb : (address pointer length : ℕ) (chain ioc isp immediate : Bool) → TransferTrb
+dataStageTrb a p l chain ioc isp immediate =
+    at a (DataStage (record {
+      «data_pointer» = p;
+      «transfer_length» = l;
+      chain = chain;
+      «interrupt_on_completion» = ioc;
+      «interrupt_on_short» = isp;
+      «immediate_data» = immediate;
+      direction = true;
+    }))
+
+abbrev pub statusStageTrb : (address : ℕ) (chain ioc : Bool) → TransferTrb
+statusStageTrb a chain ioc = at a (StatusStage (record { chain = chain; «interrupt_on_completion» = ioc; direction = false }))
+
+abbrev pub unrecognizedTrb : (address : ℕ) → TransferTrb
+unrecognizedTrb a = at a Unrecognized

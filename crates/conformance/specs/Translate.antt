@@ -1,0 +1,137 @@
+-- The engine's words in those of the public texts. Assumes nothing.
+use Prim.Native.Nat.{ℕ, _+_, _<_, _≤_}
+use mathlib.Core.Path.{_≡_}
+use mathlib.Core.Bool.{Bool, true, false, cond, _&&_}
+use mathlib.Core.List.{List, [], _∷_, _++_}
+use mathlib.Core.Option.{Option, none, some}
+use lib.Dec.{eqb, leb}
+use Rattle.trb.specs.declared.EndpointId.{EndpointId}
+use Rattle.trb.specs.declared.InTrbProcessingStatus.{InTrbProcessingStatus}
+use Rattle.trb.specs.declared.InTrbProcessingStatus.the-variants as status
+use Rattle.trb.specs.declared.SlotId.{SlotId}
+use Rattle.trb.specs.declared.TransferTrb.{TransferTrb}
+use Rattle.trb.specs.declared.TransferTrbVariant.{TransferTrbVariant}
+use Rattle.trb.specs.declared.TransferTrbVariant.the-variants.{SetupStage, DataStage, StatusStage, Normal, EventData, NoOp, Isoch, Unrecognized}
+use Rattle.trb.specs.declared.TrbProcessingResult.{TrbProcessingResult}
+use Rattle.trb.specs.declared.TrbProcessingResult.the-variants as result
+use Rattle.log.specs.Records.{writeKind, eventKind}
+use Rattle.log.specs.declared.Record.{Record}
+use Rattle.standard.specs.Xhci.{Trb, normal, stage, eventData, noOp, TransferEvent, transferEvent, Ending, succeeded, stalled, unanswered, Outcome, ended, failed, stallError, usbTransactionError, asked, shortResidual, Delivery, delivery, deliverIf}
+
+-- ---- TRBs of an IN TD
+
+-- the kinds that an IN block holds; it never holds another, and the walk does nothing with one
+abbrev pub trbIn : TransferTrbVariant → ℕ → List Trb
+trbIn (Normal t) a = normal a (t .«data_pointer») (t .«transfer_length») (t .«interrupt_on_completion») (t .«interrupt_on_short») ∷ []
+trbIn (EventData t) a = eventData a (t .«event_data») (t .«interrupt_on_completion») ∷ []
+trbIn (NoOp t) a = noOp a (t .«interrupt_on_completion») ∷ []
+trbIn (SetupStage t) a = []
+trbIn (DataStage t) a = []
+trbIn (StatusStage t) a = []
+trbIn Isoch a = []
+trbIn Unrecognized a = []
+
+abbrev pub tdOf : List TransferTrb → List Trb
+tdOf [] = []
+tdOf (t ∷ ts) = trbIn (t .variant) (t .addr) ++ tdOf ts
+
+-- ---- Records of a log
+
+-- xHCI 1.2, 6.4.2.1: what an event record tells; its flag is ED
+abbrev pub eventOf : Record → TransferEvent
+eventOf r = transferEvent (r .code) (eqb (r .flag) 1) (r .address) (r .length)
+
+-- the events of a log, in its order
+abbrev pub told : List Record → List TransferEvent
+told [] = []
+told (r ∷ rs) = cond (eqb (r .kind) eventKind) (eventOf r ∷ told rs) (told rs)
+
+-- its writes of at least one byte
+abbrev pub wrote : List Record → List Delivery
+wrote [] = []
+wrote (r ∷ rs) = cond (eqb (r .kind) writeKind) (deliverIf (r .length) (delivery (r .address) (r .length) (r .start)) ++ wrote rs) (wrote rs)
+
+-- xHCI 1.2, 6.4.2.1: every record has these ids, its endpoint's own
+abbrev pub AllOf : EndpointId → SlotId → List Record → Type 0
+AllOf e s [] = Unit {0}
+AllOf e s (r ∷ rs) = (r .«endpoint_id» ≡ e) × (r .«slot_id» ≡ s) × AllOf e s rs
+
+-- ---- Status and result
+
+-- how the device ended the transfer. The public texts know no disconnect: a device that is gone does not answer
+abbrev pub endingOf : InTrbProcessingStatus → Ending
+endingOf status.Success = succeeded
+endingOf status.Stall = stalled
+endingOf status.TransactionError = unanswered
+endingOf status.Disconnect = unanswered
+
+-- 01, IN endpoint: a transfer ends in error only where n < S; data beyond S is dropped
+abbrev pub outcomeIn : InTrbProcessingStatus → (n requested : ℕ) → Outcome
+outcomeIn status.Success n requested = ended
+outcomeIn status.Stall n requested = cond (leb requested n) ended (failed stallError)
+outcomeIn status.TransactionError n requested = cond (leb requested n) ended (failed usbTransactionError)
+outcomeIn status.Disconnect n requested = cond (leb requested n) ended (failed usbTransactionError)
+
+-- the bytes of a result for which that is the standard's outcome: at most S under Success, fewer under an error
+abbrev pub Agreed : InTrbProcessingStatus → (n requested : ℕ) → Type 0
+Agreed status.Success n requested = n ≤ requested
+Agreed status.Stall n requested = n < requested
+Agreed status.TransactionError n requested = n < requested
+Agreed status.Disconnect n requested = n < requested
+
+-- what a result says of the endpoint: it runs on, or it halts, at the TRB that the result names, if it names one
+pub data Halt : Type 0 where
+  runsOn halts : Halt
+  haltsAt : (address : ℕ) → Halt
+
+abbrev pub haltOf : TrbProcessingResult → Halt
+haltOf result.Ok = runsOn
+haltOf result.Stall = halts
+haltOf (result.StallAt a cycle) = haltsAt a
+haltOf result.TrbError = halts
+haltOf result.TransactionError = halts
+haltOf (result.TransactionErrorAt a cycle) = haltsAt a
+haltOf result.Disconnect = halts
+
+-- the same for a status and the address, if any, at which the standard's endpoint halts; Disconnect names none
+abbrev pub haltIn : InTrbProcessingStatus → Option ℕ → Halt
+haltIn st none = runsOn
+haltIn status.Success (some a) = halts
+haltIn status.Stall (some a) = haltsAt a
+haltIn status.TransactionError (some a) = haltsAt a
+haltIn status.Disconnect (some a) = halts
+
+-- ---- Normals passed after a short packet
+
+-- each one with IOC is as long as what the short one misses
+abbrev pub SamePassed : (n : ℕ) (before ts : List Trb) → Type 0
+SamePassed n before [] = Unit {0}
+SamePassed n before (normal a p l ioc isp ∷ ts) =
+    (ioc ≡ true → n < asked before → shortResidual n before ≡ l) × SamePassed n (normal a p l ioc isp ∷ before) ts
+SamePassed n before (stage a ioc ∷ ts) = SamePassed n (stage a ioc ∷ before) ts
+SamePassed n before (eventData a v ioc ∷ ts) = SamePassed n (eventData a v ioc ∷ before) ts
+SamePassed n before (noOp a ioc ∷ ts) = SamePassed n (noOp a ioc ∷ before) ts
+
+-- ---- Event Data
+
+-- the lengths of the events with ED, in one sum
+abbrev pub eventLengths : List TransferEvent → ℕ
+eventLengths [] = 0
+eventLengths (transferEvent code ed pointer length ∷ es) = cond ed length 0 + eventLengths es
+
+-- every Event Data TRB has IOC
+abbrev pub everyEventDataTells : List Trb → Bool
+everyEventDataTells [] = true
+everyEventDataTells (normal a p l ioc isp ∷ ts) = everyEventDataTells ts
+everyEventDataTells (stage a ioc ∷ ts) = everyEventDataTells ts
+everyEventDataTells (eventData a v ioc ∷ ts) = ioc && everyEventDataTells ts
+everyEventDataTells (noOp a ioc ∷ ts) = everyEventDataTells ts
+
+-- the last TRB is an Event Data TRB
+abbrev pub endsInEventData : List Trb → Bool
+endsInEventData [] = false
+endsInEventData (normal a p l ioc isp ∷ ts) = endsInEventData ts
+endsInEventData (stage a ioc ∷ ts) = endsInEventData ts
+endsInEventData (eventData a v ioc ∷ []) = true
+endsInEventData (eventData a v ioc ∷ t ∷ ts) = endsInEventData (t ∷ ts)
+endsInEventData (noOp a ioc ∷ ts) = endsInEventData ts

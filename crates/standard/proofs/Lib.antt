@@ -1,0 +1,2 @@
+pub mod UsbLaws
+pub mod XhciLaws

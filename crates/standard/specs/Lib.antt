@@ -1,0 +1,4 @@
+pub mod Usb
+pub mod Xhci
+pub mod Control
+pub mod Examples
