@@ -1,0 +1,226 @@
+//! Makes a script's calls on the Rust and gives the answers that docs/CALLS.md defines.
+
+use std::sync::Arc;
+
+use crate::{
+    call::{parse, Call, Status, Trb, MAX_WINDOW},
+    device::xhci::{
+        interrupter::EventSender,
+        real_endpoint_handle::{ControlRequestProcessingResult, InTrbProcessingResult, InTrbProcessingStatus},
+    },
+    effects::{Effect, EffectLog},
+    endpoint::{Connections, Endpoint, ResultFields},
+    guest_memory::GuestMemory,
+    questions::{self, Buffers, MAX_HELD, MAX_TRB_LENGTH},
+    record::{records, Surroundings},
+    scripted_device::{DeviceResult, ScriptedDevice},
+};
+
+/// An answer's lines, each with its line feed, and the script's line that it answers, counted from 1.
+#[derive(Debug, Clone, PartialEq, Eq)]
+pub struct Answer {
+    pub line: usize,
+    pub text: String,
+}
+
+/// Why a run ends before the script does.
+#[derive(Debug, Clone, PartialEq, Eq)]
+pub enum Stop {
+    BadLine,
+    /// The Rust cannot be asked this: document 01 refuses the call, or the Rust has no place for what is made up.
+    Unasked(String),
+}
+
+#[derive(Debug, Default)]
+pub struct Run {
+    pub answers: Vec<Answer>,
+    /// The line at which the run ended early, and why.
+    pub stopped: Option<(usize, Stop)>,
+}
+
+impl Run {
+    pub fn last_line(&self) -> Option<String> {
+        self.stopped.as_ref().map(|(line, stop)| match stop {
+            Stop::BadLine => format!("bad line {line}\n"),
+            Stop::Unasked(reason) => format!("unasked line {line}: {reason}\n"),
+        })
+    }
+}
+
+/// Runs a whole script.
+pub fn run(script: &[u8]) -> Run {
+    let mut driver = Driver::new();
+    let mut run = Run::default();
+    for (line, bytes) in (1..).zip(script.split_inclusive(|byte| *byte == b'\n')) {
+        let call = bytes.strip_suffix(b"\n").and_then(|bytes| std::str::from_utf8(bytes).ok()).and_then(parse);
+        match call.ok_or(Stop::BadLine).and_then(|call| driver.call(call)) {
+            Ok(None) => {}
+            Ok(Some(text)) => run.answers.push(Answer { line, text }),
+            Err(stop) => {
+                run.stopped = Some((line, stop));
+                break;
+            }
+        }
+    }
+    run
+}
+
+struct Driver {
+    effects: EffectLog,
+    memory: Arc<GuestMemory>,
+    connections: Connections,
+    device: ScriptedDevice,
+    buffers: Buffers,
+    endpoint: Option<Endpoint>,
+}
+
+const FIRST_BASE: u64 = 0x8000;
+const FIRST_BUFFERS: Buffers = Buffers { log: 0x1000, collect: 0xffff };
+
+fn asked(question: Option<u8>) -> Result<(), Stop> {
+    question.map_or(Ok(()), |number| Err(Stop::Unasked(format!("question {number}"))))
+}
+
+fn device_data(length: u64) -> Vec<u8> {
+    (0..length).map(|k| k.wrapping_mul(11).wrapping_add(5) as u8).collect()
+}
+
+fn in_result(status: Status, data: Vec<u8>) -> Option<DeviceResult> {
+    let status = match status {
+        Status::Success => InTrbProcessingStatus::Success,
+        Status::Stall => InTrbProcessingStatus::Stall,
+        Status::TransactionError => InTrbProcessingStatus::TransactionError,
+        Status::Disconnect => InTrbProcessingStatus::Disconnect,
+        Status::SuccessfulControlOut => return None,
+    };
+    Some(DeviceResult::In(InTrbProcessingResult { status, data }))
+}
+
+fn control_result(status: Status, data: Vec<u8>) -> DeviceResult {
+    DeviceResult::Control(match status {
+        Status::Success => ControlRequestProcessingResult::SuccessfulControlIn(data),
+        Status::Stall => ControlRequestProcessingResult::Stall,
+        Status::TransactionError => ControlRequestProcessingResult::TransactionError,
+        Status::Disconnect => ControlRequestProcessingResult::Disconnect,
+        Status::SuccessfulControlOut => ControlRequestProcessingResult::SuccessfulControlOut,
+    })
+}
+
+impl Driver {
+    fn new() -> Self {
+        let effects = EffectLog::default();
+        let memory = Arc::new(GuestMemory::new(FIRST_BASE, MAX_WINDOW as usize, effects.clone()));
+        let device = ScriptedDevice::new(effects.clone());
+        Self {
+            connections: Connections {
+                device: device.clone(),
+                memory: memory.clone(),
+                events: EventSender::new(effects.clone()),
+            },
+            effects,
+            memory,
+            device,
+            buffers: FIRST_BUFFERS,
+            endpoint: None,
+        }
+    }
+
+    fn endpoint(&mut self) -> Result<&mut Endpoint, Stop> {
+        self.endpoint.as_mut().ok_or(Stop::BadLine)
+    }
+
+    /// Makes the call; its answer, if it is one that prints.
+    fn call(&mut self, call: Call) -> Result<Option<String>, Stop> {
+        match call {
+            Call::Window { base, length } => self.memory.fill_anew(base, length as usize),
+            Call::Buffers { log, collect } => self.buffers = Buffers { log, collect },
+            Call::Hold(trb) => self.hold(&trb)?,
+            Call::MakeUpIn { state } => match self.endpoint()? {
+                Endpoint::In(endpoint) => endpoint.make_up(state),
+                Endpoint::Control(_) => return Err(Stop::BadLine),
+            },
+            Call::MakeUpControl { phase, state, direction, length } => match self.endpoint()? {
+                Endpoint::Control(endpoint) => endpoint.make_up(phase, state, direction, length),
+                Endpoint::In(_) => return Err(Stop::BadLine),
+            },
+            Call::CreateIn { endpoint, slot } => {
+                asked(questions::of_creation(endpoint, slot))?;
+                self.endpoint = Some(Endpoint::new_in(endpoint, slot, self.connections.clone()));
+                return self.answer_quietly().map(Some);
+            }
+            Call::CreateControl { endpoint, slot } => {
+                asked(questions::of_creation(endpoint, slot))?;
+                self.endpoint = Some(Endpoint::new_control(endpoint, slot, self.connections.clone()));
+                return self.answer_quietly().map(Some);
+            }
+            Call::Cancel => {
+                self.endpoint()?.cancel();
+                return self.answer_quietly().map(Some);
+            }
+            Call::Submit(trb) => {
+                self.submit(&trb)?;
+                return self.answer_quietly().map(Some);
+            }
+            Call::CompleteWithResult { status, length } => return self.complete(Some(status), length).map(Some),
+            Call::CompleteWithout { length } => return self.complete(None, length).map(Some),
+        }
+        Ok(None)
+    }
+
+    fn hold(&mut self, trb: &Trb) -> Result<(), Stop> {
+        let endpoint = self.endpoint()?;
+        if endpoint.held() == MAX_HELD {
+            return Err(Stop::BadLine);
+        }
+        if trb.length > MAX_TRB_LENGTH {
+            return Err(Stop::Unasked("the Rust decodes no such length".to_string()));
+        }
+        let no_place = |_| Stop::Unasked("the Rust cannot hold this TRB in this state".to_string());
+        endpoint.hold(trb).map_err(no_place)
+    }
+
+    fn submit(&mut self, trb: &Trb) -> Result<(), Stop> {
+        let endpoint = self.endpoint.as_mut().ok_or(Stop::BadLine)?;
+        asked(questions::of_submission(endpoint, trb, self.buffers, &self.memory))?;
+        endpoint.submit(trb);
+        Ok(())
+    }
+
+    fn complete(&mut self, status: Option<Status>, length: u64) -> Result<String, Stop> {
+        let endpoint = self.endpoint.as_mut().ok_or(Stop::BadLine)?;
+        let data = device_data(length);
+        let result = match (status, &endpoint) {
+            (None, _) => None,
+            (Some(status), Endpoint::In(_)) => Some(in_result(status, data.clone()).ok_or(Stop::BadLine)?),
+            (Some(status), Endpoint::Control(_)) => Some(control_result(status, data.clone())),
+        };
+        asked(questions::of_completion(endpoint, result.is_some(), self.buffers))?;
+        if let Some(result) = result {
+            self.device.script(result);
+        }
+        let fields = ResultFields(endpoint.complete());
+        let effects = self.effects.take();
+        let writes = effects.iter().filter_map(|effect| match effect {
+            Effect::Write { address, bytes } => Some((*address, &bytes[..])),
+            _ => None,
+        });
+        let carried_out = if self.memory.carry_out(writes) { 0 } else { 11 };
+        self.answer(&fields.to_string(), &effects, &data, &format!("out {carried_out}\n"))
+    }
+
+    /// The answer of a call that is no completion.
+    fn answer_quietly(&mut self) -> Result<String, Stop> {
+        let effects = self.effects.take();
+        self.answer("- - -", &effects, &[], "")
+    }
+
+    fn answer(&mut self, result: &str, effects: &[Effect], data: &[u8], out: &str) -> Result<String, Stop> {
+        let endpoint_of_call = self.endpoint()?;
+        let (endpoint, slot) = endpoint_of_call.ids();
+        let first_address = endpoint_of_call.first_address();
+        let records = records(effects, &Surroundings { endpoint, slot, first_address, data });
+        let record_lines: String = records.iter().map(|record| format!("{record}\n")).collect();
+        let state = endpoint_of_call.state_line();
+        Ok(format!("ok {} {result}\n{record_lines}{out}{state}\n", records.len()))
+    }
+}

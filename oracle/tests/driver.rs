@@ -1,0 +1,140 @@
+//! What the driver does not ask of the Rust: bad lines, and calls that document 01 refuses.
+
+use oracle::driver::{run, Stop};
+
+fn stop(script: &str) -> Option<(usize, Stop)> {
+    run(script.as_bytes()).stopped
+}
+
+fn unasked(line: usize, reason: &str) -> Option<(usize, Stop)> {
+    Some((line, Stop::Unasked(reason.to_string())))
+}
+
+#[test]
+fn bad_lines() {
+    let after_in = [
+        "",
+        "x ",
+        " x",
+        "X",
+        "s",
+        "d 4 0",
+        "d 5 0",
+        "d 0 100001",
+        "l 100001",
+        "p 4",
+        "p 0 0 0 0",
+        "i 3",
+        "i 100 1",
+        "w 0 40001",
+        "w 00 1",
+        "w 0A 1",
+        "w 10000000000000000 1",
+        "b 1001 0",
+        "b 0 10001",
+        "s 6 0 0 0 0",
+        "s 1 0 20 0 0",
+        "s 2 0 2 0 0",
+        "s 2 0 0 0 1",
+        "s 4 0 10 0 0",
+        "s 4 0 0 1 0",
+        "s 7 0 8 0 0",
+        "s 8 0 0 1 0",
+        "s 0 0 2 0 0",
+        "s 5 0 4 0 0",
+        "s 1 0 0 0 100000000",
+        "h 1 0 40 0 0",
+        "x\r",
+        "d 0",
+        "l",
+        "w 0",
+        "+1",
+    ];
+    for line in after_in {
+        assert_eq!(stop(&format!("i 3 2\n{line}\nx\n")), Some((2, Stop::BadLine)), "{line:?}");
+    }
+    for line in ["p 0", "p 5 0 0 0", "p 0 3 0 0", "p 0 0 2 0", "p 0 0 0 100000000"] {
+        assert_eq!(stop(&format!("c 3 2\n{line}\n")), Some((2, Stop::BadLine)), "{line:?}");
+    }
+    for line in ["x", "l 0", "d 0 0", "s 8 0 0 0 0", "h 8 0 0 0 0", "p 0"] {
+        assert_eq!(stop(&format!("w 0 0\n{line}\n")), Some((2, Stop::BadLine)), "{line:?} before creation");
+    }
+    assert_eq!(stop("i 3 2\nx"), Some((2, Stop::BadLine)), "no line feed at the end");
+    assert_eq!(run(b"i 3 2\n\xff\n").stopped, Some((2, Stop::BadLine)));
+    let full = format!("i 3 2\n{}", "h 8 0 0 0 0\n".repeat(65));
+    assert_eq!(stop(&full), Some((66, Stop::BadLine)), "a 65th made-up TRB");
+    assert_eq!(stop(""), None);
+}
+
+#[test]
+fn refused_calls() {
+    let cases = [
+        ("i 0 2\n", 1, "question 12"),
+        ("i 20 2\n", 1, "question 12"),
+        ("c 3 0\n", 1, "question 12"),
+        ("i 3 2\nb fff ffff\ns 8 0 0 0 0\n", 3, "question 1"),
+        ("c 3 2\nb 1000 fffe\ns 8 0 0 0 0\n", 3, "question 1"),
+        ("i 3 2\ns 8 0 0 0 0\nb fff ffff\nl 0\n", 4, "question 1"),
+        ("i 3 2\np 2\nd 0 0\n", 3, "question 2"),
+        ("i 3 2\np 2\ns 8 0 0 0 0\n", 3, "question 2"),
+        ("i 3 2\nl 0\n", 2, "question 3"),
+        ("c 3 2\nd 0 0\n", 2, "question 3"),
+        ("i 3 2\ns 8 0 2 0 0\ns 8 0 2 0 0\n", 3, "question 3"),
+        ("c 3 2\ns 8 0 0 0 0\ns 8 0 0 0 0\n", 3, "question 3"),
+        ("i 3 2\ns 1 0 0 8000 20000\n", 2, "question 4"),
+        ("i 3 2\ns 3 0 0 8000 20000\n", 2, "question 4"),
+        ("i 3 2\ns 1 0 0 7fff 1\n", 2, "question 6"),
+        ("i 3 2\ns 1 0 10 48000 1\n", 2, "question 6"),
+        ("i 3 2\nw ffffffffffffffff 2\ns 1 0 0 0 1\n", 3, "question 6"),
+        ("c 3 2\np 2 0 0 0\ns 1 0 0 8000 10000\n", 3, "question 7"),
+        ("i 3 2\ns 8 0 0 0 0\nd 0 0\n", 3, "question 8"),
+        ("i 3 2\ns 1 0 0 8000 1\nl 0\n", 3, "question 8"),
+        ("c 3 2\np 0 2 0 0\nl 0\n", 3, "question 8"),
+        ("i 3 2\nh 2 0 0 0 0\n", 2, "the Rust cannot hold this TRB in this state"),
+        ("c 3 2\nh 8 0 0 0 0\n", 2, "the Rust cannot hold this TRB in this state"),
+        ("i 3 2\ns 0 0 0 0 0\nh 8 0 0 0 0\n", 3, "the Rust cannot hold this TRB in this state"),
+        ("i 3 2\nh 1 0 0 0 20000\n", 2, "the Rust decodes no such length"),
+    ];
+    for (script, line, reason) in cases {
+        assert_eq!(stop(script), unasked(line, reason), "{script:?}");
+    }
+    let full = "h 8 0 0 0 0\n".repeat(64);
+    assert_eq!(stop(&format!("i 3 2\n{full}s 8 0 0 0 0\n")), unasked(66, "question 5"));
+    assert_eq!(stop(&format!("i 3 2\n{full}s 0 0 0 0 0\n")), None, "not held, so not the 65th");
+}
+
+#[test]
+fn accepted_at_the_limits() {
+    let cases = [
+        "i 1f ff\n",
+        "i 3 2\ns 1 0 0 8000 1ffff\n",
+        "i 3 2\ns 1 0 0 47fff 1\n",
+        "i 3 2\ns 1 0 0 0 0\n",
+        "i 3 2\nw ffffffffffffffff 2\ns 1 0 0 ffffffffffffffff 2\nd 0 2\n",
+        "c 3 2\np 2 0 0 0\ns 1 0 0 8000 ffff\n",
+        "c 3 2\np 2 0 0 0\ns 1 0 10 0 1ffff\n",
+        "i 3 2\nb 0 0\nx\n",
+        "i 3 2\nb 1000 0\ns 8 0 0 0 0\n",
+    ];
+    for script in cases {
+        assert_eq!(stop(script), None, "{script:?}");
+    }
+}
+
+/// Carry-out performs all writes or none. What was written is seen by collecting it.
+#[test]
+fn carry_out() {
+    let sum_after = |completion: &str| {
+        let script =
+            format!("i 3 2\nh 1 0 2 8000 4\nh 1 10 0 48000 4\np 2\n{completion}\nc 3 2\np 2 0 0 0\ns 1 0 0 8000 3\n");
+        run(script.as_bytes()).answers.into_iter().map(|answer| answer.text).collect::<Vec<_>>()
+    };
+    let written = sum_after("d 0 4");
+    let refused = sum_after("d 0 8");
+    let untouched = sum_after("d 0 0");
+    assert!(written[1].contains("\nout 0\n") && refused[1].contains("\nout 11\n"));
+    assert_eq!(refused[3], untouched[3]);
+    assert_ne!(written[3], untouched[3]);
+    // The device's bytes 5, 16 and 27: 5 + 2 * 16 + 3 * 27.
+    assert_eq!(written[3], "ok 0 - - -\nst control status collecting 1 out 0 3 76 0 000000000000\n");
+}
