@@ -1,0 +1,49 @@
+-- The answer of a call: its text, and for a completion guest memory afterwards. Assumes nothing.
+use Prim.Native.Nat.{ℕ, _+_, _*_}
+use mathlib.Core.Path.{_≡_}
+use mathlib.Core.List.{List, _++_}
+use lib.ListN.{length, take}
+use Rattle.trb.specs.Limits.{recordLength}
+use Rattle.trb.specs.Refusals.{refusalNumber}
+use Rattle.trb.specs.declared.Answer.{Answer}
+use Rattle.trb.specs.declared.Answer.the-variants.{Accepted, Refused as RefusedCall}
+use Rattle.trb.specs.declared.CompletionAnswer.{CompletionAnswer}
+use Rattle.trb.specs.declared.CompletionAnswer.the-variants.{Completed, Refused}
+use Rattle.numerals.specs.Written.{Written}
+use Rattle.carry_out.specs.CarryOut.{answerOf, memoryAfter}
+use Rattle.call_text.specs.Widths.{maxFirst, maxRecordLines, maxCarriedOut}
+use Rattle.call_text.specs.Lines.{refusedLine, acceptedLine, completedLine, carriedOutLine, countOf, recordLines}
+
+-- creation, submission or cancel, with n records in the log
+unfoldable pub answerText : Answer → ℕ → List ℕ → List ℕ
+answerText Accepted n log = acceptedLine (countOf n) ++ recordLines n log
+answerText (RefusedCall q) n log = refusedLine (refusalNumber q)
+
+-- 0, or the number of the refusal
+abbrev pub answerNumber : Answer → ℕ
+answerNumber Accepted = 0
+answerNumber (RefusedCall q) = refusalNumber q
+
+-- what carry-out answers of the first n records of the log
+abbrev pub carriedOut : ℕ → List ℕ → List ℕ → ℕ → List ℕ → Answer
+carriedOut n log bytes base memory = answerOf (take (recordLength * n) log) (length bytes) base (length memory)
+
+-- a completion, with n records in the log and carry-out's answer
+unfoldable pub completionText : CompletionAnswer → ℕ → List ℕ → Answer → List ℕ
+completionText (Completed r) n log carried = completedLine (countOf n) r ++ recordLines n log ++ carriedOutLine (answerNumber carried)
+completionText (Refused q) n log carried = refusedLine (refusalNumber q)
+
+-- guest memory afterwards: a completion that is accepted is carried out
+unfoldable pub completionMemory : CompletionAnswer → ℕ → List ℕ → List ℕ → ℕ → List ℕ → List ℕ
+completionMemory (Completed r) n log bytes base memory = memoryAfter (carriedOut n log bytes base memory) (take (recordLength * n) log) bytes base memory
+completionMemory (Refused q) n log bytes base memory = memory
+
+-- of carrying out the first n records, with carry-out's line written into the text t at index at
+pub record CarriedOut (n : ℕ) (log bytes : List ℕ) (base : ℕ) (memory t : List ℕ) (at r : ℕ) (t' memory' : List ℕ) : Type 0 where
+  pub text : Written maxCarriedOut t at (carriedOutLine (answerNumber (carriedOut n log bytes base memory))) r t'
+  pub after : memory' ≡ memoryAfter (carriedOut n log bytes base memory) (take (recordLength * n) log) bytes base memory
+
+-- of a completion's answer that was written into the text t at index at: the text became t', r is the index behind, guest memory became memory'
+pub record Answered (a : CompletionAnswer) (n : ℕ) (log bytes : List ℕ) (base : ℕ) (memory t : List ℕ) (at r : ℕ) (t' memory' : List ℕ) : Type 0 where
+  pub text : Written (maxFirst + maxRecordLines + maxCarriedOut) t at (completionText a n log (carriedOut n log bytes base memory)) r t'
+  pub after : memory' ≡ completionMemory a n log bytes base memory

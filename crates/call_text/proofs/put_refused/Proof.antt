@@ -1,0 +1,48 @@
+-- `call_text::put_refused` meets its contract: its parts stand one behind the other. Assumes nothing.
+use native.Mathlib.Omega.{arith}
+use lib.Dec.{lit≤}
+use Rattle.call_text.specs.Lines.{refusedLine}
+use Rattle.numerals.proofs.WrittenLaws.{written-append, written-within}
+use borrow.Author.Needs.{needs}
+use Rattle.call_text.proofs.put_refused.Statement.{statement}
+use Rattle.call_text.proofs.put_refused.Tie as tie
+
+slice-aggregate-put-word : tie.Need-slice-aggregate-put-word
+slice-aggregate-put-word c = search needs
+
+put-word-requires : tie.Need-put-word-requires
+put-word-requires c κs = search needs
+
+put-decimal-requires : tie.Need-put-decimal-requires
+put-decimal-requires c κs = search needs
+
+put-char-requires : tie.Need-put-char-requires
+put-char-requires c κs = search needs
+
+same-length : tie.Need-same-length
+same-length c = search needs
+
+returns : tie.Need-returns
+unfolding refusedLine
+returns c =
+    let end = c .before .before in
+    let number = end .before .before .before .before in
+    let word = number .before .before .before .before in
+    let s = word .before .before .before .before in
+    written-within (lit≤ tt)
+    (written-append (s .args .at) (omega (arith, s .pre))
+    (written-append (s .args .at) (omega (arith, s .pre))
+    (word .put-word .ensures)
+    (number .put-decimal .ensures))
+    (end .put-char .ensures))
+
+pub put-refused-spec : {M : Type 1} → statement M
+put-refused-spec =
+    tie.close
+    (tie.spec
+    slice-aggregate-put-word
+    put-word-requires
+    put-decimal-requires
+    put-char-requires
+    same-length
+    returns)

@@ -1,0 +1,284 @@
+// The calls of a script on a control endpoint.
+use call_script::Call;
+use call_script::DeviceStatus;
+use control_block::ControlBlock;
+use control_block::ControlTransfer;
+use state_text::ControlStanding;
+use trb::Answer;
+use trb::ControlRequestProcessingResult;
+use trb::ControlSubmissionState;
+use trb::ControlTransferState;
+use trb::EndpointId;
+use trb::SlotId;
+use trb::TransferTrb;
+use trb::UsbRequest;
+ghost use mathlib.Core.Path.{_≡_};
+ghost use Prim.Native.Nat.{_+_, _≤_};
+ghost use lib.ListN.{length};
+ghost use Rattle.trb.specs.Limits.{minLog, maxCollected};
+ghost use Rattle.call_text.specs.Widths.{maxFirst, maxRecordLines, maxCarriedOut};
+ghost use Rattle.state_text.specs.Widths.{maxState, maxAnswer};
+
+// What a call leaves: the block, the index behind the answer, and whether the line was good.
+pub struct ControlRan {
+    pub block: ControlBlock,
+    pub end: usize,
+    pub good: bool,
+}
+
+fn bad(block: ControlBlock, at: usize) -> ControlRan
+    ensures { λ r. ⌜ r .end ≡ at ⌝ }
+{
+    ControlRan {
+        block: block,
+        end: at,
+        good: false,
+    }
+}
+
+// A call that prints nothing.
+fn silent(block: ControlBlock, at: usize) -> ControlRan
+    ensures { λ r. ⌜ r .end ≡ at ⌝ }
+{
+    ControlRan {
+        block: block,
+        end: at,
+        good: true,
+    }
+}
+
+// The smaller of two numbers.
+fn least(n: usize, room: usize) -> usize
+    ensures { λ r. ⌜ (r ≤ n) × (r ≤ room) ⌝ }
+{
+    if n < room { n } else { room }
+}
+
+// What the block is at; `collect` is the whole collect buffer.
+fn standing(block: ControlBlock, collect: &[u8]) -> ControlStanding {
+    let phase = block.phase;
+    let state = block.state;
+    let request = block.request;
+    let in_reach = least(collect.len(), trb::MAX_COLLECTED);
+    let collected = least(block.collected, in_reach);
+    ControlStanding {
+        phase: phase,
+        state: state,
+        held: call_text::count(block.held),
+        direction: block.direction,
+        request: request,
+        collected: call_text::count(block.collected),
+        sum: script_bytes::weighted_sum(&collect[..collected]),
+    }
+}
+
+// Writes the state line.
+fn answered(text: &mut [u8], at: usize, block: ControlBlock, collect: &[u8]) -> ControlRan
+    requires { ⌜ at + maxState ≤ length (now text) ⌝ }
+    ensures { λ r. ⌜ r .end ≤ at + maxState ⌝ }
+{
+    let end = state_text::put_control_line(text, at, standing(block, collect));
+    ControlRan {
+        block: block,
+        end: end,
+        good: true,
+    }
+}
+
+pub fn create(
+    text: &mut [u8],
+    at: usize,
+    endpoint_id: EndpointId,
+    slot_id: SlotId,
+    collect: &[u8],
+) -> ControlRan
+    requires { ⌜ at + maxAnswer ≤ length (now text) ⌝ }
+    ensures { λ r. ⌜ r .end ≤ at + maxAnswer ⌝ }
+{
+    let created = control_endpoint::create(endpoint_id, slot_id);
+    let answer = created.answer;
+    let block = created.block;
+    let next = call_answer::put_answer(text, at, answer, 0, &[]);
+    answered(text, next, block, collect)
+}
+
+// Of the collect buffer, the first `lent` bytes are lent.
+fn submit(
+    text: &mut [u8],
+    at: usize,
+    log: &mut [u8],
+    collect: &mut [u8],
+    lent: usize,
+    block: ControlBlock,
+    t: TransferTrb,
+    base: u64,
+    window: &[u8],
+) -> ControlRan
+    requires { ⌜ at + maxAnswer ≤ length (now text) ⌝ }
+    requires { ⌜ length (now log) ≤ minLog ⌝ }
+    ensures { λ r. ⌜ r .end ≤ at + maxAnswer ⌝ }
+{
+    let end = least(lent, collect.len());
+    let submitted = control_endpoint::submit_trb(log, &mut collect[..end], block, t, base, window);
+    let answer = submitted.answer;
+    let after = submitted.block;
+    let next = call_answer::put_answer(text, at, answer, submitted.records, log);
+    answered(text, next, after, collect)
+}
+
+fn complete(
+    text: &mut [u8],
+    at: usize,
+    log: &mut [u8],
+    collect: &[u8],
+    block: ControlBlock,
+    result: ControlRequestProcessingResult,
+    data: &[u8],
+    base: u64,
+    window: &mut [u8],
+) -> ControlRan
+    requires { ⌜ at + maxAnswer ≤ length (now text) ⌝ }
+    requires { ⌜ length (now log) ≤ minLog ⌝ }
+    ensures { λ r. ⌜ r .end ≤ at + maxAnswer ⌝ }
+{
+    let completed = control_endpoint::next_completion(log, block, result, data);
+    let answer = completed.answer;
+    let after = completed.block;
+    let next = call_answer::put_completion(
+        text,
+        at,
+        answer,
+        completed.records,
+        log,
+        data,
+        base,
+        window,
+    );
+    answered(text, next, after, collect)
+}
+
+// A device result of a script as a control endpoint takes it.
+fn result_of(status: DeviceStatus) -> ControlRequestProcessingResult {
+    match status {
+        DeviceStatus::Success => ControlRequestProcessingResult::SuccessfulControlIn,
+        DeviceStatus::Stall => ControlRequestProcessingResult::Stall,
+        DeviceStatus::TransactionError => ControlRequestProcessingResult::TransactionError,
+        DeviceStatus::Disconnect => ControlRequestProcessingResult::Disconnect,
+        DeviceStatus::SuccessfulControlOut => ControlRequestProcessingResult::SuccessfulControlOut,
+    }
+}
+
+fn cancel(text: &mut [u8], at: usize, block: ControlBlock, collect: &[u8]) -> ControlRan
+    requires { ⌜ at + maxAnswer ≤ length (now text) ⌝ }
+    ensures { λ r. ⌜ r .end ≤ at + maxAnswer ⌝ }
+{
+    let after = control_endpoint::cancel(block);
+    let next = call_answer::put_answer(text, at, Answer::Accepted, 0, &[]);
+    answered(text, next, after, collect)
+}
+
+fn hold(at: usize, block: ControlBlock, t: TransferTrb) -> ControlRan
+    ensures { λ r. ⌜ r .end ≡ at ⌝ }
+{
+    if trb::MAX_HELD <= block.held {
+        return bad(block, at);
+    }
+    let after = control_block::hold(block, t);
+    silent(after, at)
+}
+
+// What the call does not name stays.
+fn make_up(
+    at: usize,
+    block: ControlBlock,
+    phase: ControlTransferState,
+    state: ControlSubmissionState,
+    direction: bool,
+    length: u32,
+) -> ControlRan
+    ensures { λ r. ⌜ r .end ≡ at ⌝ }
+{
+    let named = block.request;
+    let request = UsbRequest {
+        address: named.address,
+        request_type: named.request_type,
+        request: named.request,
+        value: named.value,
+        index: named.index,
+        length: length,
+    };
+    let transfer = ControlTransfer {
+        phase: phase,
+        direction: direction,
+        request: request,
+        collected: block.collected,
+    };
+    let after = control_block::advance(block, transfer, state);
+    silent(after, at)
+}
+
+// Makes a call on the endpoint. `data` is the device's data, of which the call says how much is given.
+pub fn run(
+    text: &mut [u8],
+    at: usize,
+    log: &mut [u8],
+    collect: &mut [u8],
+    lent: usize,
+    block: ControlBlock,
+    call: Call,
+    data: &[u8],
+    base: u64,
+    window: &mut [u8],
+) -> ControlRan
+    requires { ⌜ at + maxAnswer ≤ length (now text) ⌝ }
+    requires { ⌜ length (now log) ≤ minLog ⌝ }
+    ensures { λ r. ⌜ r .end ≤ at + maxAnswer ⌝ }
+{
+    match call {
+        Call::Window(_, _) => bad(block, at),
+        Call::Buffers(_, _) => bad(block, at),
+        Call::CreateIn(_, _) => bad(block, at),
+        Call::CreateControl(_, _) => bad(block, at),
+        Call::Submit(t) => submit(text, at, log, collect, lent, block, t, base, window),
+        Call::CompleteWithResult(status, n) => {
+            let given = least(n, data.len());
+            complete(
+                text,
+                at,
+                log,
+                collect,
+                block,
+                result_of(status),
+                &data[..given],
+                base,
+                window,
+            )
+        }
+        Call::CompleteWithout(n) => {
+            let given = least(n, data.len());
+            complete(
+                text,
+                at,
+                log,
+                collect,
+                block,
+                ControlRequestProcessingResult::NoneGiven,
+                &data[..given],
+                base,
+                window,
+            )
+        }
+        Call::Cancel => cancel(text, at, block, collect),
+        Call::Hold(t) => hold(at, block, t),
+        Call::MakeUpIn(_) => bad(block, at),
+        Call::MakeUpControl(phase, state, direction, length) => make_up(
+            at,
+            block,
+            phase,
+            state,
+            direction,
+            length,
+        ),
+        Call::Bad => bad(block, at),
+    }
+}

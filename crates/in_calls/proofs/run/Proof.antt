@@ -1,0 +1,211 @@
+-- `in_calls::run` meets its contract: each call leaves its answer in the room that there is. Assumes nothing.
+use mathlib.Core.Path.{sym}
+use lib.Seq.{length-take-le}
+use borrow.Author.Needs.{needs}
+use Rattle.in_calls.proofs.run.Statement.{statement}
+use Rattle.in_calls.proofs.run.Tie as tie
+
+enum-told : tie.Need-enum-told
+enum-told c = search needs
+
+bad-requires : tie.Need-bad-requires
+bad-requires c κs = search needs
+
+enum-told-2 : tie.Need-enum-told-2
+enum-told-2 c = search needs
+
+bad-requires-2 : tie.Need-bad-requires-2
+bad-requires-2 c κs = search needs
+
+enum-told-3 : tie.Need-enum-told-3
+enum-told-3 c = search needs
+
+bad-requires-3 : tie.Need-bad-requires-3
+bad-requires-3 c κs = search needs
+
+enum-told-4 : tie.Need-enum-told-4
+enum-told-4 c = search needs
+
+bad-requires-4 : tie.Need-bad-requires-4
+bad-requires-4 c κs = search needs
+
+enum-known-call : tie.Need-enum-known-call
+enum-known-call c = search needs
+
+submit-requires : tie.Need-submit-requires
+submit-requires c κs = search needs
+
+enum-known-call-2 : tie.Need-enum-known-call-2
+enum-known-call-2 c = search needs
+
+bytes-given-requires : tie.Need-bytes-given-requires
+bytes-given-requires c κs = search needs
+
+slice-aggregate-complete-with-result : tie.Need-slice-aggregate-complete-with-result
+slice-aggregate-complete-with-result c = sym (length-take-le _ _ (search needs))
+
+complete-with-result-requires : tie.Need-complete-with-result-requires
+complete-with-result-requires c κs = search needs
+
+enum-known-call-3 : tie.Need-enum-known-call-3
+enum-known-call-3 c = search needs
+
+bytes-given-requires-2 : tie.Need-bytes-given-requires-2
+bytes-given-requires-2 c κs = search needs
+
+slice-aggregate-complete : tie.Need-slice-aggregate-complete
+slice-aggregate-complete c = sym (length-take-le _ _ (search needs))
+
+complete-requires : tie.Need-complete-requires
+complete-requires c κs = search needs
+
+enum-told-5 : tie.Need-enum-told-5
+enum-told-5 c = search needs
+
+cancel-requires : tie.Need-cancel-requires
+cancel-requires c κs = search needs
+
+enum-known-call-4 : tie.Need-enum-known-call-4
+enum-known-call-4 c = search needs
+
+hold-requires : tie.Need-hold-requires
+hold-requires c κs = search needs
+
+enum-known-call-5 : tie.Need-enum-known-call-5
+enum-known-call-5 c = search needs
+
+make-up-requires : tie.Need-make-up-requires
+make-up-requires c κs = search needs
+
+enum-told-6 : tie.Need-enum-told-6
+enum-told-6 c = search needs
+
+bad-requires-5 : tie.Need-bad-requires-5
+bad-requires-5 c κs = search needs
+
+enum-told-7 : tie.Need-enum-told-7
+enum-told-7 c = search needs
+
+bad-requires-6 : tie.Need-bad-requires-6
+bad-requires-6 c κs = search needs
+
+returns : tie.Need-returns
+returns c = search needs
+
+returns-2 : tie.Need-returns-2
+returns-2 c = search needs
+
+returns-3 : tie.Need-returns-3
+returns-3 c = search needs
+
+returns-4 : tie.Need-returns-4
+returns-4 c = search needs
+
+same-length : tie.Need-same-length
+same-length c = search needs
+
+same-length-2 : tie.Need-same-length-2
+same-length-2 c = search needs
+
+same-length-3 : tie.Need-same-length-3
+same-length-3 c = search needs
+
+returns-5 : tie.Need-returns-5
+returns-5 c = search needs
+
+same-length-4 : tie.Need-same-length-4
+same-length-4 c = search needs
+
+same-length-5 : tie.Need-same-length-5
+same-length-5 c = search needs
+
+same-length-6 : tie.Need-same-length-6
+same-length-6 c = search needs
+
+returns-6 : tie.Need-returns-6
+returns-6 c = search needs
+
+same-length-7 : tie.Need-same-length-7
+same-length-7 c = search needs
+
+same-length-8 : tie.Need-same-length-8
+same-length-8 c = search needs
+
+same-length-9 : tie.Need-same-length-9
+same-length-9 c = search needs
+
+returns-7 : tie.Need-returns-7
+returns-7 c = search needs
+
+same-length-10 : tie.Need-same-length-10
+same-length-10 c = search needs
+
+returns-8 : tie.Need-returns-8
+returns-8 c = search needs
+
+returns-9 : tie.Need-returns-9
+returns-9 c = search needs
+
+returns-10 : tie.Need-returns-10
+returns-10 c = search needs
+
+returns-11 : tie.Need-returns-11
+returns-11 c = search needs
+
+returns-12 : tie.Need-returns-12
+returns-12 c = search needs
+
+pub run-spec : {M : Type 1} → statement M
+run-spec =
+    tie.close
+    (tie.spec
+    enum-told
+    bad-requires
+    enum-told-2
+    bad-requires-2
+    enum-told-3
+    bad-requires-3
+    enum-told-4
+    bad-requires-4
+    enum-known-call
+    submit-requires
+    enum-known-call-2
+    bytes-given-requires
+    slice-aggregate-complete-with-result
+    complete-with-result-requires
+    enum-known-call-3
+    bytes-given-requires-2
+    slice-aggregate-complete
+    complete-requires
+    enum-told-5
+    cancel-requires
+    enum-known-call-4
+    hold-requires
+    enum-known-call-5
+    make-up-requires
+    enum-told-6
+    bad-requires-5
+    enum-told-7
+    bad-requires-6
+    returns
+    returns-2
+    returns-3
+    returns-4
+    same-length
+    same-length-2
+    same-length-3
+    returns-5
+    same-length-4
+    same-length-5
+    same-length-6
+    returns-6
+    same-length-7
+    same-length-8
+    same-length-9
+    returns-7
+    same-length-10
+    returns-8
+    returns-9
+    returns-10
+    returns-11
+    returns-12)

@@ -1,0 +1,242 @@
+// The calls of a script on an IN endpoint.
+use call_script::Call;
+use call_script::DeviceStatus;
+use in_block::InBlock;
+use trb::Answer;
+use trb::EndpointId;
+use trb::InTrbProcessingResult;
+use trb::InTrbProcessingStatus;
+use trb::SlotId;
+use trb::TdBasedNormalSubmissionState;
+use trb::TransferTrb;
+ghost use mathlib.Core.Path.{_≡_};
+ghost use Prim.Native.Nat.{_+_, _≤_};
+ghost use lib.ListN.{length};
+ghost use Rattle.trb.specs.Limits.{minLog};
+ghost use Rattle.call_text.specs.Widths.{maxFirst, maxRecordLines, maxCarriedOut};
+ghost use Rattle.state_text.specs.Widths.{maxState, maxAnswer};
+
+// What a call leaves: the block, the index behind the answer, and whether the line was good.
+pub struct InRan {
+    pub block: InBlock,
+    pub end: usize,
+    pub good: bool,
+}
+
+fn bad(block: InBlock, at: usize) -> InRan
+    ensures { λ r. ⌜ r .end ≡ at ⌝ }
+{
+    InRan {
+        block: block,
+        end: at,
+        good: false,
+    }
+}
+
+// A call that prints nothing.
+fn silent(block: InBlock, at: usize) -> InRan
+    ensures { λ r. ⌜ r .end ≡ at ⌝ }
+{
+    InRan {
+        block: block,
+        end: at,
+        good: true,
+    }
+}
+
+// Writes the state line.
+fn answered(text: &mut [u8], at: usize, block: InBlock) -> InRan
+    requires { ⌜ at + maxState ≤ length (now text) ⌝ }
+    ensures { λ r. ⌜ r .end ≤ at + maxState ⌝ }
+{
+    let state = block.state;
+    let end = state_text::put_in_line(text, at, state, call_text::count(block.held));
+    InRan {
+        block: block,
+        end: end,
+        good: true,
+    }
+}
+
+pub fn create(text: &mut [u8], at: usize, endpoint_id: EndpointId, slot_id: SlotId) -> InRan
+    requires { ⌜ at + maxAnswer ≤ length (now text) ⌝ }
+    ensures { λ r. ⌜ r .end ≤ at + maxAnswer ⌝ }
+{
+    let created = in_endpoint::create(endpoint_id, slot_id);
+    let answer = created.answer;
+    let block = created.block;
+    let next = call_answer::put_answer(text, at, answer, 0, &[]);
+    answered(text, next, block)
+}
+
+fn submit(
+    text: &mut [u8],
+    at: usize,
+    log: &mut [u8],
+    block: InBlock,
+    t: TransferTrb,
+    base: u64,
+    window: &[u8],
+) -> InRan
+    requires { ⌜ at + maxAnswer ≤ length (now text) ⌝ }
+    requires { ⌜ length (now log) ≤ minLog ⌝ }
+    ensures { λ r. ⌜ r .end ≤ at + maxAnswer ⌝ }
+{
+    let submitted = in_endpoint::submit_trb(log, block, t, base, window);
+    let answer = submitted.answer;
+    let after = submitted.block;
+    let next = call_answer::put_answer(text, at, answer, submitted.records, log);
+    answered(text, next, after)
+}
+
+fn complete(
+    text: &mut [u8],
+    at: usize,
+    log: &mut [u8],
+    block: InBlock,
+    result: InTrbProcessingResult,
+    data: &[u8],
+    base: u64,
+    window: &mut [u8],
+) -> InRan
+    requires { ⌜ at + maxAnswer ≤ length (now text) ⌝ }
+    requires { ⌜ length (now log) ≤ minLog ⌝ }
+    ensures { λ r. ⌜ r .end ≤ at + maxAnswer ⌝ }
+{
+    let completed = in_endpoint::next_completion(log, block, result, data);
+    let answer = completed.answer;
+    let after = completed.block;
+    let next = call_answer::put_completion(
+        text,
+        at,
+        answer,
+        completed.records,
+        log,
+        data,
+        base,
+        window,
+    );
+    answered(text, next, after)
+}
+
+// A device result of a script as an IN endpoint takes it; SuccessfulControlOut is none.
+fn result_of(status: DeviceStatus) -> InTrbProcessingResult {
+    match status {
+        DeviceStatus::Success => InTrbProcessingResult::Given(InTrbProcessingStatus::Success),
+        DeviceStatus::Stall => InTrbProcessingResult::Given(InTrbProcessingStatus::Stall),
+        DeviceStatus::TransactionError => InTrbProcessingResult::Given(
+            InTrbProcessingStatus::TransactionError,
+        ),
+        DeviceStatus::Disconnect => InTrbProcessingResult::Given(InTrbProcessingStatus::Disconnect),
+        DeviceStatus::SuccessfulControlOut => InTrbProcessingResult::NoneGiven,
+    }
+}
+
+fn complete_with_result(
+    text: &mut [u8],
+    at: usize,
+    log: &mut [u8],
+    block: InBlock,
+    status: DeviceStatus,
+    data: &[u8],
+    base: u64,
+    window: &mut [u8],
+) -> InRan
+    requires { ⌜ at + maxAnswer ≤ length (now text) ⌝ }
+    requires { ⌜ length (now log) ≤ minLog ⌝ }
+    ensures { λ r. ⌜ r .end ≤ at + maxAnswer ⌝ }
+{
+    let result = result_of(status);
+    match result {
+        InTrbProcessingResult::NoneGiven => bad(block, at),
+        InTrbProcessingResult::Given(_) => complete(
+            text,
+            at,
+            log,
+            block,
+            result,
+            data,
+            base,
+            window,
+        ),
+    }
+}
+
+fn cancel(text: &mut [u8], at: usize, block: InBlock) -> InRan
+    requires { ⌜ at + maxAnswer ≤ length (now text) ⌝ }
+    ensures { λ r. ⌜ r .end ≤ at + maxAnswer ⌝ }
+{
+    let after = in_endpoint::cancel(block);
+    let next = call_answer::put_answer(text, at, Answer::Accepted, 0, &[]);
+    answered(text, next, after)
+}
+
+fn hold(at: usize, block: InBlock, t: TransferTrb) -> InRan
+    ensures { λ r. ⌜ r .end ≡ at ⌝ }
+{
+    if trb::MAX_HELD <= block.held {
+        return bad(block, at);
+    }
+    let after = in_block::store(block, t);
+    silent(after, at)
+}
+
+fn make_up(at: usize, block: InBlock, state: TdBasedNormalSubmissionState) -> InRan
+    ensures { λ r. ⌜ r .end ≡ at ⌝ }
+{
+    let after = in_block::with_state(block, state);
+    silent(after, at)
+}
+
+// The first so many bytes of the device's data, or all of it.
+fn bytes_given(n: usize, room: usize) -> usize
+    ensures { λ r. ⌜ r ≤ room ⌝ }
+{
+    if n < room { n } else { room }
+}
+
+// Makes a call on the endpoint. `data` is the device's data, of which the call says how much is given.
+pub fn run(
+    text: &mut [u8],
+    at: usize,
+    log: &mut [u8],
+    block: InBlock,
+    call: Call,
+    data: &[u8],
+    base: u64,
+    window: &mut [u8],
+) -> InRan
+    requires { ⌜ at + maxAnswer ≤ length (now text) ⌝ }
+    requires { ⌜ length (now log) ≤ minLog ⌝ }
+    ensures { λ r. ⌜ r .end ≤ at + maxAnswer ⌝ }
+{
+    match call {
+        Call::Window(_, _) => bad(block, at),
+        Call::Buffers(_, _) => bad(block, at),
+        Call::CreateIn(_, _) => bad(block, at),
+        Call::CreateControl(_, _) => bad(block, at),
+        Call::Submit(t) => submit(text, at, log, block, t, base, window),
+        Call::CompleteWithResult(status, n) => {
+            let given = bytes_given(n, data.len());
+            complete_with_result(text, at, log, block, status, &data[..given], base, window)
+        }
+        Call::CompleteWithout(n) => {
+            let given = bytes_given(n, data.len());
+            complete(
+                text,
+                at,
+                log,
+                block,
+                InTrbProcessingResult::NoneGiven,
+                &data[..given],
+                base,
+                window,
+            )
+        }
+        Call::Cancel => cancel(text, at, block),
+        Call::Hold(t) => hold(at, block, t),
+        Call::MakeUpIn(state) => make_up(at, block, state),
+        Call::MakeUpControl(_, _, _, _) => bad(block, at),
+        Call::Bad => bad(block, at),
+    }
+}

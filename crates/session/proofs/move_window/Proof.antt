@@ -1,0 +1,35 @@
+-- `session::move_window` meets its contract: no more of the window is filled than there is. Assumes nothing.
+use mathlib.Core.Path.{sym}
+use lib.Seq.{length-take-le}
+use borrow.Author.Needs.{needs}
+use Rattle.session.proofs.move_window.Statement.{statement}
+use Rattle.session.proofs.move_window.Tie as tie
+
+least-requires : tie.Need-least-requires
+least-requires c κs = search needs
+
+slice-relend-prefix-fill-guest : tie.Need-slice-relend-prefix-fill-guest
+slice-relend-prefix-fill-guest c = search needs
+
+slice-aggregate-fill-guest : tie.Need-slice-aggregate-fill-guest
+slice-aggregate-fill-guest c = sym (length-take-le _ _ (c .before .least .ensures .1))
+
+fill-guest-requires : tie.Need-fill-guest-requires
+fill-guest-requires c κs = search needs
+
+same-length : tie.Need-same-length
+same-length c = search needs
+
+returns : tie.Need-returns
+returns c = search needs
+
+pub move-window-spec : {M : Type 1} → statement M
+move-window-spec =
+    tie.close
+    (tie.spec
+    least-requires
+    slice-relend-prefix-fill-guest
+    slice-aggregate-fill-guest
+    fill-guest-requires
+    same-length
+    returns)
