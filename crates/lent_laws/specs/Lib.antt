@@ -1,0 +1,1 @@
+-- No definitions: the laws stand in proofs/. Assumes nothing.

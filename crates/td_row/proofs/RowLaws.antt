@@ -1,0 +1,122 @@
+-- How the two loops over a row keep to their definitions. Assumes nothing.
+use Prim.Native.Nat.{ℕ, suc, _+_, _*_, _-_, _<_, _≤_, _^_}
+use mathlib.Core.Path.{_≡_, refl, sym, ap, _∙_, subst}
+use mathlib.Core.Bool.{Bool, true, false, _&&_}
+use mathlib.Core.List.{List, [], _∷_}
+use native.Mathlib.Numerals.{add-one}
+use native.Mathlib.Omega.{arith}
+use lib.ListN.{length, take, drop, getD, drop-of-length-le}
+use lib.Seq.{drop-cons, length-take-le, take-length}
+use Rattle.trb.specs.Limits.{recordLength}
+use Rattle.trb.specs.declared.TransferTrb.{TransferTrb}
+use Rattle.log.specs.Calls.{Out, silent, Meets}
+use Rattle.held.specs.Places.{pastEnd}
+use Rattle.held.specs.Sound.{soundTrb}
+use Rattle.held.specs.declared.EndpointKind.the-variants.{In}
+use Rattle.walks.specs.All.{all}
+use Rattle.walks.proofs.AllLaws.{Tested, tested-none, tested-turn, tested-end}
+use Rattle.walks.specs.Walk.{walk}
+use Rattle.walks.proofs.WalkLaws.{Walked, walkOf, walked-none, walked-turn, walked-end}
+use Rattle.log.specs.Logs.{logged, AllFit}
+use Rattle.log.proofs.LogLaws.{logged-none}
+use Rattle.log.proofs.CallLaws.{meets}
+use Rattle.td_part.specs.Parts.{Within}
+use Rattle.in_td.specs.Td.{processTrb, processTd, ended, unprocessed}
+use Rattle.in_td.specs.declared.InTd.{InTd}
+use Rattle.in_td.specs.declared.TdProcessed.{TdProcessed}
+use Rattle.in_td.proofs.TdLaws.{tdWalker}
+use Rattle.row_plan.proofs.PlanLaws.{nextTrb-ended, nextTrb-going}
+use Rattle.row_plan.specs.Plans.{isOther, soundIn, trbTest, rowTest, nextTrb}
+use Rattle.row_plan.specs.declared.RowTest.{RowTest}
+
+-- ---- The test of every TRB
+
+-- after i TRBs of the row, with r found so far
+pub record TestedRow (ts : List TransferTrb) (r : RowTest) (i : ℕ) : Type 0 where
+  pub sound : Tested (soundTrb In) ts (r .sound) i
+  pub other : Tested (λ t. isOther (t .variant)) ts (r .«no_normal») i
+
+module _ (ok : TransferTrb → Bool) (ts : List TransferTrb) where
+  all-turn : (b r : Bool) (i : ℕ) → Tested ok ts b i → i < length ts → r ≡ (b && ok (getD ts i pastEnd)) → Tested ok ts r (i + 1)
+  all-turn b r i k more e =
+      subst (λ (l : List TransferTrb). Tested ok l r (i + 1)) (take-length ts)
+      (tested-turn ok ts (length ts) (omega arith) b r i pastEnd (subst (λ (l : List TransferTrb). Tested ok l b i) (sym (take-length ts)) k) more e)
+
+  all-end : (b : Bool) (i : ℕ) → Tested ok ts b i → length ts ≤ i → b ≡ all ok ts
+  all-end b i k h =
+      subst (λ (l : List TransferTrb). b ≡ all ok l) (take-length ts)
+      (tested-end ok ts (length ts) (omega arith) b i (subst (λ (l : List TransferTrb). Tested ok l b i) (sym (take-length ts)) k) h)
+
+pub testedRow-none : (ts : List TransferTrb) → TestedRow ts (record { sound = true; «no_normal» = true }) 0
+testedRow-none ts = record { sound = tested-none (soundTrb In) ts; other = tested-none (λ t. isOther (t .variant)) ts }
+
+pub testedRow-turn : (ts : List TransferTrb) (s r : RowTest) (i : ℕ) → TestedRow ts s i → i < length ts → r ≡ trbTest s (getD ts i pastEnd) → TestedRow ts r (i + 1)
+unfolding soundTrb
+testedRow-turn ts s r i k more e = record {
+  sound = all-turn (soundTrb In) ts (s .sound) (r .sound) i (k .sound) more (ap (λ (x : RowTest). x .sound) e);
+  other = all-turn (λ t. isOther (t .variant)) ts (s .«no_normal») (r .«no_normal») i (k .other) more (ap (λ (x : RowTest). x .«no_normal») e);
+}
+
+pub testedRow-end : (ts : List TransferTrb) (s : RowTest) (i : ℕ) → TestedRow ts s i → length ts ≤ i → s ≡ rowTest ts
+testedRow-end ts s i k h =
+    let sound : s .sound ≡ all (soundTrb In) ts = all-end (soundTrb In) ts (s .sound) i (k .sound) h in
+    let other : s .«no_normal» ≡ all (λ t. isOther (t .variant)) ts = all-end (λ t. isOther (t .variant)) ts (s .«no_normal») i (k .other) h in
+    λ j. record { sound = sound j; «no_normal» = other j }
+
+-- ---- Numbers of both loops
+
+pub times-fits : (i n : ℕ) → i < n → n * 48 < 2 ^ 63 → i * 48 < 2 ^ 64
+times-fits i n h k = omega arith
+
+pub next-fits : (i n : ℕ) → i < n → n < 2 ^ 64 → i + 1 < 2 ^ 64
+next-fits i n h k = omega arith
+
+pub nearer : (i n : ℕ) → i < n → n - (i + 1) < n - i
+nearer i n h = omega arith
+
+-- ---- The walk
+
+-- after i TRBs of the first n of the row, of a walk over the log l₀, with the state p and the log l
+abbrev pub WalkedRow : InTd → ℕ → List TransferTrb → List ℕ → List ℕ → TdProcessed → ℕ → Type 0
+WalkedRow td n ts l₀ l p i = Walked (tdWalker td) unprocessed (take n ts) l₀ l p i
+
+walk-ended : (td : InTd) (p : TdProcessed) (ts : List TransferTrb) → ended p ≡ true → walk (processTrb td) ended p ts ≡ silent p
+unfolding walk
+walk-ended td p [] e = refl
+walk-ended td p (t ∷ ts) e = rw e
+
+module _ (td : InTd) (n : ℕ) (ts : List TransferTrb) (l₀ : List ℕ) where
+  pub walkedRow-none : WalkedRow td n ts l₀ l₀ unprocessed 0
+  walkedRow-none = walked-none (tdWalker td) unprocessed (take n ts) l₀ (record { within = omega arith })
+
+  module _ (l : List ℕ) (p : TdProcessed) (i : ℕ) (w : WalkedRow td n ts l₀ l p i) where
+    -- where an error has ended the walk, the next TRB changes nothing
+    ended-turn : (l' : List ℕ) (r : TdProcessed) → ended p ≡ true → Meets (silent p) (p .progress .records) l r l' → WalkedRow td n ts l₀ l' r (i + 1)
+    ended-turn l' r e m =
+        let same : walk (processTrb td) ended p (drop (i + 1) (take n ts)) ≡ walk (processTrb td) ended p (drop i (take n ts)) =
+        walk-ended td p (drop (i + 1) (take n ts)) e ∙ sym (walk-ended td p (drop i (take n ts)) e) in
+        rw (m .state, m .log, logged-none l (p .progress .records))
+        (record {
+          good = w .good;
+          room = omega (arith, w .room);
+          long = w .long;
+          state = ap (λ (o : Out TdProcessed). o .state) same ∙ w .state;
+          log = ap (λ (o : Out TdProcessed). logged l (p .progress .records) (o .records)) same ∙ w .log;
+          fits = subst (λ (o : Out TdProcessed). AllFit (o .records) → AllFit (walkOf (tdWalker td) unprocessed (take n ts) .records)) (sym same) (w .fits);
+        })
+
+    module _ (few : n ≤ length ts) (more : i < n) (room : recordLength * (2 * n) ≤ length l₀) where
+      turn-by : (l' : List ℕ) (r : TdProcessed) (b : Bool) → ended p ≡ b → Meets (nextTrb td p (getD ts i pastEnd)) (p .progress .records) l r l' → WalkedRow td n ts l₀ l' r (i + 1)
+      turn-by l' r true e m = ended-turn l' r e (meets (sym (nextTrb-ended td p (getD ts i pastEnd) e)) m)
+      turn-by l' r false e m =
+          walked-turn (tdWalker td) ts n few unprocessed l₀ l l' p r i pastEnd w e more (omega (arith, room)) (meets (sym (nextTrb-going td p (getD ts i pastEnd) e)) m)
+
+      pub walkedRow-turn : (l' : List ℕ) (r : TdProcessed) → Meets (nextTrb td p (getD ts i pastEnd)) (p .progress .records) l r l' → WalkedRow td n ts l₀ l' r (i + 1)
+      walkedRow-turn l' r m = turn-by l' r (ended p) refl m
+
+      -- what the next TRB's turn asks
+      pub walkedRow-room : (recordLength * (p .progress .records + 2) ≤ length l) × Within (td .info) (p .progress)
+      walkedRow-room = (omega (arith, w .room, w .long, room), w .good)
+
+    pub walkedRow-end : n ≤ length ts → n ≤ i → Meets (processTd td (take n ts)) 0 l₀ p l
+    walkedRow-end few over = walked-end (tdWalker td) ts n few unprocessed l₀ l p i w over

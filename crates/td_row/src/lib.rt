@@ -1,0 +1,76 @@
+// The TD as a lent row of TRBs: answered as completion answers for a block that holds the row and awaits the device.
+use in_td::TdProcessed;
+use row_plan::RowCompleted;
+use row_plan::RowPlan;
+use row_plan::RowTest;
+use trb::EndpointId;
+use trb::InTrbProcessingResult;
+use trb::SlotId;
+use trb::TransferTrb;
+ghost use mathlib.Core.Path.{_≡_};
+ghost use lib.ListN.{length, take};
+ghost use Rattle.log.specs.Calls.{Meets};
+ghost use Rattle.log.specs.Logs.{recordsIn};
+ghost use Rattle.in_td.specs.Td.{processTd};
+ghost use Rattle.row_plan.specs.Plans.{rowTest};
+ghost use Rattle.row_plan.specs.Rows.{rowCompletion, AccountedRow};
+ghost use Rattle.td_row.specs.Walkable.{Walkable};
+
+// What question 2 asks of every TRB of the row.
+fn test_row(row: &[TransferTrb]) -> RowTest
+    ensures { λ r. ⌜ r ≡ rowTest (now (row .entry)) ⌝ }
+{
+    let mut tested = RowTest {
+        sound: true,
+        no_normal: true,
+    };
+    let mut i: usize = 0;
+    while i < row.len() {
+        let t = row[i];
+        tested = row_plan::test_trb(tested, t);
+        i += 1;
+    }
+    tested
+}
+
+// The walk over as many TRBs of the row as the plan says.
+fn walk_row(log: &mut [u8], row: &[TransferTrb], plan: RowPlan) -> TdProcessed
+    requires { ⌜ Walkable plan (length (now row)) (length (now log)) ⌝ }
+    ensures { λ r. ⌜ Meets (processTd (plan .td) (take (plan .count) (now (row .entry)))) 0 (now (log .entry)) r (now (log .exit)) ⌝ }
+{
+    let count = plan.count;
+    let mut processed = plan.start;
+    let mut i: usize = 0;
+    while i < count {
+        let t = row[i];
+        processed = row_plan::next_trb(log, plan, processed, t);
+        i += 1;
+    }
+    processed
+}
+
+// Questions 1, 2, 8 and 9, and the walk; ports `process_td` over its own vector. Of the device's data only the length is read.
+pub fn complete_row(
+    log: &mut [u8],
+    endpoint_id: EndpointId,
+    slot_id: SlotId,
+    row: &[TransferTrb],
+    result: InTrbProcessingResult,
+    data: &[u8],
+) -> RowCompleted
+    ensures met { λ r. ⌜ Meets (rowCompletion (length (now (log .entry))) «endpoint_id» «slot_id» (now (row .entry)) result (length (now («data» .entry)))) 0 (now (log .entry)) r (now (log .exit)) ⌝ }
+    ensures account { λ r. ⌜ AccountedRow (now (row .entry)) (length (now («data» .entry))) (r .answer) (recordsIn (r .records) (now (log .exit))) ⌝ }
+{
+    let tested = test_row(row);
+    let plan = row_plan::ask(
+        log.len(),
+        endpoint_id,
+        slot_id,
+        row.len(),
+        tested,
+        result,
+        data.len(),
+    );
+    let processed = walk_row(log, row, plan);
+    row_plan::answer(plan, processed)
+}
