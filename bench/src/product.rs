@@ -1,0 +1,127 @@
+//! The product's exported functions.
+
+use crate::work::{InWork, COLLECT_BYTES, CONTROL_LENGTH, LOG_BYTES};
+
+extern "C" {
+    fn bench_calls_in_by_value(
+        log: *mut u8,
+        log_length: usize,
+        window: *const u8,
+        window_length: usize,
+        data: *const u8,
+        data_length: usize,
+        trbs: u32,
+        transfer_length: u32,
+        status: u8,
+        completes: bool,
+        repeats: u32,
+    ) -> u64;
+
+    fn bench_calls_control(
+        log: *mut u8,
+        log_length: usize,
+        collect: *mut u8,
+        collect_length: usize,
+        window: *const u8,
+        window_length: usize,
+        data: *const u8,
+        data_length: usize,
+        transfer_length: u32,
+        repeats: u32,
+    ) -> u64;
+
+    fn bench_calls_carry_out(
+        log: *const u8,
+        log_length: usize,
+        data: *const u8,
+        data_length: usize,
+        base: u64,
+        memory: *mut u8,
+        memory_length: usize,
+        repeats: u32,
+    ) -> u64;
+}
+
+/// The log that the calls write.
+pub struct Log(Vec<u8>);
+
+impl Log {
+    pub fn new() -> Self {
+        Self(vec![0; LOG_BYTES])
+    }
+
+    pub fn records(&self, count: usize) -> &[u8] {
+        &self.0[..32 * count]
+    }
+}
+
+macro_rules! in_calls {
+    ($name:ident, $exported:ident) => {
+        pub fn $name(log: &mut Log, work: &InWork, completes: bool, repeats: u32) -> u64 {
+            // SAFETY: each pointer stands with the length of its slice, and the library keeps none of them.
+            unsafe {
+                $exported(
+                    log.0.as_mut_ptr(),
+                    log.0.len(),
+                    work.window.as_ptr(),
+                    work.window.len(),
+                    work.data.as_ptr(),
+                    work.data.len(),
+                    work.trbs,
+                    work.transfer_length,
+                    work.status,
+                    completes,
+                    repeats,
+                )
+            }
+        }
+    };
+}
+
+in_calls!(in_by_value, bench_calls_in_by_value);
+
+/// Control transfers with their two lent buffers.
+pub struct Control {
+    log: Log,
+    collect: Vec<u8>,
+}
+
+impl Control {
+    pub fn new() -> Self {
+        Self { log: Log::new(), collect: vec![0; COLLECT_BYTES] }
+    }
+
+    pub fn transfer(&mut self, window: &[u8], data: &[u8], repeats: u32) -> u64 {
+        // SAFETY: as above.
+        unsafe {
+            bench_calls_control(
+                self.log.0.as_mut_ptr(),
+                self.log.0.len(),
+                self.collect.as_mut_ptr(),
+                self.collect.len(),
+                window.as_ptr(),
+                window.len(),
+                data.as_ptr(),
+                data.len(),
+                CONTROL_LENGTH,
+                repeats,
+            )
+        }
+    }
+}
+
+pub fn carry_out(log: &[u8], data: &[u8], base: u64, memory: &mut [u8], repeats: u32) -> u64 {
+    // SAFETY: as above.
+    unsafe {
+        bench_calls_carry_out(
+            log.as_ptr(),
+            log.len(),
+            data.as_ptr(),
+            data.len(),
+            base,
+            memory.as_mut_ptr(),
+            memory.len(),
+            repeats,
+        )
+    }
+}

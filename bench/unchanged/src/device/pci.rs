@@ -1,0 +1,3 @@
+#[rustfmt::skip]
+#[path = "../../usbvfiod/src/device/pci/constants.rs"]
+pub mod constants;
