@@ -15,9 +15,7 @@ use Rattle.walks.proofs.AllLaws.{and-left, and-right}
 use Rattle.in_block.specs.declared.InBlock.{InBlock}
 use Rattle.in_block.specs.Blocks.{heldOf}
 use Rattle.in_block.specs.Sound.{isNormal, hasNormal, awaitsDevice, soundBlock}
-
-abbrev pub noNormal : TransferTrb → Bool
-noNormal t = not (isNormal (t .variant))
+use Rattle.in_block.specs.Test.{noNormal}
 
 or-not : (a b : Bool) → (a || not b) ≡ not (not a && b)
 or-not true b = refl

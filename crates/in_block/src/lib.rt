@@ -6,12 +6,12 @@ use trb::TdBasedNormalSubmissionState;
 use trb::TransferTrb;
 use trb::TransferTrbVariant;
 ghost use mathlib.Core.Path.{_≡_};
-ghost use mathlib.Core.Bool.{_&&_, not};
-ghost use Prim.Native.Nat.{_<_, _≤_};
-ghost use lib.ListN.{take};
+ghost use mathlib.Core.Bool.{_&&_};
+ghost use Prim.Native.Nat.{_<_, min};
 ghost use Rattle.trb.specs.Limits.{maxHeld};
 ghost use Rattle.in_block.specs.Blocks.{freshBlock, withState, stored, emptied};
-ghost use Rattle.in_block.specs.Sound.{isNormal, hasNormal, submissionDue, awaitsDevice, soundBlock};
+ghost use Rattle.in_block.specs.Sound.{isNormal, submissionDue, awaitsDevice};
+ghost use Rattle.in_block.specs.Test.{soundIn, trbTest, soundAs};
 
 pub struct InBlock {
     pub endpoint_id: EndpointId,
@@ -60,25 +60,6 @@ pub fn store(block: InBlock, t: TransferTrb) -> InBlock
     next.trbs[at] = t;
     next.held = at + 1;
     next
-}
-
-// One TRB more is held, and the block is in this state.
-pub fn hold(block: InBlock, t: TransferTrb, state: TdBasedNormalSubmissionState) -> InBlock
-    requires { ⌜ block .held < maxHeld ⌝ }
-    ensures { λ r. ⌜ r ≡ withState (stored block t) state ⌝ }
-{
-    let endpoint_id = block.endpoint_id;
-    let slot_id = block.slot_id;
-    let at = block.held;
-    let mut trbs = block.trbs;
-    trbs[at] = t;
-    InBlock {
-        endpoint_id: endpoint_id,
-        slot_id: slot_id,
-        state: state,
-        held: at + 1,
-        trbs: trbs,
-    }
 }
 
 // Nothing is held any more.
@@ -137,48 +118,75 @@ fn is_normal(variant: TransferTrbVariant) -> bool
     }
 }
 
-// Is this TRB no Normal, as those before?
-fn and_no_normal(so_far: bool, t: TransferTrb) -> bool
-    ensures { λ r. ⌜ r ≡ «so_far» && not (isNormal (t .variant)) ⌝ }
+// What question 2 asks of each TRB held: is every one sound, and none a Normal?
+pub struct HeldTest {
+    pub sound: bool,
+    pub no_normal: bool,
+}
+
+// Is the TRB of a kind that an IN endpoint holds, and its length within the limit?
+fn is_sound_trb(variant: TransferTrbVariant) -> bool
+    ensures { λ r. ⌜ r ≡ soundIn variant ⌝ }
+{
+    if !held::supports(EndpointKind::In, variant) {
+        return false;
+    }
+    trb::transfer_length(variant) <= trb::MAX_TRANSFER_LENGTH
+}
+
+fn both(a: bool, b: bool) -> bool
+    ensures { λ r. ⌜ r ≡ a && b ⌝ }
+{
+    if a { b } else { false }
+}
+
+// One TRB more is tested.
+pub fn test_trb(so_far: HeldTest, t: TransferTrb) -> HeldTest
+    ensures { λ r. ⌜ r ≡ trbTest «so_far» t ⌝ }
 {
     let variant = t.variant;
-    if so_far { !is_normal(variant) } else { false }
-}
-
-// Is there a Normal among the first `held` TRBs?
-pub fn has_normal(trbs: [TransferTrb; trb::MAX_HELD], held: usize) -> bool
-    requires { ⌜ held ≤ maxHeld ⌝ }
-    ensures { λ r. ⌜ r ≡ hasNormal (take held trbs) ⌝ }
-{
-    let mut no_normal = true;
-    let mut i = 0;
-    while i < held {
-        let t = trbs[i];
-        no_normal = and_no_normal(no_normal, t);
-        i += 1;
+    let sound = both(so_far.sound, is_sound_trb(variant));
+    let no_normal = both(so_far.no_normal, !is_normal(variant));
+    HeldTest {
+        sound: sound,
+        no_normal: no_normal,
     }
-    !no_normal
 }
 
-// Question 2.
-pub fn is_sound(block: InBlock) -> bool
-    ensures { λ r. ⌜ r ≡ soundBlock block ⌝ }
+// How many places are tested: those that are held, and no more than there are.
+pub fn places_held(held: usize) -> usize
+    ensures { λ r. ⌜ r ≡ min held maxHeld ⌝ }
 {
-    let endpoint_id = block.endpoint_id;
-    let slot_id = block.slot_id;
-    let trbs = block.trbs;
-    let state = block.state;
+    if held < trb::MAX_HELD {
+        held
+    } else {
+        trb::MAX_HELD
+    }
+}
+
+// Question 2, of a block with these ids and this state, of whose `held` TRBs the test found this.
+pub fn is_sound(
+    endpoint_id: EndpointId,
+    slot_id: SlotId,
+    state: TdBasedNormalSubmissionState,
+    held: usize,
+    test: HeldTest,
+) -> bool
+    ensures { λ r. ⌜ r ≡ soundAs «endpoint_id» «slot_id» state held test ⌝ }
+{
+    let sound = test.sound;
+    let no_normal = test.no_normal;
     if !trb::ids_in_range(endpoint_id, slot_id) {
         return false;
     }
-    if trb::MAX_HELD < block.held {
+    if trb::MAX_HELD < held {
         return false;
     }
-    if !held::held_sound(EndpointKind::In, trbs, block.held) {
+    if !sound {
         return false;
     }
     if !awaits_device(state) {
         return true;
     }
-    has_normal(trbs, block.held)
+    !no_normal
 }

@@ -8,7 +8,7 @@ use native.Mathlib.Omega.{arith}
 use lib.Dec.{leb}
 use borrow.Author.Tests.{le-leb, lt-leb}
 use lib.ListN.{length}
-use Rattle.trb.specs.Limits.{minLog, maxData}
+use Rattle.trb.specs.Limits.{maxHeld, minLog, maxData}
 use Rattle.trb.specs.declared.InTrbProcessingResult.{InTrbProcessingResult}
 use Rattle.trb.specs.declared.InTrbProcessingResult.the-variants.{NoneGiven, Given}
 use Rattle.trb.specs.declared.InTrbProcessingStatus.{InTrbProcessingStatus}
@@ -30,14 +30,22 @@ use Rattle.account.proofs.Accounted.{accounted}
 use Rattle.in_block.specs.Blocks.{heldOf}
 use Rattle.in_block.specs.Sound.{submissionDue, awaitsDevice, soundBlock}
 use Rattle.in_block.specs.declared.InBlock.{InBlock}
-use Rattle.in_endpoint.specs.Completion.{refused, givenIn, agree, transferred, completedIn, endingIn, completion, isAccepted, Accounted}
+use Rattle.in_endpoint.specs.Completion.{refused, givenIn, agree, transferred, completedIn, endingIn, LogsIf, completion, isAccepted, Accounted}
 use Rattle.in_endpoint.specs.declared.Completed.{Completed}
 use Rattle.in_endpoint.specs.declared.Ending.{Ending}
+use Rattle.in_endpoint.specs.declared.Ending.the-variants as ending
 
 -- ---- Cases
 
 pub endingIn-by : (b : InBlock) {x y : Ending} → x ≡ y → endingIn x b ≡ endingIn y b
 endingIn-by b e = ap (λ (x : Ending). endingIn x b) e
+
+-- of a sound block, with a log long enough
+pub logs-if : (x : Ending) (l : ℕ) (b : InBlock) → minLog ≤ l → b .held ≤ maxHeld → LogsIf x l b
+logs-if (ending.Refused q) l b long few = tt
+logs-if ending.Collecting l b long few = tt
+logs-if (ending.Transfer st n) l b long few = (long, few)
+logs-if (ending.Unsupported a) l b long few = long
 
 -- a walk counts its records
 pub processTd-counts : (td : InTd) (ts : List TransferTrb) → processTd td ts .state .progress .records ≡ length (processTd td ts .records)

@@ -24,7 +24,8 @@ use Rattle.in_block.specs.declared.InBlock.{InBlock}
 use Rattle.in_block.proofs.SoundLaws.{sound-trbs}
 use Rattle.in_request.proofs.RequestedLaws.{normal-length, requested-sound}
 use Rattle.in_request.specs.Requests.{inGuestMemory}
-use Rattle.in_endpoint.specs.Submission.{refused, accepted, firstAddress, requestLogged, tdEnded, holding, taken, submission}
+use Rattle.in_endpoint.specs.Submission.{refused, accepted, firstAddress, requestLogged, tdEnded, holding, taken, submission, takenIn}
+use Rattle.in_endpoint.specs.declared.Taken.{Taken}
 
 pub firstAddress-take : (xs : List TransferTrb) (n : ℕ) → 0 < n → getD xs 0 pastEnd .addr ≡ firstAddress (take n xs)
 firstAddress-take xs zero h = absurd (not-suc-le-zero h)
@@ -48,6 +49,9 @@ requested-stored b t sound room short =
       length-take (b .held) (b .trbs),
       normal-length (t .variant),
     ))
+
+pub takenIn-by : (b : InBlock) (t : TransferTrb) {x y : Taken} → x ≡ y → takenIn x b t ≡ takenIn y b t
+takenIn-by b t e = ap (λ (x : Taken). takenIn x b t) e
 
 -- ---- Cases, in the order of the questions
 

@@ -1,23 +1,26 @@
 -- 01, Completion on an IN endpoint: the questions in their order, and what is done once each was answered with yes; and demand 3 of
 -- a completion. Assumes nothing.
-use Prim.Native.Nat.{ℕ}
+use Prim.Native.Nat.{ℕ, _≤_}
 use mathlib.Core.Path.{_≡_}
 use mathlib.Core.Bool.{Bool, true, false, not, cond}
 use mathlib.Core.List.{List, [], _∷_}
 use lib.Dec.{leb}
-use lib.ListN.{length}
-use Rattle.trb.specs.Limits.{minLog, maxData}
+use lib.ListN.{length, take}
+use Rattle.trb.specs.Limits.{maxHeld, minLog, maxData}
 use Rattle.trb.specs.declared.CompletionAnswer.{CompletionAnswer}
 use Rattle.trb.specs.declared.CompletionAnswer.the-variants as answer
 use Rattle.trb.specs.declared.CompletionCode.the-variants as code
+use Rattle.trb.specs.declared.EndpointId.{EndpointId}
 use Rattle.trb.specs.declared.InTrbProcessingResult.{InTrbProcessingResult}
 use Rattle.trb.specs.declared.InTrbProcessingResult.the-variants.{NoneGiven, Given}
 use Rattle.trb.specs.declared.InTrbProcessingStatus.{InTrbProcessingStatus}
 use Rattle.trb.specs.declared.InTrbProcessingStatus.the-variants.{Success}
 use Rattle.trb.specs.declared.Refusal.{Refusal}
 use Rattle.trb.specs.declared.Refusal.the-variants.{BufferTooShort, UnsoundBlock, OutOfTurn, DeviceResultMismatch, DataTooLong}
+use Rattle.trb.specs.declared.SlotId.{SlotId}
 use Rattle.trb.specs.declared.TdBasedNormalSubmissionState.{TdBasedNormalSubmissionState}
 use Rattle.trb.specs.declared.TdBasedNormalSubmissionState.the-variants.{SubmissionDue, CollectingTd, AwaitingRealTransfer, AwaitingLocalCompletion, UnsupportedTrb}
+use Rattle.trb.specs.declared.TransferTrb.{TransferTrb}
 use Rattle.trb.specs.declared.TrbProcessingResult.{TrbProcessingResult}
 use Rattle.trb.specs.declared.TrbProcessingResult.the-variants as result
 use Rattle.log.specs.Calls.{Out, silent}
@@ -26,19 +29,18 @@ use Rattle.log.specs.declared.Record.{Record}
 use Rattle.in_td.specs.Td.{inTd, processTd}
 use Rattle.in_td.specs.declared.TdProcessed.{TdProcessed}
 use Rattle.account.specs.Guest.{Distinct, IspOnNormals, LastNormalWithIoc, Account}
-use Rattle.in_block.specs.Blocks.{heldOf, withState, emptied}
+use Rattle.in_block.specs.Blocks.{inBlock, heldOf, withState, emptied}
 use Rattle.in_block.specs.Sound.{submissionDue, awaitsDevice, soundBlock}
+use Rattle.in_block.specs.Test.{heldTest}
+use Rattle.in_block.specs.declared.HeldTest.{HeldTest}
 use Rattle.in_block.specs.declared.InBlock.{InBlock}
 use Rattle.in_endpoint.specs.declared.Completed.{Completed}
 use Rattle.in_endpoint.specs.declared.Ending.{Ending}
 use Rattle.in_endpoint.specs.declared.Ending.the-variants as ending
 
 -- a no ends the call with its number, zero records, and block and log unchanged
-abbrev pub completionRefused : Refusal → InBlock → Completed
-completionRefused r b = record { answer = answer.Refused r; records = 0; block = b }
-
 abbrev pub refused : Refusal → InBlock → Out Completed
-refused r b = silent (completionRefused r b)
+refused r b = silent (record { answer = answer.Refused r; records = 0; block = b })
 
 -- a device result is given
 abbrev pub givenIn : InTrbProcessingResult → Bool
@@ -61,10 +63,13 @@ unfoldable pub transferred : InBlock → InTrbProcessingStatus → ℕ → Out C
 transferred b st n = processed (processTd (inTd (b .«endpoint_id») (b .«slot_id») st n) (heldOf b)) b
 
 -- 01, IN endpoint: completion then logs an event with code 5, residual 0, at its address; result TrbError
+abbrev pub unsupportedEvent : ℕ → EndpointId → SlotId → Record
+unsupportedEvent a e s = transferEvent a 0 code.TrbError false e s
+
 abbrev pub unsupported : InBlock → ℕ → Out Completed
 unsupported b a = record {
   state = completed result.TrbError 1 b;
-  records = transferEvent a 0 code.TrbError false (b .«endpoint_id») (b .«slot_id») ∷ [];
+  records = unsupportedEvent a (b .«endpoint_id») (b .«slot_id») ∷ [];
 }
 
 -- a completion while TRBs are still being collected logs nothing, keeps them, and its result is Ok
@@ -104,6 +109,31 @@ completion l b r n =
     (refused DeviceResultMismatch b)))
     (refused UnsoundBlock b))
     (refused BufferTooShort b)
+
+abbrev pub answerTo : Ending → TrbProcessingResult → CompletionAnswer
+answerTo (ending.Refused q) r = answer.Refused q
+answerTo ending.Collecting r = answer.Completed result.Ok
+answerTo (ending.Transfer st n) r = answer.Completed r
+answerTo (ending.Unsupported a) r = answer.Completed result.TrbError
+
+abbrev pub stateBehind : Ending → TdBasedNormalSubmissionState → TdBasedNormalSubmissionState
+stateBehind (ending.Refused q) state = state
+stateBehind ending.Collecting state = SubmissionDue
+stateBehind (ending.Transfer st n) state = SubmissionDue
+stateBehind (ending.Unsupported a) state = SubmissionDue
+
+-- what was answered with yes, where the completion logs
+abbrev pub LogsIf : Ending → ℕ → InBlock → Type 0
+LogsIf (ending.Refused q) l b = Unit
+LogsIf ending.Collecting l b = Unit
+LogsIf (ending.Transfer st n) l b = (minLog ≤ l) × (b .held ≤ maxHeld)
+LogsIf (ending.Unsupported a) l b = minLog ≤ l
+
+-- the ending of every block with these ids and this state, of whose n TRBs held the test found this, with m bytes of data
+abbrev pub Completes : ℕ → EndpointId → SlotId → TdBasedNormalSubmissionState → ℕ → HeldTest → InTrbProcessingResult → ℕ → Ending → Type 0
+Completes l e s state n test r m end =
+    (ts : List TransferTrb) → test ≡ heldTest (take n ts)
+    → (completion l (inBlock e s state n ts) r m ≡ endingIn end (inBlock e s state n ts)) × LogsIf end l (inBlock e s state n ts)
 
 abbrev pub isAccepted : CompletionAnswer → Bool
 isAccepted (answer.Completed r) = true

@@ -1,8 +1,7 @@
 // The IN endpoint: creation, submission, completion and cancel; ports `TdBasedInEndpointHandle`.
 use held::EndpointKind;
+use in_block::HeldTest;
 use in_block::InBlock;
-use in_td::InTd;
-use td_part::TdInfo;
 use trb::Answer;
 use trb::CompletionAnswer;
 use trb::CompletionCode;
@@ -15,19 +14,16 @@ use trb::TdBasedNormalSubmissionState;
 use trb::TransferTrb;
 use trb::TrbProcessingResult;
 ghost use mathlib.Core.Path.{_≡_};
-ghost use mathlib.Core.Bool.{true};
+ghost use mathlib.Core.List.{[], _∷_};
 ghost use Prim.Native.Nat.{_<_, _≤_, _^_};
-ghost use lib.ListN.{length};
-ghost use Rattle.trb.specs.Limits.{maxHeld, maxTransferLength, minLog};
-ghost use Rattle.trb.specs.Trbs.{transferLength};
-ghost use Rattle.log.specs.Calls.{Meets};
+ghost use lib.ListN.{length, take};
+ghost use Rattle.trb.specs.Limits.{maxHeld, minLog};
+ghost use Rattle.log.specs.Calls.{Put, Meets};
 ghost use Rattle.log.specs.Logs.{recordsIn};
 ghost use Rattle.account.specs.Guest.{requested};
-ghost use Rattle.in_block.specs.Blocks.{heldOf};
-ghost use Rattle.in_block.specs.Sound.{soundBlock};
 ghost use Rattle.in_endpoint.specs.Creation.{creation, cancelled};
-ghost use Rattle.in_endpoint.specs.Submission.{submissionRefused, tdEnded, holding, taken, submission};
-ghost use Rattle.in_endpoint.specs.Completion.{completionRefused, givenIn, agree, transferred, unsupported, Ends, completion, Accounted};
+ghost use Rattle.in_endpoint.specs.Submission.{requestOf, answerOf, stateAfter, Takes, submission};
+ghost use Rattle.in_endpoint.specs.Completion.{givenIn, agree, unsupportedEvent, Ends, answerTo, stateBehind, Completes, completion, Accounted};
 
 pub struct Created {
     pub answer: Answer,
@@ -68,93 +64,111 @@ pub fn create(endpoint_id: EndpointId, slot_id: SlotId) -> Created
 
 // ---- Submission
 
-fn refuse_submission(refusal: Refusal, block: InBlock) -> Submitted
-    ensures { λ r. ⌜ r ≡ submissionRefused refusal block ⌝ }
-{
-    Submitted {
-        answer: Answer::Refused(refusal),
-        records: 0,
-        block: block,
-    }
+// What becomes of a TRB that is submitted: held while its TD goes on, it may end the TD, whose completion is then local or waits for
+// the device.
+enum Taken {
+    Refused(Refusal),
+    Dropped,
+    Collected,
+    Local,
+    Requested,
 }
 
-// The last TRB held has ended its TD: its request is logged, or its completion is local.
-fn end_td(log: &mut [u8], block: InBlock) -> Submitted
-    requires { ⌜ (minLog ≤ length (now log)) × ((0 < block .held) × ((block .held ≤ maxHeld) × (requested (heldOf block) < 2 ^ 32))) ⌝ }
-    ensures { λ r. ⌜ Meets (tdEnded block) 0 (now (log .entry)) r (now (log .exit)) ⌝ }
-{
-    let trbs = block.trbs;
-    if !in_block::has_normal(trbs, block.held) {
-        let next = in_block::with_state(
-            block,
-            TdBasedNormalSubmissionState::AwaitingLocalCompletion,
-        );
-        return Submitted {
-            answer: Answer::Accepted,
-            records: 0,
-            block: next,
-        };
-    }
-    let first = trbs[0];
-    let length = in_request::requested_length(trbs, block.held);
-    let request = log::in_request(first.addr, length, block.endpoint_id, block.slot_id);
-    log::put_record(log, 0, request);
-    let next = in_block::with_state(block, TdBasedNormalSubmissionState::AwaitingRealTransfer);
-    Submitted {
-        answer: Answer::Accepted,
-        records: 1,
-        block: next,
-    }
-}
-
-// The TRB is held.
-fn hold(log: &mut [u8], block: InBlock, t: TransferTrb) -> Submitted
-    requires { ⌜ (minLog ≤ length (now log)) × ((soundBlock block ≡ true) × ((block .held < maxHeld) × (transferLength (t .variant) ≤ maxTransferLength))) ⌝ }
-    ensures { λ r. ⌜ Meets (holding block t) 0 (now (log .entry)) r (now (log .exit)) ⌝ }
-{
-    let variant = t.variant;
-    if trb::chain_of(variant) {
-        let next = in_block::hold(block, t, TdBasedNormalSubmissionState::CollectingTd);
-        return Submitted {
-            answer: Answer::Accepted,
-            records: 0,
-            block: next,
-        };
-    }
-    let stored = in_block::store(block, t);
-    end_td(log, stored)
-}
-
-// A TRB of an unsupported kind drops those held; of any other, questions 5 and 6 are asked.
+// Questions 1 to 6, of a block with these ids and this state, of whose `held` TRBs the test found this. A TRB of an unsupported kind
+// drops those held; of any other, questions 5 and 6 are asked.
 fn take_trb(
-    log: &mut [u8],
-    block: InBlock,
+    log_length: usize,
+    endpoint_id: EndpointId,
+    slot_id: SlotId,
+    state: TdBasedNormalSubmissionState,
+    held: usize,
+    test: HeldTest,
     t: TransferTrb,
     window_base: u64,
     window_size: usize,
-) -> Submitted
-    requires { ⌜ (minLog ≤ length (now log)) × ((soundBlock block ≡ true) × (transferLength (t .variant) ≤ maxTransferLength)) ⌝ }
-    ensures { λ r. ⌜ Meets (taken block t «window_base» «window_size») 0 (now (log .entry)) r (now (log .exit)) ⌝ }
+) -> Taken
+    ensures { λ r. ⌜ Takes «log_length» «endpoint_id» «slot_id» state held test t «window_base» «window_size» r ⌝ }
 {
     let variant = t.variant;
-    if !held::supports(EndpointKind::In, variant) {
-        let next = in_block::empty(block, TdBasedNormalSubmissionState::UnsupportedTrb(t.addr));
-        return Submitted {
-            answer: Answer::Accepted,
-            records: 0,
-            block: next,
-        };
+    if log_length < trb::MIN_LOG {
+        return Taken::Refused(Refusal::BufferTooShort);
     }
-    if trb::MAX_HELD <= block.held {
-        return refuse_submission(Refusal::TooManyHeld, block);
+    if !in_block::is_sound(endpoint_id, slot_id, state, held, test) {
+        return Taken::Refused(Refusal::UnsoundBlock);
+    }
+    if !in_block::submission_due(state) {
+        return Taken::Refused(Refusal::OutOfTurn);
+    }
+    if trb::MAX_TRANSFER_LENGTH < trb::transfer_length(variant) {
+        return Taken::Refused(Refusal::TransferTooLong);
+    }
+    if !held::supports(EndpointKind::In, variant) {
+        return Taken::Dropped;
+    }
+    if trb::MAX_HELD <= held {
+        return Taken::Refused(Refusal::TooManyHeld);
     }
     if !in_request::in_guest_memory(variant, window_base, window_size) {
-        return refuse_submission(Refusal::OutsideGuestMemory, block);
+        return Taken::Refused(Refusal::OutsideGuestMemory);
     }
-    hold(log, block, t)
+    if trb::chain_of(variant) {
+        return Taken::Collected;
+    }
+    let of_td = in_block::test_trb(test, t);
+    if of_td.no_normal {
+        return Taken::Local;
+    }
+    Taken::Requested
 }
 
-// Questions 1 to 6; ports `submit_trb`. Of the guest window only base and length are read.
+// Logs the request of the TD that the first `held` TRBs are.
+fn log_request(
+    log: &mut [u8],
+    trbs: [TransferTrb; trb::MAX_HELD],
+    held: usize,
+    endpoint_id: EndpointId,
+    slot_id: SlotId,
+)
+    requires { ⌜ (minLog ≤ length (now log)) × ((0 < held) × ((held ≤ maxHeld) × (requested (take held trbs) < 2 ^ 32))) ⌝ }
+    ensures { λ _. ⌜ Put (now (log .entry)) 0 (requestOf (take held trbs) «endpoint_id» «slot_id» ∷ []) (now (log .exit)) ⌝ }
+{
+    let first = trbs[0];
+    let length = in_request::requested_length(trbs, held);
+    let request = log::in_request(first.addr, length, endpoint_id, slot_id);
+    log::put_record(log, 0, request);
+}
+
+fn answer_of(taken: Taken) -> Answer
+    ensures { λ r. ⌜ r ≡ answerOf taken ⌝ }
+{
+    match taken {
+        Taken::Refused(refusal) => Answer::Refused(refusal),
+        Taken::Dropped => Answer::Accepted,
+        Taken::Collected => Answer::Accepted,
+        Taken::Local => Answer::Accepted,
+        Taken::Requested => Answer::Accepted,
+    }
+}
+
+// The state that a TRB at `addr` leaves.
+fn state_after(
+    taken: Taken,
+    state: TdBasedNormalSubmissionState,
+    addr: u64,
+) -> TdBasedNormalSubmissionState
+    ensures { λ r. ⌜ r ≡ stateAfter taken state addr ⌝ }
+{
+    match taken {
+        Taken::Refused(_) => state,
+        Taken::Dropped => TdBasedNormalSubmissionState::UnsupportedTrb(addr),
+        Taken::Collected => TdBasedNormalSubmissionState::CollectingTd,
+        Taken::Local => TdBasedNormalSubmissionState::AwaitingLocalCompletion,
+        Taken::Requested => TdBasedNormalSubmissionState::AwaitingRealTransfer,
+    }
+}
+
+// Ports `submit_trb`. Of the guest window only base and length are read. The places are copied once, and there is one way out: copies
+// of the block are most of what a call costs.
 pub fn submit_trb(
     log: &mut [u8],
     block: InBlock,
@@ -164,34 +178,72 @@ pub fn submit_trb(
 ) -> Submitted
     ensures { λ r. ⌜ Meets (submission (length (now (log .entry))) block t «window_base» (length (now (window .entry)))) 0 (now (log .entry)) r (now (log .exit)) ⌝ }
 {
+    let endpoint_id = block.endpoint_id;
+    let slot_id = block.slot_id;
     let state = block.state;
-    let variant = t.variant;
-    if log.len() < trb::MIN_LOG {
-        return refuse_submission(Refusal::BufferTooShort, block);
+    let mut held = block.held;
+    let mut trbs = block.trbs;
+    let places = in_block::places_held(held);
+    let mut test = HeldTest {
+        sound: true,
+        no_normal: true,
+    };
+    let mut i = 0;
+    while i < places {
+        let one = trbs[i];
+        test = in_block::test_trb(test, one);
+        i += 1;
     }
-    if !in_block::is_sound(block) {
-        return refuse_submission(Refusal::UnsoundBlock, block);
+    let taken = take_trb(
+        log.len(),
+        endpoint_id,
+        slot_id,
+        state,
+        held,
+        test,
+        t,
+        window_base,
+        window.len(),
+    );
+    let mut records = 0;
+    match taken {
+        Taken::Refused(_) => {}
+        Taken::Dropped => {
+            trbs = held::clear(trbs, held);
+            held = 0;
+        }
+        Taken::Collected => {
+            trbs[held] = t;
+            held += 1;
+        }
+        Taken::Local => {
+            trbs[held] = t;
+            held += 1;
+        }
+        Taken::Requested => {
+            trbs[held] = t;
+            held += 1;
+            log_request(log, trbs, held, endpoint_id, slot_id);
+            records = 1;
+        }
     }
-    if !in_block::submission_due(state) {
-        return refuse_submission(Refusal::OutOfTurn, block);
+    let answer = answer_of(taken);
+    let next_state = state_after(taken, state, t.addr);
+    let next = InBlock {
+        endpoint_id: endpoint_id,
+        slot_id: slot_id,
+        state: next_state,
+        held: held,
+        trbs: trbs,
+    };
+    Submitted {
+        answer: answer,
+        records: records,
+        block: next,
     }
-    if trb::MAX_TRANSFER_LENGTH < trb::transfer_length(variant) {
-        return refuse_submission(Refusal::TransferTooLong, block);
-    }
-    take_trb(log, block, t, window_base, window.len())
 }
 
 // ---- Completion
-
-fn refuse_completion(refusal: Refusal, block: InBlock) -> Completed
-    ensures { λ r. ⌜ r ≡ completionRefused refusal block ⌝ }
-{
-    Completed {
-        answer: CompletionAnswer::Refused(refusal),
-        records: 0,
-        block: block,
-    }
-}
 
 fn is_given(result: InTrbProcessingResult) -> bool
     ensures { λ r. ⌜ r ≡ givenIn result ⌝ }
@@ -206,61 +258,6 @@ fn is_agreed(a: bool, b: bool) -> bool
     ensures { λ r. ⌜ r ≡ agree a b ⌝ }
 {
     if a { b } else { !b }
-}
-
-// The walk over the TRBs held, with this status and so many bytes of data.
-fn transfer(
-    log: &mut [u8],
-    block: InBlock,
-    status: InTrbProcessingStatus,
-    data_length: u32,
-) -> Completed
-    requires { ⌜ (minLog ≤ length (now log)) × (block .held ≤ maxHeld) ⌝ }
-    ensures { λ r. ⌜ Meets (transferred block status «data_length») 0 (now (log .entry)) r (now (log .exit)) ⌝ }
-{
-    let trbs = block.trbs;
-    let endpoint_id = block.endpoint_id;
-    let slot_id = block.slot_id;
-    let info = TdInfo {
-        endpoint_id: endpoint_id,
-        slot_id: slot_id,
-        data_length: data_length,
-    };
-    let td = InTd {
-        info: info,
-        status: status,
-    };
-    let processed = in_td::process_td(log, td, trbs, block.held);
-    let progress = processed.progress;
-    let result = processed.result;
-    let next = in_block::empty(block, TdBasedNormalSubmissionState::SubmissionDue);
-    Completed {
-        answer: CompletionAnswer::Completed(result),
-        records: progress.records,
-        block: next,
-    }
-}
-
-// The TRB at `addr` was of an unsupported kind.
-fn report_unsupported(log: &mut [u8], block: InBlock, addr: u64) -> Completed
-    requires { ⌜ minLog ≤ length (now log) ⌝ }
-    ensures { λ r. ⌜ Meets (unsupported block addr) 0 (now (log .entry)) r (now (log .exit)) ⌝ }
-{
-    let event = log::transfer_event(
-        addr,
-        0,
-        CompletionCode::TrbError,
-        false,
-        block.endpoint_id,
-        block.slot_id,
-    );
-    log::put_record(log, 0, event);
-    let next = in_block::empty(block, TdBasedNormalSubmissionState::SubmissionDue);
-    Completed {
-        answer: CompletionAnswer::Completed(TrbProcessingResult::TrbError),
-        records: 1,
-        block: next,
-    }
 }
 
 // What a completion comes to, once every question was answered with yes.
@@ -293,7 +290,77 @@ fn ending_of(
     }
 }
 
-// Questions 1, 2, 3, 8 and 9; ports `next_completion`. Of the device's data only the length is read.
+// Questions 1, 2, 3, 8 and 9, of a block with these ids and this state, of whose `held` TRBs `test` was found.
+fn ask_completion(
+    log_length: usize,
+    endpoint_id: EndpointId,
+    slot_id: SlotId,
+    state: TdBasedNormalSubmissionState,
+    held: usize,
+    test: HeldTest,
+    result: InTrbProcessingResult,
+    data_length: usize,
+) -> Ending
+    ensures { λ r. ⌜ Completes «log_length» «endpoint_id» «slot_id» state held test result «data_length» r ⌝ }
+{
+    if log_length < trb::MIN_LOG {
+        return Ending::Refused(Refusal::BufferTooShort);
+    }
+    if !in_block::is_sound(endpoint_id, slot_id, state, held, test) {
+        return Ending::Refused(Refusal::UnsoundBlock);
+    }
+    if in_block::submission_due(state) {
+        return Ending::Refused(Refusal::OutOfTurn);
+    }
+    if !is_agreed(is_given(result), in_block::awaits_device(state)) {
+        return Ending::Refused(Refusal::DeviceResultMismatch);
+    }
+    if trb::MAX_DATA < data_length {
+        return Ending::Refused(Refusal::DataTooLong);
+    }
+    ending_of(state, result, data_length as u32)
+}
+
+// Reports the TRB at `addr`, which was of an unsupported kind.
+fn report_unsupported(log: &mut [u8], addr: u64, endpoint_id: EndpointId, slot_id: SlotId)
+    requires { ⌜ minLog ≤ length (now log) ⌝ }
+    ensures { λ _. ⌜ Put (now (log .entry)) 0 (unsupportedEvent addr «endpoint_id» «slot_id» ∷ []) (now (log .exit)) ⌝ }
+{
+    let event = log::transfer_event(
+        addr,
+        0,
+        CompletionCode::TrbError,
+        false,
+        endpoint_id,
+        slot_id,
+    );
+    log::put_record(log, 0, event);
+}
+
+// The answer, where the walk came to this result.
+fn answer_to(ending: Ending, result: TrbProcessingResult) -> CompletionAnswer
+    ensures { λ r. ⌜ r ≡ answerTo ending result ⌝ }
+{
+    match ending {
+        Ending::Refused(refusal) => CompletionAnswer::Refused(refusal),
+        Ending::Collecting => CompletionAnswer::Completed(TrbProcessingResult::Ok),
+        Ending::Transfer(_, _) => CompletionAnswer::Completed(result),
+        Ending::Unsupported(_) => CompletionAnswer::Completed(TrbProcessingResult::TrbError),
+    }
+}
+
+fn state_behind(ending: Ending, state: TdBasedNormalSubmissionState) -> TdBasedNormalSubmissionState
+    ensures { λ r. ⌜ r ≡ stateBehind ending state ⌝ }
+{
+    match ending {
+        Ending::Refused(_) => state,
+        Ending::Collecting => TdBasedNormalSubmissionState::SubmissionDue,
+        Ending::Transfer(_, _) => TdBasedNormalSubmissionState::SubmissionDue,
+        Ending::Unsupported(_) => TdBasedNormalSubmissionState::SubmissionDue,
+    }
+}
+
+// Ports `next_completion`. Of the device's data only the length is read. The places are copied once, and there is one way out.
 pub fn next_completion(
     log: &mut [u8],
     block: InBlock,
@@ -303,35 +370,66 @@ pub fn next_completion(
     ensures met { λ r. ⌜ Meets (completion (length (now (log .entry))) block result (length (now («data» .entry)))) 0 (now (log .entry)) r (now (log .exit)) ⌝ }
     ensures account { λ r. ⌜ Accounted block (length (now («data» .entry))) (r .answer) (recordsIn (r .records) (now (log .exit))) ⌝ }
 {
+    let endpoint_id = block.endpoint_id;
+    let slot_id = block.slot_id;
     let state = block.state;
-    if log.len() < trb::MIN_LOG {
-        return refuse_completion(Refusal::BufferTooShort, block);
+    let mut held = block.held;
+    let mut trbs = block.trbs;
+    let places = in_block::places_held(held);
+    let mut test = HeldTest {
+        sound: true,
+        no_normal: true,
+    };
+    let mut i = 0;
+    while i < places {
+        let one = trbs[i];
+        test = in_block::test_trb(test, one);
+        i += 1;
     }
-    if !in_block::is_sound(block) {
-        return refuse_completion(Refusal::UnsoundBlock, block);
-    }
-    if in_block::submission_due(state) {
-        return refuse_completion(Refusal::OutOfTurn, block);
-    }
-    if !is_agreed(is_given(result), in_block::awaits_device(state)) {
-        return refuse_completion(Refusal::DeviceResultMismatch, block);
-    }
-    if trb::MAX_DATA < data.len() {
-        return refuse_completion(Refusal::DataTooLong, block);
-    }
-    let ending = ending_of(state, result, data.len() as u32);
+    let ending = ask_completion(
+        log.len(),
+        endpoint_id,
+        slot_id,
+        state,
+        held,
+        test,
+        result,
+        data.len(),
+    );
+    let mut walked = TrbProcessingResult::Ok;
+    let mut records = 0;
     match ending {
-        Ending::Refused(refusal) => refuse_completion(refusal, block),
-        Ending::Collecting => {
-            let next = in_block::with_state(block, TdBasedNormalSubmissionState::SubmissionDue);
-            Completed {
-                answer: CompletionAnswer::Completed(TrbProcessingResult::Ok),
-                records: 0,
-                block: next,
-            }
+        Ending::Refused(_) => {}
+        Ending::Collecting => {}
+        Ending::Transfer(status, data_length) => {
+            let td = in_td::td_of(endpoint_id, slot_id, status, data_length);
+            let processed = in_td::process_td(log, td, trbs, held);
+            let progress = processed.progress;
+            walked = processed.result;
+            records = progress.records;
+            trbs = held::clear(trbs, held);
+            held = 0;
         }
-        Ending::Transfer(status, data_length) => transfer(log, block, status, data_length),
-        Ending::Unsupported(addr) => report_unsupported(log, block, addr),
+        Ending::Unsupported(addr) => {
+            report_unsupported(log, addr, endpoint_id, slot_id);
+            records = 1;
+            trbs = held::clear(trbs, held);
+            held = 0;
+        }
+    }
+    let answer = answer_to(ending, walked);
+    let next_state = state_behind(ending, state);
+    let next = InBlock {
+        endpoint_id: endpoint_id,
+        slot_id: slot_id,
+        state: next_state,
+        held: held,
+        trbs: trbs,
+    };
+    Completed {
+        answer: answer,
+        records: records,
+        block: next,
     }
 }
 

@@ -3,8 +3,10 @@ use td_part::TdInfo;
 use td_part::TdProcessingState;
 use td_part::TdProgress;
 use trb::CompletionCode;
+use trb::EndpointId;
 use trb::InTrbProcessingStatus;
 use trb::NormalTrb;
+use trb::SlotId;
 use trb::TransferTrb;
 use trb::TransferTrbVariant;
 use trb::TrbProcessingResult;
@@ -15,7 +17,7 @@ ghost use lib.ListN.{length, take};
 ghost use Rattle.trb.specs.Limits.{recordLength, maxHeld, minLog};
 ghost use Rattle.log.specs.Calls.{Meets};
 ghost use Rattle.td_part.specs.Parts.{Within, ofNormal, residualOf, putDma};
-ghost use Rattle.in_td.specs.Td.{goingOn, endsWith, shortNormal, handleNormal, processTrb, processTd, isError, unprocessed};
+ghost use Rattle.in_td.specs.Td.{goingOn, endsWith, shortNormal, handleNormal, processTrb, processTd, isError, unprocessed, inTd};
 
 // What stays the same over an IN TD.
 pub struct InTd {
@@ -186,7 +188,7 @@ pub fn process_trb(log: &mut [u8], td: InTd, so_far: TdProcessed, t: TransferTrb
     }
 }
 
-fn is_error(result: TrbProcessingResult) -> bool
+pub fn is_error(result: TrbProcessingResult) -> bool
     ensures { λ r. ⌜ r ≡ isError result ⌝ }
 {
     match result {
@@ -200,6 +202,32 @@ fn is_error(result: TrbProcessingResult) -> bool
     }
 }
 
+pub fn td_of(
+    endpoint_id: EndpointId,
+    slot_id: SlotId,
+    status: InTrbProcessingStatus,
+    data_length: u32,
+) -> InTd
+    ensures { λ r. ⌜ r ≡ inTd «endpoint_id» «slot_id» status «data_length» ⌝ }
+{
+    let info = TdInfo {
+        endpoint_id: endpoint_id,
+        slot_id: slot_id,
+        data_length: data_length,
+    };
+    InTd {
+        info: info,
+        status: status,
+    }
+}
+
+// No TRB was processed yet.
+pub fn unprocessed() -> TdProcessed
+    ensures { λ r. ⌜ r ≡ unprocessed ⌝ }
+{
+    going_on(td_part::at_start_of_td())
+}
+
 // The walk over the first `held` TRBs.
 pub fn process_td(
     log: &mut [u8],
@@ -210,7 +238,7 @@ pub fn process_td(
     requires { ⌜ (minLog ≤ length (now log)) × (held ≤ maxHeld) ⌝ }
     ensures { λ r. ⌜ Meets (processTd td (take held trbs)) 0 (now (log .entry)) r (now (log .exit)) ⌝ }
 {
-    let mut processed = going_on(td_part::at_start_of_td());
+    let mut processed = unprocessed();
     let mut i = 0;
     while i < held {
         let t = trbs[i];

@@ -1,11 +1,8 @@
--- What the entry for a lent row does on its way: a test of every TRB, the questions, and the walk. Assumes nothing.
+-- What the entry for a lent row does on its way: the questions, and the walk. Assumes nothing.
 use Prim.Native.Nat.{ℕ}
-use mathlib.Core.Bool.{Bool, not, cond, _&&_}
-use mathlib.Core.List.{List}
+use mathlib.Core.Bool.{Bool, cond}
 use lib.Dec.{leb}
-use Rattle.trb.specs.Ids.{idsInRange}
-use Rattle.trb.specs.Limits.{maxHeld, maxTransferLength, minLog, maxData}
-use Rattle.trb.specs.Trbs.{transferLength}
+use Rattle.trb.specs.Limits.{minLog, maxData}
 use Rattle.trb.specs.declared.CompletionAnswer.the-variants as answer
 use Rattle.trb.specs.declared.EndpointId.{EndpointId}
 use Rattle.trb.specs.declared.InTrbProcessingResult.{InTrbProcessingResult}
@@ -15,13 +12,11 @@ use Rattle.trb.specs.declared.InTrbProcessingStatus.the-variants.{Success}
 use Rattle.trb.specs.declared.Refusal.{Refusal}
 use Rattle.trb.specs.declared.Refusal.the-variants.{BufferTooShort, UnsoundBlock, DeviceResultMismatch, DataTooLong}
 use Rattle.trb.specs.declared.SlotId.{SlotId}
+use Rattle.trb.specs.declared.TdBasedNormalSubmissionState.the-variants.{AwaitingRealTransfer}
 use Rattle.trb.specs.declared.TransferTrb.{TransferTrb}
-use Rattle.trb.specs.declared.TransferTrbVariant.{TransferTrbVariant}
 use Rattle.log.specs.Calls.{Out, silent}
-use Rattle.held.specs.Sound.{supported, heldSound}
-use Rattle.held.specs.declared.EndpointKind.the-variants.{In}
-use Rattle.walks.specs.All.{all}
-use Rattle.in_block.specs.Sound.{isNormal}
+use Rattle.in_block.specs.Test.{soundAs}
+use Rattle.in_block.specs.declared.HeldTest.{HeldTest}
 use Rattle.in_td.specs.Td.{inTd, processTrb, ended, unprocessed}
 use Rattle.in_td.specs.declared.InTd.{InTd}
 use Rattle.in_td.specs.declared.TdProcessed.{TdProcessed}
@@ -29,22 +24,6 @@ use Rattle.row_plan.specs.declared.RowAsked.{RowAsked}
 use Rattle.row_plan.specs.declared.RowAsked.the-variants as asked
 use Rattle.row_plan.specs.declared.RowCompleted.{RowCompleted}
 use Rattle.row_plan.specs.declared.RowPlan.{RowPlan}
-use Rattle.row_plan.specs.declared.RowTest.{RowTest}
-
--- ---- The test
-
-abbrev pub isOther : TransferTrbVariant → Bool
-isOther v = not (isNormal v)
-
--- of a kind that an IN endpoint supports, its length at most 131,071
-abbrev pub soundIn : TransferTrbVariant → Bool
-soundIn v = supported In v && leb (transferLength v) maxTransferLength
-
-abbrev pub trbTest : RowTest → TransferTrb → RowTest
-trbTest r t = record { sound = r .sound && soundIn (t .variant); «no_normal» = r .«no_normal» && isOther (t .variant) }
-
-abbrev pub rowTest : List TransferTrb → RowTest
-rowTest ts = record { sound = heldSound In ts; «no_normal» = all (λ t. isOther (t .variant)) ts }
 
 -- ---- The questions
 
@@ -55,10 +34,9 @@ refusedPlan e s r = record { asked = asked.Refused r; td = inTd e s Success 0; s
 abbrev pub acceptedPlan : EndpointId → SlotId → ℕ → InTrbProcessingStatus → ℕ → RowPlan
 acceptedPlan e s k st n = record { asked = asked.Accepted; td = inTd e s st n; start = unprocessed; count = k }
 
--- 01, Submission: ids in range; at most 64 TRBs held, all of kinds this endpoint supports, each length at most 131,071; an IN block
--- awaiting the device holds a Normal
-unfoldable pub soundRow : EndpointId → SlotId → ℕ → RowTest → Bool
-soundRow e s k t = idsInRange e s && (leb k maxHeld && (t .sound && not (t .«no_normal»)))
+-- question 2 of a block that awaits the device and holds a row of k TRBs, of which the test found this
+abbrev pub soundRow : EndpointId → SlotId → ℕ → HeldTest → Bool
+soundRow e s k t = soundAs e s AwaitingRealTransfer k t
 
 -- 01, Completion: is a device result given (8), and is the data at most 16,777,215 bytes (9)?
 abbrev pub resultPlan : EndpointId → SlotId → ℕ → InTrbProcessingResult → ℕ → RowPlan
@@ -66,7 +44,7 @@ resultPlan e s k NoneGiven n = refusedPlan e s DeviceResultMismatch
 resultPlan e s k (Given st) n = cond (leb n maxData) (acceptedPlan e s k st n) (refusedPlan e s DataTooLong)
 
 -- with a log of l bytes, a row of k TRBs and n bytes of data: is the log long enough (1), the block sound (2)?
-unfoldable pub rowPlan : ℕ → EndpointId → SlotId → ℕ → RowTest → InTrbProcessingResult → ℕ → RowPlan
+unfoldable pub rowPlan : ℕ → EndpointId → SlotId → ℕ → HeldTest → InTrbProcessingResult → ℕ → RowPlan
 rowPlan l e s k t r n = cond (leb minLog l) (cond (soundRow e s k t) (resultPlan e s k r n) (refusedPlan e s UnsoundBlock)) (refusedPlan e s BufferTooShort)
 
 -- ---- The walk

@@ -1,36 +1,26 @@
-// What the entry for a lent row of TRBs does beside walking the row: the test of a TRB, the questions, a TRB's turn, the answer.
-use held::EndpointKind;
+// What the entry for a lent row of TRBs does beside walking the row: the questions, a TRB's turn, the answer.
+use in_block::HeldTest;
 use in_td::InTd;
 use in_td::TdProcessed;
-use td_part::TdInfo;
 use trb::CompletionAnswer;
 use trb::EndpointId;
 use trb::InTrbProcessingResult;
 use trb::InTrbProcessingStatus;
 use trb::Refusal;
 use trb::SlotId;
+use trb::TdBasedNormalSubmissionState;
 use trb::TransferTrb;
-use trb::TransferTrbVariant;
-use trb::TrbProcessingResult;
 ghost use mathlib.Core.Path.{_≡_};
-ghost use mathlib.Core.Bool.{_&&_};
 ghost use Prim.Native.Nat.{_+_, _*_, _≤_};
 ghost use lib.ListN.{length};
 ghost use Rattle.trb.specs.Limits.{recordLength};
 ghost use Rattle.log.specs.Calls.{Meets};
 ghost use Rattle.td_part.specs.Parts.{Within};
-ghost use Rattle.in_td.specs.Td.{isError, inTd, unprocessed};
-ghost use Rattle.row_plan.specs.Plans.{isOther, soundIn, trbTest, refusedPlan, soundRow, resultPlan, rowPlan, nextTrb, rowAnswer};
+ghost use Rattle.row_plan.specs.Plans.{refusedPlan, resultPlan, rowPlan, nextTrb, rowAnswer};
 
 pub struct RowCompleted {
     pub answer: CompletionAnswer,
     pub records: usize,
-}
-
-// What question 2 asks of each TRB: is every one sound, and none a Normal?
-pub struct RowTest {
-    pub sound: bool,
-    pub no_normal: bool,
 }
 
 // What the questions came to.
@@ -47,104 +37,17 @@ pub struct RowPlan {
     pub count: usize,
 }
 
-fn is_other(variant: TransferTrbVariant) -> bool
-    ensures { λ r. ⌜ r ≡ isOther variant ⌝ }
-{
-    match variant {
-        TransferTrbVariant::SetupStage(_) => true,
-        TransferTrbVariant::DataStage(_) => true,
-        TransferTrbVariant::StatusStage(_) => true,
-        TransferTrbVariant::Normal(_) => false,
-        TransferTrbVariant::EventData(_) => true,
-        TransferTrbVariant::NoOp(_) => true,
-        TransferTrbVariant::Isoch => true,
-        TransferTrbVariant::Unrecognized => true,
-    }
-}
-
-fn is_sound(variant: TransferTrbVariant) -> bool
-    ensures { λ r. ⌜ r ≡ soundIn variant ⌝ }
-{
-    if !held::supports(EndpointKind::In, variant) {
-        return false;
-    }
-    trb::transfer_length(variant) <= trb::MAX_TRANSFER_LENGTH
-}
-
-fn both(a: bool, b: bool) -> bool
-    ensures { λ r. ⌜ r ≡ a && b ⌝ }
-{
-    if a { b } else { false }
-}
-
-// One TRB more is tested.
-pub fn test_trb(so_far: RowTest, t: TransferTrb) -> RowTest
-    ensures { λ r. ⌜ r ≡ trbTest «so_far» t ⌝ }
-{
-    let variant = t.variant;
-    let sound = both(so_far.sound, is_sound(variant));
-    let no_normal = both(so_far.no_normal, is_other(variant));
-    RowTest {
-        sound: sound,
-        no_normal: no_normal,
-    }
-}
-
-fn td_of(
-    endpoint_id: EndpointId,
-    slot_id: SlotId,
-    status: InTrbProcessingStatus,
-    data_length: u32,
-) -> InTd
-    ensures { λ r. ⌜ r ≡ inTd «endpoint_id» «slot_id» status «data_length» ⌝ }
-{
-    let info = TdInfo {
-        endpoint_id: endpoint_id,
-        slot_id: slot_id,
-        data_length: data_length,
-    };
-    InTd {
-        info: info,
-        status: status,
-    }
-}
-
-fn unprocessed_td() -> TdProcessed
-    ensures { λ r. ⌜ r ≡ unprocessed ⌝ }
-{
-    let progress = td_part::at_start_of_td();
-    TdProcessed {
-        progress: progress,
-        result: TrbProcessingResult::Ok,
-    }
-}
-
 fn refuse(endpoint_id: EndpointId, slot_id: SlotId, refusal: Refusal) -> RowPlan
     ensures { λ r. ⌜ r ≡ refusedPlan «endpoint_id» «slot_id» refusal ⌝ }
 {
-    let td = td_of(endpoint_id, slot_id, InTrbProcessingStatus::Success, 0);
-    let start = unprocessed_td();
+    let td = in_td::td_of(endpoint_id, slot_id, InTrbProcessingStatus::Success, 0);
+    let start = in_td::unprocessed();
     RowPlan {
         asked: RowAsked::Refused(refusal),
         td: td,
         start: start,
         count: 0,
     }
-}
-
-// Question 2, as it would be asked of a block that holds the row.
-fn row_sound(endpoint_id: EndpointId, slot_id: SlotId, row_length: usize, tested: RowTest) -> bool
-    ensures { λ r. ⌜ r ≡ soundRow «endpoint_id» «slot_id» «row_length» tested ⌝ }
-{
-    let sound = tested.sound;
-    let no_normal = tested.no_normal;
-    if !trb::ids_in_range(endpoint_id, slot_id) {
-        return false;
-    }
-    if trb::MAX_HELD < row_length {
-        return false;
-    }
-    both(sound, !no_normal)
 }
 
 // Questions 8 and 9.
@@ -167,8 +70,8 @@ fn plan(
             if trb::MAX_DATA < data_length {
                 return refuse(endpoint_id, slot_id, Refusal::DataTooLong);
             }
-            let td = td_of(endpoint_id, slot_id, status, data_length as u32);
-            let start = unprocessed_td();
+            let td = in_td::td_of(endpoint_id, slot_id, status, data_length as u32);
+            let start = in_td::unprocessed();
             RowPlan {
                 asked: RowAsked::Accepted,
                 td: td,
@@ -185,7 +88,7 @@ pub fn ask(
     endpoint_id: EndpointId,
     slot_id: SlotId,
     row_length: usize,
-    tested: RowTest,
+    tested: HeldTest,
     result: InTrbProcessingResult,
     data_length: usize,
 ) -> RowPlan
@@ -194,24 +97,11 @@ pub fn ask(
     if log_length < trb::MIN_LOG {
         return refuse(endpoint_id, slot_id, Refusal::BufferTooShort);
     }
-    if !row_sound(endpoint_id, slot_id, row_length, tested) {
+    let awaiting = TdBasedNormalSubmissionState::AwaitingRealTransfer;
+    if !in_block::is_sound(endpoint_id, slot_id, awaiting, row_length, tested) {
         return refuse(endpoint_id, slot_id, Refusal::UnsoundBlock);
     }
     plan(endpoint_id, slot_id, row_length, result, data_length)
-}
-
-fn is_error(result: TrbProcessingResult) -> bool
-    ensures { λ r. ⌜ r ≡ isError result ⌝ }
-{
-    match result {
-        TrbProcessingResult::Ok => false,
-        TrbProcessingResult::Stall => true,
-        TrbProcessingResult::StallAt(_, _) => true,
-        TrbProcessingResult::TrbError => true,
-        TrbProcessingResult::TransactionError => true,
-        TrbProcessingResult::TransactionErrorAt(_, _) => true,
-        TrbProcessingResult::Disconnect => true,
-    }
 }
 
 // One TRB more is processed, unless an error has ended the walk.
@@ -221,7 +111,7 @@ pub fn next_trb(log: &mut [u8], plan: RowPlan, so_far: TdProcessed, t: TransferT
 {
     let result = so_far.result;
     let td = plan.td;
-    if is_error(result) {
+    if in_td::is_error(result) {
         return so_far;
     }
     in_td::process_trb(log, td, so_far, t)

@@ -35,11 +35,12 @@ use Rattle.in_block.proofs.SoundLaws.{sound-held, hasNormal-all}
 use Rattle.in_endpoint.specs.Completion.{refused, transferred, completion, isAccepted, Accounted}
 use Rattle.in_endpoint.specs.declared.Completed.{Completed}
 use Rattle.in_endpoint.proofs.CompletionLaws.{processTd-counts, completion-short, completion-unsound, completion-mismatch, completion-too-long, completion-done, with-account}
-use Rattle.row_plan.specs.Plans.{rowTest, refusedPlan, acceptedPlan, soundRow, resultPlan, rowPlan, rowAnswer}
+use Rattle.in_block.specs.Test.{heldTest, soundAs}
+use Rattle.row_plan.specs.Plans.{refusedPlan, acceptedPlan, soundRow, resultPlan, rowPlan, rowAnswer}
 use Rattle.row_plan.specs.Rows.{rowBlock, rowCompletion, AccountedRow}
 use Rattle.row_plan.specs.declared.RowCompleted.{RowCompleted}
 use Rattle.row_plan.specs.declared.RowPlan.{RowPlan}
-use Rattle.row_plan.specs.declared.RowTest.{RowTest}
+use Rattle.in_block.specs.declared.HeldTest.{HeldTest}
 use Rattle.td_row.specs.Walkable.{Walkable}
 
 module _ (e : EndpointId) (s : SlotId) (ts : List TransferTrb) where
@@ -50,20 +51,20 @@ module _ (e : EndpointId) (s : SlotId) (ts : List TransferTrb) where
   heldOf-rowBlock : length ts ≤ maxHeld → heldOf block ≡ ts
   heldOf-rowBlock few = take-take (length ts) maxHeld (ts ++ replicate maxHeld blankTrb) few ∙ take-append-seam ts (replicate maxHeld blankTrb)
 
-  soundBlock-few : leb (length ts) maxHeld ≡ true → soundBlock block ≡ soundRow e s (length ts) (rowTest ts)
-  unfolding soundBlock soundRow
+  soundBlock-few : leb (length ts) maxHeld ≡ true → soundBlock block ≡ soundRow e s (length ts) (heldTest ts)
+  unfolding soundBlock soundAs
   soundBlock-few few = rw (few, heldOf-rowBlock (leb-true _ _ few), hasNormal-all ts)
 
-  soundBlock-many : leb (length ts) maxHeld ≡ false → soundBlock block ≡ soundRow e s (length ts) (rowTest ts)
-  unfolding soundBlock soundRow
+  soundBlock-many : leb (length ts) maxHeld ≡ false → soundBlock block ≡ soundRow e s (length ts) (heldTest ts)
+  unfolding soundBlock soundAs
   soundBlock-many many = rw many
 
-  soundBlock-by : (b : Bool) → leb (length ts) maxHeld ≡ b → soundBlock block ≡ soundRow e s (length ts) (rowTest ts)
+  soundBlock-by : (b : Bool) → leb (length ts) maxHeld ≡ b → soundBlock block ≡ soundRow e s (length ts) (heldTest ts)
   soundBlock-by true few = soundBlock-few few
   soundBlock-by false many = soundBlock-many many
 
   -- question 2 asks of the row what it asks of the block
-  soundBlock-rowBlock : soundBlock block ≡ soundRow e s (length ts) (rowTest ts)
+  soundBlock-rowBlock : soundBlock block ≡ soundRow e s (length ts) (heldTest ts)
   soundBlock-rowBlock = soundBlock-by (leb (length ts) maxHeld) refl
 
   module _ (l : List ℕ) (res : InTrbProcessingResult) (n : ℕ) where
@@ -90,11 +91,11 @@ module _ (e : EndpointId) (s : SlotId) (ts : List TransferTrb) where
     plan-short : leb minLog (length l) ≡ false → Answers (refusedPlan e s BufferTooShort)
     plan-short short = answers-refused BufferTooShort (completion-short (length l) block res n (leb-false _ _ short))
 
-    plan-unsound : leb minLog (length l) ≡ true → soundRow e s (length ts) (rowTest ts) ≡ false → Answers (refusedPlan e s UnsoundBlock)
+    plan-unsound : leb minLog (length l) ≡ true → soundRow e s (length ts) (heldTest ts) ≡ false → Answers (refusedPlan e s UnsoundBlock)
     plan-unsound long unsound = answers-refused UnsoundBlock (completion-unsound (length l) block res n (leb-true _ _ long) (soundBlock-rowBlock ∙ unsound))
 
   -- questions 8 and 9, once 1 and 2 were answered with yes
-  module _ (l : List ℕ) (n : ℕ) (long : leb minLog (length l) ≡ true) (sound : soundRow e s (length ts) (rowTest ts) ≡ true) where
+  module _ (l : List ℕ) (n : ℕ) (long : leb minLog (length l) ≡ true) (sound : soundRow e s (length ts) (heldTest ts) ≡ true) where
     few : length ts ≤ maxHeld
     few = sound-held block (soundBlock-rowBlock ∙ sound)
 
@@ -110,33 +111,33 @@ module _ (e : EndpointId) (s : SlotId) (ts : List TransferTrb) where
   -- what holds of the plan in each case holds of the plan
   module _ (l : List ℕ) (n : ℕ) (Q : InTrbProcessingResult → RowPlan → Type 0)
       (short : (res : InTrbProcessingResult) → leb minLog (length l) ≡ false → Q res (refusedPlan e s BufferTooShort))
-      (unsound : (res : InTrbProcessingResult) → leb minLog (length l) ≡ true → soundRow e s (length ts) (rowTest ts) ≡ false → Q res (refusedPlan e s UnsoundBlock))
-      (none : leb minLog (length l) ≡ true → soundRow e s (length ts) (rowTest ts) ≡ true → Q NoneGiven (refusedPlan e s DeviceResultMismatch))
-      (too-long : leb minLog (length l) ≡ true → soundRow e s (length ts) (rowTest ts) ≡ true → (st : InTrbProcessingStatus) → leb n maxData ≡ false → Q (Given st) (refusedPlan e s DataTooLong))
-      (accepted : leb minLog (length l) ≡ true → soundRow e s (length ts) (rowTest ts) ≡ true → (st : InTrbProcessingStatus) → leb n maxData ≡ true → Q (Given st) (acceptedPlan e s (length ts) st n)) where
-    by-data : leb minLog (length l) ≡ true → soundRow e s (length ts) (rowTest ts) ≡ true → (st : InTrbProcessingStatus) (b : Bool) → leb n maxData ≡ b → Q (Given st) (resultPlan e s (length ts) (Given st) n)
+      (unsound : (res : InTrbProcessingResult) → leb minLog (length l) ≡ true → soundRow e s (length ts) (heldTest ts) ≡ false → Q res (refusedPlan e s UnsoundBlock))
+      (none : leb minLog (length l) ≡ true → soundRow e s (length ts) (heldTest ts) ≡ true → Q NoneGiven (refusedPlan e s DeviceResultMismatch))
+      (too-long : leb minLog (length l) ≡ true → soundRow e s (length ts) (heldTest ts) ≡ true → (st : InTrbProcessingStatus) → leb n maxData ≡ false → Q (Given st) (refusedPlan e s DataTooLong))
+      (accepted : leb minLog (length l) ≡ true → soundRow e s (length ts) (heldTest ts) ≡ true → (st : InTrbProcessingStatus) → leb n maxData ≡ true → Q (Given st) (acceptedPlan e s (length ts) st n)) where
+    by-data : leb minLog (length l) ≡ true → soundRow e s (length ts) (heldTest ts) ≡ true → (st : InTrbProcessingStatus) (b : Bool) → leb n maxData ≡ b → Q (Given st) (resultPlan e s (length ts) (Given st) n)
     by-data k h st true m = rw m (accepted k h st m)
     by-data k h st false m = rw m (too-long k h st m)
 
-    by-result : leb minLog (length l) ≡ true → soundRow e s (length ts) (rowTest ts) ≡ true → (res : InTrbProcessingResult) → Q res (resultPlan e s (length ts) res n)
+    by-result : leb minLog (length l) ≡ true → soundRow e s (length ts) (heldTest ts) ≡ true → (res : InTrbProcessingResult) → Q res (resultPlan e s (length ts) res n)
     by-result k h NoneGiven = none k h
     by-result k h (Given st) = by-data k h st (leb n maxData) refl
 
-    by-sound : leb minLog (length l) ≡ true → (res : InTrbProcessingResult) (b : Bool) → soundRow e s (length ts) (rowTest ts) ≡ b → Q res (rowPlan (length l) e s (length ts) (rowTest ts) res n)
+    by-sound : leb minLog (length l) ≡ true → (res : InTrbProcessingResult) (b : Bool) → soundRow e s (length ts) (heldTest ts) ≡ b → Q res (rowPlan (length l) e s (length ts) (heldTest ts) res n)
     unfolding rowPlan
     by-sound k res true h = rw (k, h) (by-result k h res)
     by-sound k res false h = rw (k, h) (unsound res k h)
 
-    by-long : (res : InTrbProcessingResult) (b : Bool) → leb minLog (length l) ≡ b → Q res (rowPlan (length l) e s (length ts) (rowTest ts) res n)
+    by-long : (res : InTrbProcessingResult) (b : Bool) → leb minLog (length l) ≡ b → Q res (rowPlan (length l) e s (length ts) (heldTest ts) res n)
     unfolding rowPlan
-    by-long res true k = by-sound k res (soundRow e s (length ts) (rowTest ts)) refl
+    by-long res true k = by-sound k res (soundRow e s (length ts) (heldTest ts)) refl
     by-long res false k = rw k (short res k)
 
-    by-plan : (res : InTrbProcessingResult) → Q res (rowPlan (length l) e s (length ts) (rowTest ts) res n)
+    by-plan : (res : InTrbProcessingResult) → Q res (rowPlan (length l) e s (length ts) (heldTest ts) res n)
     by-plan res = by-long res (leb minLog (length l)) refl
 
   module _ (l : List ℕ) (res : InTrbProcessingResult) (n : ℕ) where
-    answers-plan : Answers l res n (rowPlan (length l) e s (length ts) (rowTest ts) res n)
+    answers-plan : Answers l res n (rowPlan (length l) e s (length ts) (heldTest ts) res n)
     answers-plan =
         by-plan l n (λ r. Answers l r n) (λ r k. plan-short l r n k) (λ r k h. plan-unsound l r n k h) (λ k h. plan-none l n k h) (λ k h st m. plan-too-long l n k h st m)
         (λ k h st m. plan-accepted l n k h st m) res
@@ -147,7 +148,7 @@ module _ (e : EndpointId) (s : SlotId) (ts : List TransferTrb) where
     walkable-accepted : (st : InTrbProcessingStatus) → minLog ≤ length l → length ts ≤ maxHeld → Walkable (acceptedPlan e s (length ts) st n) (length ts) (length l)
     walkable-accepted st long most = record { start = refl; few = omega arith; room = omega arith }
 
-    pub walkable-plan : Walkable (rowPlan (length l) e s (length ts) (rowTest ts) res n) (length ts) (length l)
+    pub walkable-plan : Walkable (rowPlan (length l) e s (length ts) (heldTest ts) res n) (length ts) (length l)
     walkable-plan =
         by-plan l n (λ r p. Walkable p (length ts) (length l)) (λ r k. walkable-refused BufferTooShort) (λ r k h. walkable-refused UnsoundBlock) (λ k h. walkable-refused DeviceResultMismatch)
         (λ k h st m. walkable-refused DataTooLong) (λ k h st m. walkable-accepted st (leb-true _ _ k) (few l n k h)) res
@@ -185,14 +186,14 @@ module _ (e : EndpointId) (s : SlotId) (ts : List TransferTrb) where
           accounted-few (few-by (leb minLog (length l)) (soundBlock block) refl refl (ap (λ (x : RowCompleted). isAccepted (x .answer)) (sym (m .state)) ∙ accepted)) accepted
 
     -- what the entry's contract says, of the plan, of what the walk made of the log, and of the answer
-    pub row-answered : (t : RowTest) (plan : RowPlan) (p : TdProcessed) (r : RowCompleted) (l' : List ℕ) → t ≡ rowTest ts → plan ≡ rowPlan (length l) e s (length ts) t res n
+    pub row-answered : (t : HeldTest) (plan : RowPlan) (p : TdProcessed) (r : RowCompleted) (l' : List ℕ) → t ≡ heldTest ts → plan ≡ rowPlan (length l) e s (length ts) t res n
         → Meets (processTd (plan .td) (take (plan .count) ts)) 0 l p l' → r ≡ rowAnswer plan p
         → Meets (rowCompletion (length l) e s ts res n) 0 l r l' × AccountedRow ts n (r .answer) (recordsIn (r .records) l')
     row-answered t plan p r l' tested planned walked answered =
-        let plan-is : plan ≡ rowPlan (length l) e s (length ts) (rowTest ts) res n = planned ∙ ap (λ (x : RowTest). rowPlan (length l) e s (length ts) x res n) tested in
+        let plan-is : plan ≡ rowPlan (length l) e s (length ts) (heldTest ts) res n = planned ∙ ap (λ (x : HeldTest). rowPlan (length l) e s (length ts) x res n) tested in
         let m : Meets (rowCompletion (length l) e s ts res n) 0 l r l' = rw answered (subst (Answers l res n) (sym plan-is) answers-plan p l' walked) in
         (m, accounted-row r l' m)
 
-    pub walkable : (t : RowTest) (plan : RowPlan) → t ≡ rowTest ts → plan ≡ rowPlan (length l) e s (length ts) t res n → Walkable plan (length ts) (length l)
+    pub walkable : (t : HeldTest) (plan : RowPlan) → t ≡ heldTest ts → plan ≡ rowPlan (length l) e s (length ts) t res n → Walkable plan (length ts) (length l)
     walkable t plan tested planned =
-        subst (λ (x : RowPlan). Walkable x (length ts) (length l)) (sym (planned ∙ ap (λ (x : RowTest). rowPlan (length l) e s (length ts) x res n) tested)) walkable-plan
+        subst (λ (x : RowPlan). Walkable x (length ts) (length l)) (sym (planned ∙ ap (λ (x : HeldTest). rowPlan (length l) e s (length ts) x res n) tested)) walkable-plan

@@ -11,10 +11,6 @@ use Rattle.trb.specs.Limits.{recordLength}
 use Rattle.trb.specs.declared.TransferTrb.{TransferTrb}
 use Rattle.log.specs.Calls.{Out, silent, Meets}
 use Rattle.held.specs.Places.{pastEnd}
-use Rattle.held.specs.Sound.{soundTrb}
-use Rattle.held.specs.declared.EndpointKind.the-variants.{In}
-use Rattle.walks.specs.All.{all}
-use Rattle.walks.proofs.AllLaws.{Tested, tested-none, tested-turn, tested-end}
 use Rattle.walks.specs.Walk.{walk}
 use Rattle.walks.proofs.WalkLaws.{Walked, walkOf, walked-none, walked-turn, walked-end}
 use Rattle.log.specs.Logs.{logged, AllFit}
@@ -25,43 +21,24 @@ use Rattle.in_td.specs.Td.{processTrb, processTd, ended, unprocessed}
 use Rattle.in_td.specs.declared.InTd.{InTd}
 use Rattle.in_td.specs.declared.TdProcessed.{TdProcessed}
 use Rattle.in_td.proofs.TdLaws.{tdWalker}
+use Rattle.in_block.specs.Test.{trbTest, heldTest}
+use Rattle.in_block.specs.declared.HeldTest.{HeldTest}
+use Rattle.in_block.proofs.TestLaws.{Testing, testing-turn, testing-end}
 use Rattle.row_plan.proofs.PlanLaws.{nextTrb-ended, nextTrb-going}
-use Rattle.row_plan.specs.Plans.{isOther, soundIn, trbTest, rowTest, nextTrb}
-use Rattle.row_plan.specs.declared.RowTest.{RowTest}
+use Rattle.row_plan.specs.Plans.{nextTrb}
 
 -- ---- The test of every TRB
 
--- after i TRBs of the row, with r found so far
-pub record TestedRow (ts : List TransferTrb) (r : RowTest) (i : ℕ) : Type 0 where
-  pub sound : Tested (soundTrb In) ts (r .sound) i
-  pub other : Tested (λ t. isOther (t .variant)) ts (r .«no_normal») i
+module _ (ts : List TransferTrb) where
+  -- after i TRBs of the row, with r found so far
+  abbrev pub TestedRow : HeldTest → ℕ → Type 0
+  TestedRow r i = Testing (take (length ts) ts) r i
 
-module _ (ok : TransferTrb → Bool) (ts : List TransferTrb) where
-  all-turn : (b r : Bool) (i : ℕ) → Tested ok ts b i → i < length ts → r ≡ (b && ok (getD ts i pastEnd)) → Tested ok ts r (i + 1)
-  all-turn b r i k more e =
-      subst (λ (l : List TransferTrb). Tested ok l r (i + 1)) (take-length ts)
-      (tested-turn ok ts (length ts) (omega arith) b r i pastEnd (subst (λ (l : List TransferTrb). Tested ok l b i) (sym (take-length ts)) k) more e)
+  pub testedRow-turn : (s r : HeldTest) (i : ℕ) → TestedRow s i → i < length ts → r ≡ trbTest s (getD ts i pastEnd) → TestedRow r (i + 1)
+  testedRow-turn s r i k more e = testing-turn ts (length ts) (omega arith) s r i k more e
 
-  all-end : (b : Bool) (i : ℕ) → Tested ok ts b i → length ts ≤ i → b ≡ all ok ts
-  all-end b i k h =
-      subst (λ (l : List TransferTrb). b ≡ all ok l) (take-length ts)
-      (tested-end ok ts (length ts) (omega arith) b i (subst (λ (l : List TransferTrb). Tested ok l b i) (sym (take-length ts)) k) h)
-
-pub testedRow-none : (ts : List TransferTrb) → TestedRow ts (record { sound = true; «no_normal» = true }) 0
-testedRow-none ts = record { sound = tested-none (soundTrb In) ts; other = tested-none (λ t. isOther (t .variant)) ts }
-
-pub testedRow-turn : (ts : List TransferTrb) (s r : RowTest) (i : ℕ) → TestedRow ts s i → i < length ts → r ≡ trbTest s (getD ts i pastEnd) → TestedRow ts r (i + 1)
-unfolding soundTrb
-testedRow-turn ts s r i k more e = record {
-  sound = all-turn (soundTrb In) ts (s .sound) (r .sound) i (k .sound) more (ap (λ (x : RowTest). x .sound) e);
-  other = all-turn (λ t. isOther (t .variant)) ts (s .«no_normal») (r .«no_normal») i (k .other) more (ap (λ (x : RowTest). x .«no_normal») e);
-}
-
-pub testedRow-end : (ts : List TransferTrb) (s : RowTest) (i : ℕ) → TestedRow ts s i → length ts ≤ i → s ≡ rowTest ts
-testedRow-end ts s i k h =
-    let sound : s .sound ≡ all (soundTrb In) ts = all-end (soundTrb In) ts (s .sound) i (k .sound) h in
-    let other : s .«no_normal» ≡ all (λ t. isOther (t .variant)) ts = all-end (λ t. isOther (t .variant)) ts (s .«no_normal») i (k .other) h in
-    λ j. record { sound = sound j; «no_normal» = other j }
+  pub testedRow-end : (s : HeldTest) (i : ℕ) → TestedRow s i → length ts ≤ i → s ≡ heldTest ts
+  testedRow-end s i k h = testing-end ts (length ts) (omega arith) s i k h ∙ ap (λ (xs : List TransferTrb). heldTest xs) (take-length ts)
 
 -- ---- Numbers of both loops
 

@@ -1,8 +1,8 @@
 // The TD as a lent row of TRBs: answered as completion answers for a block that holds the row and awaits the device.
+use in_block::HeldTest;
 use in_td::TdProcessed;
 use row_plan::RowCompleted;
 use row_plan::RowPlan;
-use row_plan::RowTest;
 use trb::EndpointId;
 use trb::InTrbProcessingResult;
 use trb::SlotId;
@@ -12,22 +12,22 @@ ghost use lib.ListN.{length, take};
 ghost use Rattle.log.specs.Calls.{Meets};
 ghost use Rattle.log.specs.Logs.{recordsIn};
 ghost use Rattle.in_td.specs.Td.{processTd};
-ghost use Rattle.row_plan.specs.Plans.{rowTest};
+ghost use Rattle.in_block.specs.Test.{heldTest};
 ghost use Rattle.row_plan.specs.Rows.{rowCompletion, AccountedRow};
 ghost use Rattle.td_row.specs.Walkable.{Walkable};
 
 // What question 2 asks of every TRB of the row.
-fn test_row(row: &[TransferTrb]) -> RowTest
-    ensures { λ r. ⌜ r ≡ rowTest (now (row .entry)) ⌝ }
+fn test_row(row: &[TransferTrb]) -> HeldTest
+    ensures { λ r. ⌜ r ≡ heldTest (now (row .entry)) ⌝ }
 {
-    let mut tested = RowTest {
+    let mut tested = HeldTest {
         sound: true,
         no_normal: true,
     };
     let mut i: usize = 0;
     while i < row.len() {
         let t = row[i];
-        tested = row_plan::test_trb(tested, t);
+        tested = in_block::test_trb(tested, t);
         i += 1;
     }
     tested

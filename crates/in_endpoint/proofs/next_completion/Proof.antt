@@ -1,182 +1,152 @@
--- `in_endpoint::next_completion` meets its contract: each way out is the definition's case for the questions that led there; demand 3
--- follows from what the log is, on every way. Assumes nothing.
-use Prim.Native.Nat.{_≤_}
-use mathlib.Core.Path.{_≡_, refl, sym, _∙_}
+-- `in_endpoint::next_completion` meets its contract: the loop keeps to the test of the TRBs held, by which the questions are asked; each arm leaves what its ending comes to; demand 3 follows from what the log is, on every way. Assumes nothing.
+use Prim.Native.Nat.{ℕ, _≤_, _-_}
+use mathlib.Core.Path.{_≡_, sym, ap, _∙_, subst}
+use mathlib.Core.Logic.{⊎-elim}
 use mathlib.Core.List.{List}
-use lib.ListN.{length}
-use borrow.Author.Tests.{not-true, not-false}
-use Rattle.log.proofs.CallLaws.{meets, meets-silent}
+use lib.ListN.{length, take, length-map}
+use Rattle.trb.specs.Limits.{maxHeld}
+use Rattle.log.proofs.CallLaws.{meets}
 use Rattle.log.proofs.LogLaws.{logged-none}
-use Rattle.in_block.specs.Sound.{awaitsDevice}
-use Rattle.in_block.proofs.SoundLaws.{sound-held}
-use Rattle.in_endpoint.specs.Completion.{givenIn, agree, completion, endingIn}
-use Rattle.in_endpoint.proofs.CompletionLaws.{completion-short, completion-unsound, completion-out-of-turn, completion-mismatch, completion-too-long, completion-done, with-account, endingIn-by}
+use Rattle.in_block.proofs.TestLaws.{Testing, testing-none, testing-turn, places-few, held-tested}
+use Rattle.in_endpoint.specs.Completion.{transferred, endingIn, completion, LogsIf}
+use Rattle.in_endpoint.specs.declared.Ending.{Ending}
+use Rattle.in_endpoint.proofs.CompletionLaws.{endingIn-by, processTd-counts, with-account}
 use borrow.Author.Needs.{needs}
 use Rattle.in_endpoint.proofs.next_completion.Statement.{statement}
 use Rattle.in_endpoint.proofs.next_completion.Tie as tie
 
-refuse-completion-requires : tie.Need-refuse-completion-requires
-refuse-completion-requires c κs = search needs
+abbrev Inv-loop : tie.InvT-loop
+Inv-loop log result «data» endpoint-id slot-id state held trbs places test₀ i₀ test i = Testing (take places trbs) test i × (i ≤ places)
 
-returns : tie.Need-returns
-returns c =
-    let s = c .before .before .before .before .args in
-    with-account (s .log .now) _ (s .block) (s .result) (length (s .data .now)) _ (meets (completion-short (length (s .log .now)) (s .block) (s .result) (length (s .data .now)) (c .before .if1 .taken)) (meets-silent 0 (s .log .now) (c .refuse-completion .ensures)))
+abbrev μ-loop : tie.MeasureT-loop
+μ-loop log result «data» endpoint-id slot-id state held trbs places test₀ i₀ test i = places - i
 
--- what question 8 was asked of
-agreed : (c : tie.After-is-agreed) → c .is-agreed .result ≡ agree (givenIn (c .before .before .before .before .before .before .before .before .before .before .args .result)) (awaitsDevice (c .before .before .before .before .before .before .before .before .before .before .args .block .state))
-agreed c = rw (c .is-agreed .ensures, c .before .awaits-device .ensures, c .before .before .is-given .ensures)
+places-held-requires : tie.Need-places-held-requires Inv-loop μ-loop
+places-held-requires c κs = search needs
 
--- once every question was answered with yes, the completion is the ending's
-answered : (c : tie.After-ending-of) → completion (length (c .before .before .before .before .before .before .before .before .before .before .before .before .before .args .log .now)) (c .before .before .before .before .before .before .before .before .before .before .before .before .before .args .block) (c .before .before .before .before .before .before .before .before .before .before .before .before .before .args .result) (length (c .before .before .before .before .before .before .before .before .before .before .before .before .before .args .data .now)) ≡ endingIn (c .ending-of .result) (c .before .before .before .before .before .before .before .before .before .before .before .before .before .args .block)
-answered c =
-    let s = c .before .before .before .before .before .before .before .before .before .before .before .before .before .args in
-    completion-done (length (s .log .now)) (s .block) (s .result) (length (s .data .now)) (c .before .before .before .before .before .before .before .before .before .before .if1 .left) (sym (c .before .before .before .before .before .before .before .before .before .is-sound .ensures) ∙ not-false (c .before .before .before .before .before .before .before .before .before .is-sound .result) (c .before .before .before .before .before .before .before .before .if2 .left)) (sym (c .before .before .before .before .before .before .before .submission-due .ensures) ∙ c .before .before .before .before .before .before .if3 .left) (sym (agreed (c .before .before .before)) ∙ not-false (c .before .before .before .is-agreed .result) (c .before .before .if4 .left)) (c .before .if5 .left)
-    ∙ c .ending-of .ensures (s .block)
+-- a block has 64 places
+len : (s : tie.Start Inv-loop μ-loop) → length (s .args .block .trbs) ≡ maxHeld
+len s = simp length-map at (s .good .1 .0 .1 .1 .1 .1 .1 .1 .0 .1 .0 .1)
 
-is-sound-requires : tie.Need-is-sound-requires
-is-sound-requires c κs = search needs
+loop-holds : tie.Need-loop-holds Inv-loop μ-loop
+loop-holds c = (testing-none (take (c .places-held .result) (c .before .before .before .before .before .before .args .block .trbs)), search needs)
 
-refuse-completion-requires-2 : tie.Need-refuse-completion-requires-2
-refuse-completion-requires-2 c κs = search needs
+mul-one : tie.Need-mul-one Inv-loop μ-loop
+mul-one c = search needs
 
-returns-2 : tie.Need-returns-2
-returns-2 c =
-    let s = c .before .before .before .before .before .before .args in
-    with-account (s .log .now) _ (s .block) (s .result) (length (s .data .now)) _ (meets (completion-unsound (length (s .log .now)) (s .block) (s .result) (length (s .data .now)) (c .before .before .before .if1 .left) (sym (c .before .before .is-sound .ensures) ∙ not-true (c .before .before .is-sound .result) (c .before .if2 .taken))) (meets-silent 0 (s .log .now) (c .refuse-completion2 .ensures)))
+array-copy-out-one : tie.Need-array-copy-out-one Inv-loop μ-loop
+array-copy-out-one c = search needs
 
-submission-due-requires : tie.Need-submission-due-requires
-submission-due-requires c κs = search needs
+test-trb-requires : tie.Need-test-trb-requires Inv-loop μ-loop
+test-trb-requires c κs = search needs
 
-refuse-completion-requires-3 : tie.Need-refuse-completion-requires-3
-refuse-completion-requires-3 c κs = search needs
+add-i : tie.Need-add-i Inv-loop μ-loop
+add-i c = search needs
 
-returns-3 : tie.Need-returns-3
-returns-3 c =
-    let s = c .before .before .before .before .before .before .before .before .args in
-    with-account (s .log .now) _ (s .block) (s .result) (length (s .data .now)) _
-    (meets (completion-out-of-turn (length (s .log .now)) (s .block) (s .result) (length (s .data .now)) (c .before .before .before .before .before .if1 .left) (sym (c .before .before .before .before .is-sound .ensures) ∙ not-false (c .before .before .before .before .is-sound .result) (c .before .before .before .if2 .left)) (sym (c .before .before .submission-due .ensures) ∙ c .before .if3 .taken))
-    (meets-silent 0 (s .log .now) (c .refuse-completion3 .ensures)))
+loop-less : tie.Need-loop-less Inv-loop μ-loop
+loop-less c = search needs
 
-is-given-requires : tie.Need-is-given-requires
-is-given-requires c κs = search needs
+loop-again : tie.Need-loop-again Inv-loop μ-loop
+loop-again c =
+    let l = c .before .before .before in
+    let b = c .before .before .before .before .before .before .before .before .before .before .args .block in
+    (testing-turn (b .trbs) (l .before .places-held .result) (places-few (b .trbs) (b .held) (l .before .places-held .result) (len (c .before .before .before .before .before .before .before .before .before .before)) (l .before .places-held .ensures)) (l .loop .test) (c .test-trb .result) (l .loop .i) (l .loop .inv .0) (c .before .before .loop-test .taken) (c .test-trb .ensures), search needs)
 
-awaits-device-requires : tie.Need-awaits-device-requires
-awaits-device-requires c κs = search needs
+ask-completion-requires : tie.Need-ask-completion-requires Inv-loop μ-loop
+ask-completion-requires c κs = search needs
 
-is-agreed-requires : tie.Need-is-agreed-requires
-is-agreed-requires c κs = search needs
+-- what the completion comes to, by what the loop found
+ended : (c : tie.After-ask-completion Inv-loop μ-loop) → let s = c .before .before .before .before .before .before .before .before .before .args in
+    (completion (length (s .log .now)) (s .block) (s .result) (length (s .data .now)) ≡ endingIn (c .ask-completion .result) (s .block)) × LogsIf (c .ask-completion .result) (length (s .log .now)) (s .block)
+ended c =
+    let l = c .before .before in
+    let s = c .before .before .before .before .before .before .before .before .before in
+    let b = s .args .block in
+    c .ask-completion .ensures (b .trbs) (held-tested (b .trbs) (b .held) (l .before .places-held .result) (len s) (l .before .places-held .ensures) (l .loop .test) (l .loop .i) (l .loop .inv .0) (c .before .loop-test .left))
 
-refuse-completion-requires-4 : tie.Need-refuse-completion-requires-4
-refuse-completion-requires-4 c κs = search needs
+logs-at : (c : tie.After-ask-completion Inv-loop μ-loop) {x : Ending} → c .ask-completion .result ≡ x → let s = c .before .before .before .before .before .before .before .before .before .args in
+    LogsIf x (length (s .log .now)) (s .block)
+logs-at c e =
+    let s = c .before .before .before .before .before .before .before .before .before .args in
+    subst (λ (x : Ending). LogsIf x (length (s .log .now)) (s .block)) e (ended c .1)
 
-returns-4 : tie.Need-returns-4
-returns-4 c =
-    let s = c .before .before .before .before .before .before .before .before .before .before .before .before .args in
-    with-account (s .log .now) _ (s .block) (s .result) (length (s .data .now)) _
-    (meets (completion-mismatch (length (s .log .now)) (s .block) (s .result) (length (s .data .now)) (c .before .before .before .before .before .before .before .before .before .if1 .left) (sym (c .before .before .before .before .before .before .before .before .is-sound .ensures) ∙ not-false (c .before .before .before .before .before .before .before .before .is-sound .result) (c .before .before .before .before .before .before .before .if2 .left)) (sym (c .before .before .before .before .before .before .submission-due .ensures) ∙ c .before .before .before .before .before .if3 .left) (sym (agreed (c .before .before)) ∙ not-true (c .before .before .is-agreed .result) (c .before .if4 .taken)))
-    (meets-silent 0 (s .log .now) (c .refuse-completion4 .ensures)))
-
-refuse-completion-requires-5 : tie.Need-refuse-completion-requires-5
-refuse-completion-requires-5 c κs = search needs
-
-returns-5 : tie.Need-returns-5
-returns-5 c =
-    let s = c .before .before .before .before .before .before .before .before .before .before .before .before .before .args in
-    with-account (s .log .now) _ (s .block) (s .result) (length (s .data .now)) _
-    (meets (completion-too-long (length (s .log .now)) (s .block) (s .result) (length (s .data .now)) (c .before .before .before .before .before .before .before .before .before .before .if1 .left) (sym (c .before .before .before .before .before .before .before .before .before .is-sound .ensures) ∙ not-false (c .before .before .before .before .before .before .before .before .before .is-sound .result) (c .before .before .before .before .before .before .before .before .if2 .left)) (sym (c .before .before .before .before .before .before .before .submission-due .ensures) ∙ c .before .before .before .before .before .before .if3 .left) (sym (agreed (c .before .before .before)) ∙ not-false (c .before .before .before .is-agreed .result) (c .before .before .if4 .left)) (c .before .if5 .taken))
-    (meets-silent 0 (s .log .now) (c .refuse-completion5 .ensures)))
-
-cast-ending-of : tie.Need-cast-ending-of
-cast-ending-of c = search needs
-
-ending-of-requires : tie.Need-ending-of-requires
-ending-of-requires c κs = search needs
-
-enum-known-ending : tie.Need-enum-known-ending
-enum-known-ending c = search needs
-
-refuse-completion-requires-6 : tie.Need-refuse-completion-requires-6
-refuse-completion-requires-6 c κs = search needs
-
-enum-told : tie.Need-enum-told
+enum-told : tie.Need-enum-told Inv-loop μ-loop
 enum-told c = search needs
 
-with-state-requires : tie.Need-with-state-requires
-with-state-requires c κs = search needs
+enum-told-2 : tie.Need-enum-told-2 Inv-loop μ-loop
+enum-told-2 c = search needs
 
-enum-known-ending-2 : tie.Need-enum-known-ending-2
+enum-known-ending : tie.Need-enum-known-ending Inv-loop μ-loop
+enum-known-ending c = search needs
+
+td-of-requires : tie.Need-td-of-requires Inv-loop μ-loop
+td-of-requires c κs = search needs
+
+process-td-requires : tie.Need-process-td-requires Inv-loop μ-loop
+process-td-requires c κs = let logs = logs-at (c .before .before .before .before .before) (c .before .before .before .ending .given .1) in search needs
+
+clear-requires : tie.Need-clear-requires Inv-loop μ-loop
+clear-requires c κs = search needs
+
+enum-known-ending-2 : tie.Need-enum-known-ending-2 Inv-loop μ-loop
 enum-known-ending-2 c = search needs
 
-transfer-requires : tie.Need-transfer-requires
-transfer-requires c κs =
-    let asked = c .before .before .before .before .before .before .before .before .before .before .before .before .before .before in
-    (asked .if1 .left, sound-held (asked .before .before .before .args .block) (sym (c .before .before .before .before .before .before .before .before .before .before .before .before .before .is-sound .ensures) ∙ not-false (c .before .before .before .before .before .before .before .before .before .before .before .before .before .is-sound .result) (c .before .before .before .before .before .before .before .before .before .before .before .before .if2 .left)))
+report-unsupported-requires : tie.Need-report-unsupported-requires Inv-loop μ-loop
+report-unsupported-requires c κs = let logs = logs-at (c .before .before .before .before) (c .before .before .ending2 .given .1) in search needs
 
-enum-known-ending-3 : tie.Need-enum-known-ending-3
-enum-known-ending-3 c = search needs
+clear-requires-2 : tie.Need-clear-requires-2 Inv-loop μ-loop
+clear-requires-2 c κs = search needs
 
-report-unsupported-requires : tie.Need-report-unsupported-requires
-report-unsupported-requires c κs = search needs
+answer-to-requires : tie.Need-answer-to-requires Inv-loop μ-loop
+answer-to-requires c κs = search needs
 
-returns-6 : tie.Need-returns-6
-returns-6 c =
-    let s = c .before .before .before .before .before .before .before .before .before .before .before .before .before .before .before .before .before .args in
-    with-account (s .log .now) _ (s .block) (s .result) (length (s .data .now)) _ (meets (answered (c .before .before .before .before) ∙ endingIn-by (s .block) (c .before .before .ending .given .1)) (meets-silent 0 (s .log .now) (c .refuse-completion6 .ensures)))
+state-behind-requires : tie.Need-state-behind-requires Inv-loop μ-loop
+state-behind-requires c κs = search needs
 
-returns-7 : tie.Need-returns-7
-returns-7 c =
-    let s = c .before .before .before .before .before .before .before .before .before .before .before .before .before .before .before .before .args in
-    with-account (s .log .now) _ (s .block) (s .result) (length (s .data .now)) _ (meets (answered (c .before .before .before) ∙ endingIn-by (s .block) (c .before .enum-told .given .1)) (record { state = rw (c .with-state .ensures); log = sym (logged-none (s .log .now) 0); fits = tt }))
+same-length : tie.Need-same-length Inv-loop μ-loop
+same-length c = ⊎-elim (λ w. search needs) (⊎-elim (λ w. search needs) (⊎-elim (λ w. ap (λ (l : List ℕ). length l) (w .10) ∙ w .6 .given) (λ w. ap (λ (l : List ℕ). length l) (w .8) ∙ w .5 .given))) (c .before .before .match .came)
 
-same-length : tie.Need-same-length
-same-length c = search needs
-
-returns-8 : tie.Need-returns-8
-returns-8 c =
-    let s = c .before .before .before .before .before .before .before .before .before .before .before .before .before .before .before .before .before .before .before .before .args in
-    with-account (s .log .now) _ (s .block) (s .result) (length (s .data .now)) _ (meets (answered (c .before .before .before .before .before .before .before) ∙ endingIn-by (s .block) (c .before .before .before .before .before .ending2 .given .1)) (c .before .before .transfer .ensures))
-
-same-length-2 : tie.Need-same-length-2
-same-length-2 c = search needs
-
-returns-9 : tie.Need-returns-9
-returns-9 c =
-    let s = c .before .before .before .before .before .before .before .before .before .before .before .before .before .before .before .before .before .before .before .before .args in
-    with-account (s .log .now) _ (s .block) (s .result) (length (s .data .now)) _ (meets (answered (c .before .before .before .before .before .before .before) ∙ endingIn-by (s .block) (c .before .before .before .before .before .ending3 .given .1)) (c .before .before .report-unsupported .ensures))
+returns : tie.Need-returns Inv-loop μ-loop
+unfolding transferred
+returns c =
+    let k = c .before .before .before in
+    let s = k .before .before .before .before .before .before .before .before .before .args in
+    let b = s .block in
+    let o = ended k in
+    with-account (s .log .now) _ b (s .result) (length (s .data .now)) _
+    (⊎-elim (λ w. meets (o .0 ∙ endingIn-by b (w .1 .given .1)) (record { state = rw (c .state-behind .ensures, c .before .answer-to .ensures, w .5, w .1 .given .1, w .3, w .4, w .7); log = w .2 ∙ sym (logged-none (s .log .now) 0); fits = tt }))
+    (⊎-elim (λ w. meets (o .0 ∙ endingIn-by b (w .1 .given .1)) (record { state = rw (c .state-behind .ensures, c .before .answer-to .ensures, w .5, w .1 .given .1, w .3, w .4, w .7); log = w .2 ∙ sym (logged-none (s .log .now) 0); fits = tt }))
+    (⊎-elim
+    (λ w. let p = w .5 .ensures in
+    meets (o .0 ∙ endingIn-by b (w .1 .given .1)) (record { state = rw (c .state-behind .ensures, c .before .answer-to .ensures, w .13, w .11, w .12, w .14, w .15, w .9 .ensures, p .state, w .3 .ensures, processTd-counts); log = rw (w .10, p .log, w .3 .ensures); fits = rw (w .3 .ensures) at (p .fits) }))
+    (λ w. let p = w .4 .ensures in
+    meets (o .0 ∙ endingIn-by b (w .1 .given .1)) (record { state = rw (c .state-behind .ensures, c .before .answer-to .ensures, w .11, w .9, w .10, w .13, w .7 .ensures); log = w .8 ∙ p .log; fits = p .fits })))) (c .before .before .match .came))
 
 pub next-completion-spec : {M : Type 1} → statement M
 next-completion-spec =
     tie.close
     (tie.spec
-    refuse-completion-requires
-    returns
-    is-sound-requires
-    refuse-completion-requires-2
-    returns-2
-    submission-due-requires
-    refuse-completion-requires-3
-    returns-3
-    is-given-requires
-    awaits-device-requires
-    is-agreed-requires
-    refuse-completion-requires-4
-    returns-4
-    refuse-completion-requires-5
-    returns-5
-    cast-ending-of
-    ending-of-requires
-    enum-known-ending
-    refuse-completion-requires-6
+    Inv-loop
+    μ-loop
+    places-held-requires
+    loop-holds
+    mul-one
+    array-copy-out-one
+    test-trb-requires
+    add-i
+    loop-less
+    loop-again
+    ask-completion-requires
     enum-told
-    with-state-requires
+    enum-told-2
+    enum-known-ending
+    td-of-requires
+    process-td-requires
+    clear-requires
     enum-known-ending-2
-    transfer-requires
-    enum-known-ending-3
     report-unsupported-requires
-    returns-6
-    returns-7
+    clear-requires-2
+    answer-to-requires
+    state-behind-requires
     same-length
-    returns-8
-    same-length-2
-    returns-9)
+    returns)

@@ -9,19 +9,15 @@ transfer-event-requires c κs = search needs
 put-record-requires : tie.Need-put-record-requires
 put-record-requires c κs = search needs
 
-empty-requires : tie.Need-empty-requires
-empty-requires c κs = search needs
-
 same-length : tie.Need-same-length
 same-length c = search needs
 
 returns : tie.Need-returns
 returns c =
-    let p = c .before .before .before .put-record .ensures in
-    let e = c .before .before .before .before .before .transfer-event .ensures in
-    record { state = rw (c .empty .ensures); log = rw (p .log, e); fits = rw e at (p .fits) }
+    let p = c .before .before .put-record .ensures in
+    let e = c .before .before .before .before .transfer-event .ensures in
+    record { log = rw (p .log, e); fits = rw e at (p .fits) }
 
 pub report-unsupported-spec : {M : Type 1} → statement M
 report-unsupported-spec =
-    tie.close
-    (tie.spec transfer-event-requires put-record-requires empty-requires same-length returns)
+    tie.close (tie.spec transfer-event-requires put-record-requires same-length returns)

@@ -1,68 +1,163 @@
--- `in_endpoint::take_trb` meets its contract: each way out rewrites the definition's tests by those that led there. Assumes nothing.
-use mathlib.Core.Path.{refl, sym, ap, _∙_}
+-- `in_endpoint::take_trb` meets its contract: each way out is the definition's case for the questions that led there. Assumes nothing.
+use Prim.Native.Nat.{_≤_}
+use mathlib.Core.Path.{_≡_, sym, ap, _∙_}
+use mathlib.Core.Bool.{true, not}
 use borrow.Author.Tests.{not-true, not-false}
-use Rattle.log.proofs.CallLaws.{meets, meets-silent}
-use Rattle.log.proofs.LogLaws.{logged-none}
-use Rattle.in_endpoint.proofs.SubmissionLaws.{taken-unsupported, taken-full, taken-outside, taken-held}
+use Rattle.trb.specs.Limits.{maxTransferLength}
+use Rattle.trb.specs.Trbs.{transferLength}
+use Rattle.held.specs.Sound.{supported}
+use Rattle.held.specs.declared.EndpointKind.the-variants.{In}
+use Rattle.in_block.specs.Blocks.{inBlock, stored}
+use Rattle.in_block.specs.Sound.{submissionDue, soundBlock}
+use Rattle.in_block.specs.declared.HeldTest.{HeldTest}
+use Rattle.in_block.proofs.TestLaws.{sound-by, stored-normal}
+use Rattle.in_request.specs.Requests.{inGuestMemory}
+use Rattle.in_endpoint.proofs.SubmissionLaws.{submission-short, submission-unsound, submission-out-of-turn, submission-too-long, submission-taken, taken-unsupported, taken-full, taken-outside, taken-held, holding-chained, holding-ended, tdEnded-local, tdEnded-request}
 use borrow.Author.Needs.{needs}
 use Rattle.in_endpoint.proofs.take_trb.Statement.{statement}
 use Rattle.in_endpoint.proofs.take_trb.Tie as tie
 
+returns : tie.Need-returns
+returns c ts places found =
+    let s = c .before .args in
+    let b = inBlock (s .endpoint-id) (s .slot-id) (s .state) (s .held) ts in
+    (submission-short b (s .t) (s .window-base) (s .window-size) (s .log-length) (c .if1 .taken), tt)
+
+is-sound-requires : tie.Need-is-sound-requires
+is-sound-requires c κs = search needs
+
+returns-2 : tie.Need-returns-2
+returns-2 c ts places found =
+    let s = c .before .before .before .args in
+    let b = inBlock (s .endpoint-id) (s .slot-id) (s .state) (s .held) ts in
+    let long = c .before .before .if1 .left in
+    (submission-unsound b (s .t) (s .window-base) (s .window-size) (s .log-length) long (sound-by b (s .test) found (c .before .is-sound .result) (c .before .is-sound .ensures) ∙ not-true (c .before .is-sound .result) (c .if2 .taken)), tt)
+
+submission-due-requires : tie.Need-submission-due-requires
+submission-due-requires c κs = search needs
+
+returns-3 : tie.Need-returns-3
+returns-3 c ts places found =
+    let s = c .before .before .before .before .before .args in
+    let b = inBlock (s .endpoint-id) (s .slot-id) (s .state) (s .held) ts in
+    let long = c .before .before .before .before .if1 .left in
+    let sound : soundBlock b ≡ true = sound-by b (s .test) found (c .before .before .before .is-sound .result) (c .before .before .before .is-sound .ensures) ∙ not-false (c .before .before .before .is-sound .result) (c .before .before .if2 .left) in
+    (submission-out-of-turn b (s .t) (s .window-base) (s .window-size) (s .log-length) long sound (sym (c .before .submission-due .ensures) ∙ not-true (c .before .submission-due .result) (c .if3 .taken)), tt)
+
+transfer-length-requires : tie.Need-transfer-length-requires
+transfer-length-requires c κs = search needs
+
+returns-4 : tie.Need-returns-4
+returns-4 c ts places found =
+    let s = c .before .before .before .before .before .before .before .args in
+    let b = inBlock (s .endpoint-id) (s .slot-id) (s .state) (s .held) ts in
+    let long = c .before .before .before .before .before .before .if1 .left in
+    let sound : soundBlock b ≡ true = sound-by b (s .test) found (c .before .before .before .before .before .is-sound .result) (c .before .before .before .before .before .is-sound .ensures) ∙ not-false (c .before .before .before .before .before .is-sound .result) (c .before .before .before .before .if2 .left) in
+    let due : submissionDue (s .state) ≡ true = sym (c .before .before .before .submission-due .ensures) ∙ not-false (c .before .before .before .submission-due .result) (c .before .before .if3 .left) in
+    (submission-too-long b (s .t) (s .window-base) (s .window-size) (s .log-length) long sound due (rw (c .before .transfer-length .ensures) at (c .if4 .taken)), tt)
+
 supports-requires : tie.Need-supports-requires
 supports-requires c κs = search needs
 
-empty-requires : tie.Need-empty-requires
-empty-requires c κs = search needs
+returns-5 : tie.Need-returns-5
+returns-5 c ts places found =
+    let s = c .before .before .before .before .before .before .before .before .before .args in
+    let b = inBlock (s .endpoint-id) (s .slot-id) (s .state) (s .held) ts in
+    let long = c .before .before .before .before .before .before .before .before .if1 .left in
+    let sound : soundBlock b ≡ true = sound-by b (s .test) found (c .before .before .before .before .before .before .before .is-sound .result) (c .before .before .before .before .before .before .before .is-sound .ensures) ∙ not-false (c .before .before .before .before .before .before .before .is-sound .result) (c .before .before .before .before .before .before .if2 .left) in
+    let due : submissionDue (s .state) ≡ true = sym (c .before .before .before .before .before .submission-due .ensures) ∙ not-false (c .before .before .before .before .before .submission-due .result) (c .before .before .before .before .if3 .left) in
+    let short : transferLength (s .t .variant) ≤ maxTransferLength = rw (c .before .before .before .transfer-length .ensures) at (c .before .before .if4 .left) in
+    (submission-taken b (s .t) (s .window-base) (s .window-size) (s .log-length) long sound due short ∙ taken-unsupported b (s .t) (s .window-base) (s .window-size) (sym (c .before .supports .ensures) ∙ not-true (c .before .supports .result) (c .if5 .taken)), tt)
 
-returns : tie.Need-returns
-returns c =
-    let s = c .before .before .before .before .args in
-    meets (taken-unsupported (s .block) (s .t) (s .window-base) (s .window-size) (sym (c .before .before .supports .ensures) ∙ not-true (c .before .before .supports .result) (c .before .if1 .taken)))
-    (record { state = rw (c .empty .ensures); log = sym (logged-none (s .log .now) 0); fits = tt })
-
-refuse-submission-requires : tie.Need-refuse-submission-requires
-refuse-submission-requires c κs = search needs
-
-returns-2 : tie.Need-returns-2
-returns-2 c =
-    let s = c .before .before .before .before .before .before .args in
-    meets (taken-full (s .block) (s .t) (s .window-base) (s .window-size) (sym (c .before .before .before .before .supports .ensures) ∙ not-false (c .before .before .before .before .supports .result) (c .before .before .before .if1 .left)) (c .before .if2 .taken)) (meets-silent 0 (s .log .now) (c .refuse-submission .ensures))
+returns-6 : tie.Need-returns-6
+returns-6 c ts places found =
+    let s = c .before .before .before .before .before .before .before .before .before .before .args in
+    let b = inBlock (s .endpoint-id) (s .slot-id) (s .state) (s .held) ts in
+    let long = c .before .before .before .before .before .before .before .before .before .if1 .left in
+    let sound : soundBlock b ≡ true = sound-by b (s .test) found (c .before .before .before .before .before .before .before .before .is-sound .result) (c .before .before .before .before .before .before .before .before .is-sound .ensures) ∙ not-false (c .before .before .before .before .before .before .before .before .is-sound .result) (c .before .before .before .before .before .before .before .if2 .left) in
+    let due : submissionDue (s .state) ≡ true = sym (c .before .before .before .before .before .before .submission-due .ensures) ∙ not-false (c .before .before .before .before .before .before .submission-due .result) (c .before .before .before .before .before .if3 .left) in
+    let short : transferLength (s .t .variant) ≤ maxTransferLength = rw (c .before .before .before .before .transfer-length .ensures) at (c .before .before .before .if4 .left) in
+    let kind : supported In (s .t .variant) ≡ true = sym (c .before .before .supports .ensures) ∙ not-false (c .before .before .supports .result) (c .before .if5 .left) in
+    (submission-taken b (s .t) (s .window-base) (s .window-size) (s .log-length) long sound due short ∙ taken-full b (s .t) (s .window-base) (s .window-size) kind (c .if6 .taken), tt)
 
 in-guest-memory-requires : tie.Need-in-guest-memory-requires
 in-guest-memory-requires c κs = search needs
 
-refuse-submission-requires-2 : tie.Need-refuse-submission-requires-2
-refuse-submission-requires-2 c κs = search needs
+returns-7 : tie.Need-returns-7
+returns-7 c ts places found =
+    let s = c .before .before .before .before .before .before .before .before .before .before .before .before .args in
+    let b = inBlock (s .endpoint-id) (s .slot-id) (s .state) (s .held) ts in
+    let long = c .before .before .before .before .before .before .before .before .before .before .before .if1 .left in
+    let sound : soundBlock b ≡ true = sound-by b (s .test) found (c .before .before .before .before .before .before .before .before .before .before .is-sound .result) (c .before .before .before .before .before .before .before .before .before .before .is-sound .ensures) ∙ not-false (c .before .before .before .before .before .before .before .before .before .before .is-sound .result) (c .before .before .before .before .before .before .before .before .before .if2 .left) in
+    let due : submissionDue (s .state) ≡ true = sym (c .before .before .before .before .before .before .before .before .submission-due .ensures) ∙ not-false (c .before .before .before .before .before .before .before .before .submission-due .result) (c .before .before .before .before .before .before .before .if3 .left) in
+    let short : transferLength (s .t .variant) ≤ maxTransferLength = rw (c .before .before .before .before .before .before .transfer-length .ensures) at (c .before .before .before .before .before .if4 .left) in
+    let kind : supported In (s .t .variant) ≡ true = sym (c .before .before .before .before .supports .ensures) ∙ not-false (c .before .before .before .before .supports .result) (c .before .before .before .if5 .left) in
+    let room = c .before .before .if6 .left in
+    (submission-taken b (s .t) (s .window-base) (s .window-size) (s .log-length) long sound due short ∙ taken-outside b (s .t) (s .window-base) (s .window-size) kind room (sym (c .before .in-guest-memory .ensures) ∙ not-true (c .before .in-guest-memory .result) (c .if7 .taken)), tt)
 
-returns-3 : tie.Need-returns-3
-returns-3 c =
-    let s = c .before .before .before .before .before .before .before .before .args in
-    meets (taken-outside (s .block) (s .t) (s .window-base) (s .window-size) (sym (c .before .before .before .before .before .before .supports .ensures) ∙ not-false (c .before .before .before .before .before .before .supports .result) (c .before .before .before .before .before .if1 .left)) (c .before .before .before .if2 .left) (sym (c .before .before .in-guest-memory .ensures) ∙ not-true (c .before .before .in-guest-memory .result) (c .before .if3 .taken)))
-    (meets-silent 0 (s .log .now) (c .refuse-submission2 .ensures))
+chain-of-requires : tie.Need-chain-of-requires
+chain-of-requires c κs = search needs
 
-hold-requires : tie.Need-hold-requires
-hold-requires c κs = search needs
+returns-8 : tie.Need-returns-8
+returns-8 c ts places found =
+    let s = c .before .before .before .before .before .before .before .before .before .before .before .before .before .before .args in
+    let b = inBlock (s .endpoint-id) (s .slot-id) (s .state) (s .held) ts in
+    let long = c .before .before .before .before .before .before .before .before .before .before .before .before .before .if1 .left in
+    let sound : soundBlock b ≡ true = sound-by b (s .test) found (c .before .before .before .before .before .before .before .before .before .before .before .before .is-sound .result) (c .before .before .before .before .before .before .before .before .before .before .before .before .is-sound .ensures) ∙ not-false (c .before .before .before .before .before .before .before .before .before .before .before .before .is-sound .result) (c .before .before .before .before .before .before .before .before .before .before .before .if2 .left) in
+    let due : submissionDue (s .state) ≡ true = sym (c .before .before .before .before .before .before .before .before .before .before .submission-due .ensures) ∙ not-false (c .before .before .before .before .before .before .before .before .before .before .submission-due .result) (c .before .before .before .before .before .before .before .before .before .if3 .left) in
+    let short : transferLength (s .t .variant) ≤ maxTransferLength = rw (c .before .before .before .before .before .before .before .before .transfer-length .ensures) at (c .before .before .before .before .before .before .before .if4 .left) in
+    let kind : supported In (s .t .variant) ≡ true = sym (c .before .before .before .before .before .before .supports .ensures) ∙ not-false (c .before .before .before .before .before .before .supports .result) (c .before .before .before .before .before .if5 .left) in
+    let room = c .before .before .before .before .if6 .left in
+    let inside : inGuestMemory (s .t .variant) (s .window-base) (s .window-size) ≡ true = sym (c .before .before .before .in-guest-memory .ensures) ∙ not-false (c .before .before .before .in-guest-memory .result) (c .before .before .if7 .left) in
+    (submission-taken b (s .t) (s .window-base) (s .window-size) (s .log-length) long sound due short ∙ taken-held b (s .t) (s .window-base) (s .window-size) kind room inside ∙ holding-chained b (s .t) (sym (c .before .chain-of .ensures) ∙ c .if8 .taken), (long, (sound, (room, short))))
 
-same-length : tie.Need-same-length
-same-length c = search needs
+test-trb-requires : tie.Need-test-trb-requires
+test-trb-requires c κs = search needs
 
-returns-4 : tie.Need-returns-4
-returns-4 c =
-    let s = c .before .before .before .before .before .before .before .before .before .before .before .args in
-    meets (taken-held (s .block) (s .t) (s .window-base) (s .window-size) (sym (c .before .before .before .before .before .before .before .before .before .supports .ensures) ∙ not-false (c .before .before .before .before .before .before .before .before .before .supports .result) (c .before .before .before .before .before .before .before .before .if1 .left)) (c .before .before .before .before .before .before .if2 .left) (sym (c .before .before .before .before .before .in-guest-memory .ensures) ∙ not-false (c .before .before .before .before .before .in-guest-memory .result) (c .before .before .before .before .if3 .left))) (c .before .before .hold .ensures)
+returns-9 : tie.Need-returns-9
+returns-9 c ts places found =
+    let s = c .before .before .before .before .before .before .before .before .before .before .before .before .before .before .before .before .args in
+    let b = inBlock (s .endpoint-id) (s .slot-id) (s .state) (s .held) ts in
+    let long = c .before .before .before .before .before .before .before .before .before .before .before .before .before .before .before .if1 .left in
+    let sound : soundBlock b ≡ true = sound-by b (s .test) found (c .before .before .before .before .before .before .before .before .before .before .before .before .before .before .is-sound .result) (c .before .before .before .before .before .before .before .before .before .before .before .before .before .before .is-sound .ensures) ∙ not-false (c .before .before .before .before .before .before .before .before .before .before .before .before .before .before .is-sound .result) (c .before .before .before .before .before .before .before .before .before .before .before .before .before .if2 .left) in
+    let due : submissionDue (s .state) ≡ true = sym (c .before .before .before .before .before .before .before .before .before .before .before .before .submission-due .ensures) ∙ not-false (c .before .before .before .before .before .before .before .before .before .before .before .before .submission-due .result) (c .before .before .before .before .before .before .before .before .before .before .before .if3 .left) in
+    let short : transferLength (s .t .variant) ≤ maxTransferLength = rw (c .before .before .before .before .before .before .before .before .before .before .transfer-length .ensures) at (c .before .before .before .before .before .before .before .before .before .if4 .left) in
+    let kind : supported In (s .t .variant) ≡ true = sym (c .before .before .before .before .before .before .before .before .supports .ensures) ∙ not-false (c .before .before .before .before .before .before .before .before .supports .result) (c .before .before .before .before .before .before .before .if5 .left) in
+    let room = c .before .before .before .before .before .before .if6 .left in
+    let inside : inGuestMemory (s .t .variant) (s .window-base) (s .window-size) ≡ true = sym (c .before .before .before .before .before .in-guest-memory .ensures) ∙ not-false (c .before .before .before .before .before .in-guest-memory .result) (c .before .before .before .before .if7 .left) in
+    (submission-taken b (s .t) (s .window-base) (s .window-size) (s .log-length) long sound due short ∙ taken-held b (s .t) (s .window-base) (s .window-size) kind room inside ∙ holding-ended b (s .t) (sym (c .before .before .before .chain-of .ensures) ∙ c .before .before .if8 .left) ∙ tdEnded-local (stored b (s .t)) (stored-normal b (s .test) found (s .t) (rw places room) ∙ ap not (sym (ap (λ (u : HeldTest). u .«no_normal») (c .before .test-trb .ensures)) ∙ c .if9 .taken)), (long, (sound, (room, short))))
+
+returns-10 : tie.Need-returns-10
+returns-10 c ts places found =
+    let s = c .before .before .before .before .before .before .before .before .before .before .before .before .before .before .before .before .args in
+    let b = inBlock (s .endpoint-id) (s .slot-id) (s .state) (s .held) ts in
+    let long = c .before .before .before .before .before .before .before .before .before .before .before .before .before .before .before .if1 .left in
+    let sound : soundBlock b ≡ true = sound-by b (s .test) found (c .before .before .before .before .before .before .before .before .before .before .before .before .before .before .is-sound .result) (c .before .before .before .before .before .before .before .before .before .before .before .before .before .before .is-sound .ensures) ∙ not-false (c .before .before .before .before .before .before .before .before .before .before .before .before .before .before .is-sound .result) (c .before .before .before .before .before .before .before .before .before .before .before .before .before .if2 .left) in
+    let due : submissionDue (s .state) ≡ true = sym (c .before .before .before .before .before .before .before .before .before .before .before .before .submission-due .ensures) ∙ not-false (c .before .before .before .before .before .before .before .before .before .before .before .before .submission-due .result) (c .before .before .before .before .before .before .before .before .before .before .before .if3 .left) in
+    let short : transferLength (s .t .variant) ≤ maxTransferLength = rw (c .before .before .before .before .before .before .before .before .before .before .transfer-length .ensures) at (c .before .before .before .before .before .before .before .before .before .if4 .left) in
+    let kind : supported In (s .t .variant) ≡ true = sym (c .before .before .before .before .before .before .before .before .supports .ensures) ∙ not-false (c .before .before .before .before .before .before .before .before .supports .result) (c .before .before .before .before .before .before .before .if5 .left) in
+    let room = c .before .before .before .before .before .before .if6 .left in
+    let inside : inGuestMemory (s .t .variant) (s .window-base) (s .window-size) ≡ true = sym (c .before .before .before .before .before .in-guest-memory .ensures) ∙ not-false (c .before .before .before .before .before .in-guest-memory .result) (c .before .before .before .before .if7 .left) in
+    (submission-taken b (s .t) (s .window-base) (s .window-size) (s .log-length) long sound due short ∙ taken-held b (s .t) (s .window-base) (s .window-size) kind room inside ∙ holding-ended b (s .t) (sym (c .before .before .before .chain-of .ensures) ∙ c .before .before .if8 .left) ∙ tdEnded-request (stored b (s .t)) (stored-normal b (s .test) found (s .t) (rw places room) ∙ ap not (sym (ap (λ (u : HeldTest). u .«no_normal») (c .before .test-trb .ensures)) ∙ c .if9 .left)), (long, (sound, (room, short))))
 
 pub take-trb-spec : {M : Type 1} → statement M
 take-trb-spec =
     tie.close
     (tie.spec
-    supports-requires
-    empty-requires
     returns
-    refuse-submission-requires
+    is-sound-requires
     returns-2
-    in-guest-memory-requires
-    refuse-submission-requires-2
+    submission-due-requires
     returns-3
-    hold-requires
-    same-length
-    returns-4)
+    transfer-length-requires
+    returns-4
+    supports-requires
+    returns-5
+    returns-6
+    in-guest-memory-requires
+    returns-7
+    chain-of-requires
+    returns-8
+    test-trb-requires
+    returns-9
+    returns-10)

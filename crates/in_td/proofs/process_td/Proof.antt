@@ -25,25 +25,22 @@ long s = search needs
 
 -- the state and the log after a turn's step
 turn : (c : tie.After-process-trb Inv-loop μ-loop) →
-    let s = c .before .before .before .before .before .before .before .before .args in
+    let s = c .before .before .before .before .before .before .before .args in
     Walked (tdWalker (s .td)) unprocessed (take (s .held) (s .t3)) (s .log .now) (c .process-trb .last .0) (c .process-trb .result) (c .before .before .before .before .loop .i + 1)
 turn c =
     let l = c .before .before .before .before .loop in
-    let s = c .before .before .before .before .before .before .before .before in
+    let s = c .before .before .before .before .before .before .before in
     walked-turn (tdWalker (s .args .td)) (s .args .t3) (s .args .held) (long s) unprocessed (s .args .log .now)
     (l .log) (c .process-trb .last .0) (l .processed) (c .process-trb .result) (l .i) pastEnd
     (l .inv .0) (l .inv .1 .0) (c .before .before .before .loop-test .taken) (omega (arith, s .pre)) (c .process-trb .ensures)
 
-at-start-of-td-requires : tie.Need-at-start-of-td-requires Inv-loop μ-loop
-at-start-of-td-requires c κs = search needs
-
-going-on-requires : tie.Need-going-on-requires Inv-loop μ-loop
-going-on-requires c κs = search needs
+unprocessed-requires : tie.Need-unprocessed-requires Inv-loop μ-loop
+unprocessed-requires c κs = search needs
 
 loop-holds : tie.Need-loop-holds Inv-loop μ-loop
 loop-holds c =
-    let s = c .before .before .before .args in
-    rw (c .going-on .ensures, c .before .at-start-of-td .ensures)
+    let s = c .before .before .args in
+    rw (c .unprocessed .ensures)
     (walked-none (tdWalker (s .td)) unprocessed (take (s .held) (s .t3)) (s .log .now) (record { within = omega arith }), (refl, search needs))
 
 mul-t : tie.Need-mul-t Inv-loop μ-loop
@@ -55,7 +52,7 @@ array-copy-out-t c = search needs
 process-trb-requires : tie.Need-process-trb-requires Inv-loop μ-loop
 process-trb-requires c κs =
     let l = c .before .before .before .loop in
-    (omega (arith, l .inv .0, c .before .before .before .before .before .before .before .pre), l .inv .0 .good)
+    (omega (arith, l .inv .0, c .before .before .before .before .before .before .pre), l .inv .0 .good)
 
 is-error-requires : tie.Need-is-error-requires Inv-loop μ-loop
 is-error-requires c κs = search needs
@@ -66,7 +63,7 @@ same-length c = search needs
 returns : tie.Need-returns Inv-loop μ-loop
 returns c =
     let t = c .before .before .before .before in
-    let s = t .before .before .before .before .before .before .before .before in
+    let s = t .before .before .before .before .before .before .before in
     walked-stop (tdWalker (s .args .td)) (s .args .t3) (s .args .held) (long s) unprocessed (s .args .log .now)
     (t .process-trb .last .0) (t .process-trb .result) (t .before .before .before .before .loop .i + 1) (turn t) (sym (c .before .is-error .ensures) ∙ c .if1 .taken)
 
@@ -85,7 +82,7 @@ same-length-2 c = search needs
 returns-2 : tie.Need-returns-2 Inv-loop μ-loop
 returns-2 c =
     let l = c .before in
-    let s = l .before .before .before .before in
+    let s = l .before .before .before in
     walked-end (tdWalker (s .args .td)) (s .args .t3) (s .args .held) (long s) unprocessed (s .args .log .now)
     (l .loop .log) (l .loop .processed) (l .loop .i) (l .loop .inv .0) (c .loop-test .left)
 
@@ -95,8 +92,7 @@ process-td-spec =
     (tie.spec
     Inv-loop
     μ-loop
-    at-start-of-td-requires
-    going-on-requires
+    unprocessed-requires
     loop-holds
     mul-t
     array-copy-out-t

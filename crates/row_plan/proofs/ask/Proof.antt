@@ -13,22 +13,22 @@ returns : tie.Need-returns
 unfolding rowPlan
 returns c = rw (lt-leb _ _ (c .before .if1 .taken)) (c .refuse .ensures)
 
-row-sound-requires : tie.Need-row-sound-requires
-row-sound-requires c κs = search needs
+is-sound-requires : tie.Need-is-sound-requires
+is-sound-requires c κs = search needs
 
 refuse-requires-2 : tie.Need-refuse-requires-2
 refuse-requires-2 c κs = search needs
 
 returns-2 : tie.Need-returns-2
 unfolding rowPlan
-returns-2 c = rw (le-leb _ _ (c .before .before .before .if1 .left), sym (c .before .before .row-sound .ensures) ∙ not-true (c .before .before .row-sound .result) (c .before .if2 .taken)) (c .refuse2 .ensures)
+returns-2 c = rw (le-leb _ _ (c .before .before .before .if1 .left), sym (c .before .before .is-sound .ensures) ∙ not-true (c .before .before .is-sound .result) (c .before .if2 .taken)) (c .refuse2 .ensures)
 
 plan-requires : tie.Need-plan-requires
 plan-requires c κs = search needs
 
 returns-3 : tie.Need-returns-3
 unfolding rowPlan
-returns-3 c = rw (le-leb _ _ (c .before .before .before .if1 .left), sym (c .before .before .row-sound .ensures) ∙ not-false (c .before .before .row-sound .result) (c .before .if2 .left)) (c .plan .ensures)
+returns-3 c = rw (le-leb _ _ (c .before .before .before .if1 .left), sym (c .before .before .is-sound .ensures) ∙ not-false (c .before .before .is-sound .result) (c .before .if2 .left)) (c .plan .ensures)
 
 pub ask-spec : {M : Type 1} → statement M
 ask-spec =
@@ -36,7 +36,7 @@ ask-spec =
     (tie.spec
     refuse-requires
     returns
-    row-sound-requires
+    is-sound-requires
     refuse-requires-2
     returns-2
     plan-requires

@@ -29,8 +29,8 @@ cast-td-of c = search needs
 td-of-requires : tie.Need-td-of-requires
 td-of-requires c κs = search needs
 
-unprocessed-td-requires : tie.Need-unprocessed-td-requires
-unprocessed-td-requires c κs = search needs
+unprocessed-requires : tie.Need-unprocessed-requires
+unprocessed-requires c κs = search needs
 
 returns-2 : tie.Need-returns-2
 returns-2 c =
@@ -40,7 +40,7 @@ returns-2 c =
 returns-3 : tie.Need-returns-3
 returns-3 c =
     let s = c .before .before .before .before .before .before .args in
-    rw (c .unprocessed-td .ensures, c .before .td-of .ensures) (sym (resultPlan-by (s .endpoint-id) (s .slot-id) (s .row-length) (s .data-length) (c .before .before .before .before .result .given .1) ∙ rw (le-leb _ _ (c .before .before .if1 .left))))
+    rw (c .unprocessed .ensures, c .before .td-of .ensures) (sym (resultPlan-by (s .endpoint-id) (s .slot-id) (s .row-length) (s .data-length) (c .before .before .before .before .result .given .1) ∙ rw (le-leb _ _ (c .before .before .if1 .left))))
 
 pub plan-spec : {M : Type 1} → statement M
 plan-spec =
@@ -53,6 +53,6 @@ plan-spec =
     returns
     cast-td-of
     td-of-requires
-    unprocessed-td-requires
+    unprocessed-requires
     returns-2
     returns-3)

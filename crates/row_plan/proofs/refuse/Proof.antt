@@ -6,11 +6,11 @@ use Rattle.row_plan.proofs.refuse.Tie as tie
 td-of-requires : tie.Need-td-of-requires
 td-of-requires c κs = search needs
 
-unprocessed-td-requires : tie.Need-unprocessed-td-requires
-unprocessed-td-requires c κs = search needs
+unprocessed-requires : tie.Need-unprocessed-requires
+unprocessed-requires c κs = search needs
 
 returns : tie.Need-returns
-returns c = rw (c .unprocessed-td .ensures, c .before .td-of .ensures)
+returns c = rw (c .unprocessed .ensures, c .before .td-of .ensures)
 
 pub refuse-spec : {M : Type 1} → statement M
-refuse-spec = tie.close (tie.spec td-of-requires unprocessed-td-requires returns)
+refuse-spec = tie.close (tie.spec td-of-requires unprocessed-requires returns)

@@ -43,10 +43,11 @@ use Rattle.lent_laws.proofs.LentLaws.{gives, returned, says-both, by-walk}
 use Rattle.log.specs.Calls.{Meets}
 use Rattle.in_td.specs.Td.{processTd}
 use Rattle.in_td.specs.declared.TdProcessed.{TdProcessed}
-use Rattle.row_plan.specs.Plans.{rowTest, rowPlan, rowAnswer}
+use Rattle.in_block.specs.Test.{heldTest}
+use Rattle.row_plan.specs.Plans.{rowPlan, rowAnswer}
 use Rattle.row_plan.specs.declared.RowCompleted.{RowCompleted}
 use Rattle.row_plan.specs.declared.RowPlan.{RowPlan}
-use Rattle.row_plan.specs.declared.RowTest.{RowTest}
+use Rattle.in_block.specs.declared.HeldTest.{HeldTest}
 use Rattle.trb.specs.declared.EndpointId.{EndpointId}
 use Rattle.trb.specs.declared.InTrbProcessingResult.{InTrbProcessingResult}
 use Rattle.trb.specs.declared.SlotId.{SlotId}
@@ -58,8 +59,8 @@ use Rattle.trb.proofs.SlotId as D
 use Rattle.trb.proofs.SlotId.Laws as D′
 use Rattle.trb.proofs.InTrbProcessingResult as R
 use Rattle.trb.proofs.InTrbProcessingResult.Laws as R′
-use Rattle.row_plan.proofs.RowTest as T
-use Rattle.row_plan.proofs.RowTest.Laws as T′
+use Rattle.in_block.proofs.HeldTest as T
+use Rattle.in_block.proofs.HeldTest.Laws as T′
 use Rattle.row_plan.proofs.RowPlan as P
 use Rattle.row_plan.proofs.RowPlan.Laws as P′
 use Rattle.in_td.proofs.TdProcessed as S
@@ -199,7 +200,7 @@ module _ {M : Type 1} (𝓤 : URA M) (H : Heap 𝓤) (A : Atoms 𝓤) (W : Given
   hands-test =
       qed W (‵ (flft κ1 q1) ∷ ‵ OwnRow ∷ []) ∵ nothing ! $ move ! (2 ∷ 0 ∷ []) $ fjoin ! $ nothing ! $ move ! (2 ∷ 0 ∷ []) $ join ! $ move ! (0 ∷ 1 ∷ []) $ join ! $ frame ! $ done !
 
-  abbrev to-ask : RowTest → Val → Ask 𝓤 H A at-mem run .Ghost
+  abbrev to-ask : HeldTest → Val → Ask 𝓤 H A at-mem run .Ghost
   to-ask t tv = (
     (
       tt,
@@ -211,7 +212,7 @@ module _ {M : Type 1} (𝓤 : URA M) (H : Heap 𝓤) (A : Atoms 𝓤) (W : Given
     tt,
   )
 
-  hands-ask : (t : RowTest) (tv : Val) → Is T.the-row t (tv ∷ []) → ent 𝓤 (⋆ 𝓤 H A []) (Ask 𝓤 H A at-mem run .pre (to-ask t tv))
+  hands-ask : (t : HeldTest) (tv : Val) → Is T.the-row t (tv ∷ []) → ent 𝓤 (⋆ 𝓤 H A []) (Ask 𝓤 H A at-mem run .pre (to-ask t tv))
   hands-ask t tv t-is =
       qed W [] ∵ nothing ! $ nothing ! $ owned ! usize (Is usize) (uint-makes 𝓤 H A W w64) (length (now bytes-ref)) _ (refl, bytes-room .0) $ fjoin ! $
       owned ! R.the-row (Is R.the-row) (EL.makes R.the-type R′.the-plain 𝓤 H A) result _ result-is $ fjoin ! $
@@ -224,7 +225,7 @@ module _ {M : Type 1} (𝓤 : URA M) (H : Heap 𝓤) (A : Atoms 𝓤) (W : Given
   abbrev to-walk : RowPlan → Val → Walk 𝓤 H A at-mem run .Ghost
   to-walk p pv = (((κ0, (κ1, tt)), (q0, (q1, tt)), tt, (log-ref, (row-ref, (p, tt))), (log-val ∷ [], (row-val ∷ [], (pv ∷ [], tt)))), tt)
 
-  hands-walk : (t : RowTest) (p : RowPlan) (pv : Val) → Is P.the-row p (pv ∷ []) → t ≡ rowTest (now row-ref)
+  hands-walk : (t : HeldTest) (p : RowPlan) (pv : Val) → Is P.the-row p (pv ∷ []) → t ≡ heldTest (now row-ref)
       → p ≡ rowPlan (length (now log-ref)) endpoint slot (length (now row-ref)) t result (length (now bytes-ref))
       → ent 𝓤 (⋆ 𝓤 H A (‵ (flft κ0 q0) ∷ ‵ (flft κ1 q1) ∷ ‵ OwnLog ∷ ‵ OwnRow ∷ [])) (Walk 𝓤 H A at-mem run .pre (to-walk p pv))
   hands-walk t p pv p-is tested planned =
@@ -244,7 +245,7 @@ module _ {M : Type 1} (𝓤 : URA M) (H : Heap 𝓤) (A : Atoms 𝓤) (W : Given
   abbrev Left : List ℕ → List (Item 𝓤)
   Left zs = ‵ (flft κ0 q0) ∷ ‵ (flft κ1 q1) ∷ ‵ (flft κ2 q2) ∷ ‵ (finally u8 (name log-ref) zs) ∷ ‵ OwnRow ∷ ‵ OwnData ∷ []
 
-  leaves : (t : RowTest) (p : RowPlan) (s : TdProcessed) (r : RowCompleted) (v : Val) (zs : List ℕ) → t ≡ rowTest (now row-ref)
+  leaves : (t : HeldTest) (p : RowPlan) (s : TdProcessed) (r : RowCompleted) (v : Val) (zs : List ℕ) → t ≡ heldTest (now row-ref)
       → p ≡ rowPlan (length (now log-ref)) endpoint slot (length (now row-ref)) t result (length (now bytes-ref))
       → Meets (processTd (p .td) (take (p .count) (now row-ref))) 0 (now log-ref) s zs → r ≡ rowAnswer p s → length zs ≡ length (now log-ref)
       → Is O.the-row r (v ∷ []) → ent 𝓤 (⋆ 𝓤 H A (Left zs)) (Post v)
@@ -281,7 +282,7 @@ module _ {M : Type 1} (𝓤 : URA M) (H : Heap 𝓤) (A : Atoms 𝓤) (W : Given
           -- every TRB is tested
           move ! (6 ∷ 2 ∷ []) $ gives W (‵ (flft κ1 q1) ∷ ‵ OwnRow ∷ []) (raw (Test 𝓤 H A at-mem run .pre to-test)) hands-test $
           calls-at ! fm (Test 𝓤 H A at-mem run) known-test to-test (and-then ! (load ! (from ! (stop !)) (look ! 11 refl)) (no-more !)) (λ w7.
-          returned ! tt test.ended (test.clauses 𝓤 H A at-mem run) to-test w7 (λ tested lasts7. heard ! (tested ≡ rowTest (now row-ref)) (λ e7.
+          returned ! tt test.ended (test.clauses 𝓤 H A at-mem run) to-test w7 (λ tested lasts7. heard ! (tested ≡ heldTest (now row-ref)) (λ e7.
           drop ! $ use1 W (‵ (flft κ1 q1) ⊛ ‵ ftrue) (id⊢ 𝓤 _) $ split ! $ move ! (1 ∷ []) $ drop ! $ move ! (1 ∷ []) $ peeks ! T.the-row (Is T.the-row) (shows 𝓤 H A T.the-row) tested (w7 ∷ []) (λ tested-is. drop ! $
           land ! (from ! (stop !)) (init ! 14 refl (LL.lawful T.the-type T′.the-laws 𝓤 H A W .typed tested _ tested-is .0)) $
           assigns ! (of-opd ! (load ! (from ! (fld ! refl (stop !))) (look-in ! 8 (sub ! 1 refl (whole !))))) (from ! (stop !)) (init ! 17 refl (tt, record { fits = log-room .0 })) $
