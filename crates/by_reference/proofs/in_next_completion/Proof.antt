@@ -1,4 +1,4 @@
--- `by_reference::next_completion` meets its contract: the block's borrow is opened and the block read whole; the function by value is
+-- `by_reference::in_next_completion` meets its contract: the block's borrow is opened and the block read whole; the function by value is
 -- called with it, of which the proof knows only its contract; the block of its answer is stored over the old one, and the borrow is
 -- closed at it. A walk of the MIR by hand. Assumes nothing.
 use mathlib.Core.Path.{_≡_, refl, ap}
@@ -62,11 +62,11 @@ use Rattle.in_endpoint.proofs.next_completion as callee
 use Rattle.in_endpoint.proofs.next_completion.Symbol as callee-def
 use Rattle.in_endpoint.proofs.next_completion.Symbol.{name as #callee}
 use Rattle.in_endpoint.proofs.next_completion.Met as callee-thm
-use Rattle.by_reference.proofs.next_completion.Key.{name as #wrap}
-use Rattle.by_reference.proofs.next_completion as wrap
-use Rattle.by_reference.proofs.next_completion.Statement as stated
-use Rattle.by_reference.proofs.next_completion.Code as code
-use Rattle.by_reference.proofs.next_completion.Code.Mir as steps
+use Rattle.by_reference.proofs.in_next_completion.Key.{name as #wrap}
+use Rattle.by_reference.proofs.in_next_completion as wrap
+use Rattle.by_reference.proofs.in_next_completion.Statement as stated
+use Rattle.by_reference.proofs.in_next_completion.Code as code
+use Rattle.by_reference.proofs.in_next_completion.Code.Mir as steps
 
 -- what becomes of each parameter: the block is still lent, at its last value; the callee has each `&mut` slice for good
 abbrev stayed : Stays (wrap.ended .signature .params) (wrap.ended .kept)
@@ -272,9 +272,9 @@ module _ {M : Type 1} (𝓤 : URA M) (H : Heap 𝓤) (A : Atoms 𝓤) (W : Given
       (λ κs qs bounds a g are. via 𝓤 _ (fst∗ 𝓤 _ (emp 𝓤))
       (walk 𝓤 H A W at-mem run (κs .0) (κs .1 .0) (κs .1 .1 .0) (qs .0) (qs .1 .0) (qs .1 .1 .0) (a .0) (a .1 .0) (a .1 .1 .0) (only (EL.vals D.the-type D′.the-laws (a .1 .1 .0))) (a .1 .1 .1 .0) (are .0 .0 .1) (are .1 .1 .0) (are .1 .1 .1 .0 .0 .1) C Λ fm known))
 
-pub next-completion-spec : {M : Type 1} → stated.statement M
+pub in-next-completion-spec : {M : Type 1} → stated.statement M
 unfolding code.routine tablesOf
-next-completion-spec 𝓤 H 𝓜 𝓖 𝓡 =
+in-next-completion-spec 𝓤 H 𝓜 𝓖 𝓡 =
     by-walk 𝓤 H 𝓜 𝓖 𝓡 code.env wrap.ended stayed (gone 𝓤 H (𝓖 .A) (givenOf 𝓤 H 𝓜 𝓖)) (wrap.clauses 𝓤 H (𝓖 .A) (𝓜 .mem) (𝓡 .run)) #wrap code.function (code.unfolded 𝓤 H 𝓜 𝓡)
     (walks 𝓤 H (𝓖 .A) (givenOf 𝓤 H 𝓜 𝓖) (𝓜 .mem) (𝓡 .run) (tables 𝓤 H 𝓜 𝓡 code.env .C) (tables 𝓤 H 𝓜 𝓡 code.env .Λ) (fmOf 𝓤 H (givenOf 𝓤 H 𝓜 𝓖 .laws) (tablesOf 𝓤 H 𝓜 (tables 𝓤 H 𝓜 𝓡 code.env)))
     (cited 𝓤 H (Callee 𝓤 H (𝓖 .A) (𝓜 .mem) (𝓡 .run)) 𝓜 𝓡 code.env #callee callee-def.routine code.calls-in-endpoint·next-completion (callee-thm.met 𝓤 H 𝓜 𝓖 𝓡)))

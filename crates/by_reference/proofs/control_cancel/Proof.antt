@@ -1,4 +1,4 @@
--- `by_reference::cancel` meets its contract: the block's borrow is opened and the block read whole; the function by value is called with
+-- `by_reference::control_cancel` meets its contract: the block's borrow is opened and the block read whole; the function by value is called with
 -- it, of which the proof knows only its contract; the block that it returns is stored over the old one, and the borrow is closed at it.
 -- A walk of the MIR by hand. Assumes nothing.
 use mathlib.Core.Path.{_≡_, refl}
@@ -32,18 +32,17 @@ use denote.Triple.Call.{calls-at}
 use denote.Triple.Table.{cited}
 use denote.Triple.Walked.{says, Stays, stay-ref, walkOf, AllGo, goes-ref, Walks, ends-at, walked}
 use Rattle.lent_laws.proofs.LentLaws.{gives, reads, stores, returned, by-walk}
-use Rattle.in_endpoint.specs.Creation.{cancelled}
-use Rattle.in_block.specs.declared.InBlock.{InBlock}
-use Rattle.in_block.proofs.InBlock as B
-use Rattle.in_block.proofs.InBlock.Laws as B′
-use Rattle.in_endpoint.proofs.cancel as callee
-use Rattle.in_endpoint.proofs.cancel.Symbol as callee-def
-use Rattle.in_endpoint.proofs.cancel.Symbol.{name as #callee}
-use Rattle.in_endpoint.proofs.cancel.Met as callee-thm
-use Rattle.by_reference.proofs.cancel.Key.{name as #wrap}
-use Rattle.by_reference.proofs.cancel as wrap
-use Rattle.by_reference.proofs.cancel.Statement as stated
-use Rattle.by_reference.proofs.cancel.Code as code
+use Rattle.control_block.specs.declared.ControlBlock.{ControlBlock}
+use Rattle.control_block.proofs.ControlBlock as B
+use Rattle.control_block.proofs.ControlBlock.Laws as B′
+use Rattle.control_endpoint.proofs.cancel as callee
+use Rattle.control_endpoint.proofs.cancel.Symbol as callee-def
+use Rattle.control_endpoint.proofs.cancel.Symbol.{name as #callee}
+use Rattle.control_endpoint.proofs.cancel.Met as callee-thm
+use Rattle.by_reference.proofs.control_cancel.Key.{name as #wrap}
+use Rattle.by_reference.proofs.control_cancel as wrap
+use Rattle.by_reference.proofs.control_cancel.Statement as stated
+use Rattle.by_reference.proofs.control_cancel.Code as code
 
 -- what becomes of the parameter: it is still lent, at its last value
 abbrev stayed : Stays (wrap.ended .signature .params) (wrap.ended .kept)
@@ -57,11 +56,11 @@ abbrev Callee : {M : Type 1} (𝓤 : URA M) (H : Heap 𝓤) (A : Atoms 𝓤) (me
 Callee 𝓤 H A mem run = tripleOf 𝓤 H A callee.signature (callee.spec 𝓤 H A mem run)
 
 module _ {M : Type 1} (𝓤 : URA M) (H : Heap 𝓤) (A : Atoms 𝓤) (W : Given 𝓤 H A) (at-mem : Memory → SProp 𝓤) (run : Routine → Fun 𝓤)
-    (κ : Lft) (q : Share) (block-ref : RefT InBlock) where
+    (κ : Lft) (q : Share) (block-ref : RefT ControlBlock) where
   abbrev block-val : Val
   block-val = vptr (ptr block-ref .0) (ptr block-ref .1)
 
-  abbrev args : RefT InBlock × Unit {0}
+  abbrev args : RefT ControlBlock × Unit {0}
   args = (block-ref, tt)
 
   abbrev vals : List Val × Unit {0}
@@ -79,10 +78,10 @@ module _ {M : Type 1} (𝓤 : URA M) (H : Heap 𝓤) (A : Atoms 𝓤) (W : Given
       qed W (‵ ftrue ∷ []) ∵ nothing ! $ owned ! B.the-row (Is B.the-row) (LL.makes B.the-type B′.the-plain 𝓤 H A) (now block-ref) _ is $ fjoin ! $ move ! (1 ∷ 0 ∷ []) $ join ! $ frame ! $ done !
 
   -- the caller has at the end what its own contract asks
-  abbrev Left : InBlock → List (Item 𝓤)
+  abbrev Left : ControlBlock → List (Item 𝓤)
   Left r = ‵ (fobs (name block-ref) (B.the-row .coded .code r)) ∷ ‵ (fbor κ (Body (mem B.the-row) (ptr block-ref .0) (ptr block-ref .1) (name block-ref))) ∷ ‵ (flft κ q) ∷ []
 
-  leaves : (r : InBlock) → r ≡ cancelled (now block-ref) → ent 𝓤 (⋆ 𝓤 H A (Left r)) (Post vunit)
+  leaves : (r : ControlBlock) → r ≡ now block-ref → ent 𝓤 (⋆ 𝓤 H A (Left r)) (Post vunit)
   leaves r e =
       qed W (Left r) ∵ suffices ! _ (ends-at 𝓤 H A wrap.ended stayed (wrap.clauses 𝓤 H A at-mem run) W (((κ, tt), (q, tt), tt, args, vals), tt) vunit tt (r, tt) (tt, tt)) $
       says ! e $ nothing ! $ move ! (3 ∷ 0 ∷ []) $ join ! $ frame ! $
@@ -101,7 +100,7 @@ module _ {M : Type 1} (𝓤 : URA M) (H : Heap 𝓤) (A : Atoms 𝓤) (W : Given
         -- the call
         move ! (4 ∷ []) $ gives W (‵ ftrue ∷ []) (raw (Callee 𝓤 H A at-mem run .pre (to-callee v))) (hands v is) $
         calls-at ! fm (Callee 𝓤 H A at-mem run) known (to-callee v) (and-then ! (load ! (from ! (stop !)) (look ! 6 refl)) (no-more !)) (λ w.
-        returned ! tt callee.ended (callee.clauses 𝓤 H A at-mem run) (to-callee v) w (λ r lasts. heard ! (r ≡ cancelled (now block-ref)) (λ e. drop ! $ drop ! $
+        returned ! tt callee.ended (callee.clauses 𝓤 H A at-mem run) (to-callee v) w (λ r lasts. heard ! (r ≡ now block-ref) (λ e. drop ! $ drop ! $
         -- [what the new block owns; the block's cell; …]
         peeks ! B.the-row (Is B.the-row) (shows 𝓤 H A B.the-row) r (w ∷ []) (λ r-is. drop ! $
         -- the block is stored back, and its borrow is closed
@@ -121,9 +120,9 @@ module _ {M : Type 1} (𝓤 : URA M) (H : Heap 𝓤) (A : Atoms 𝓤) (W : Given
       walked 𝓤 H A wrap.ended stayed (wrap.clauses 𝓤 H A at-mem run) (WpFn 𝓤 H C Λ code.function) (λ κs. (ptr-vals, tt)) (λ κs. (mut-tells (named 0) (κs .0) B.the-row, tt))
       (λ κs qs bounds a g are. via 𝓤 _ (fst∗ 𝓤 _ (emp 𝓤)) (walk 𝓤 H A W at-mem run (κs .0) (qs .0) (a .0) C Λ fm known))
 
-pub cancel-spec : {M : Type 1} → stated.statement M
+pub control-cancel-spec : {M : Type 1} → stated.statement M
 unfolding code.routine tablesOf
-cancel-spec 𝓤 H 𝓜 𝓖 𝓡 =
+control-cancel-spec 𝓤 H 𝓜 𝓖 𝓡 =
     by-walk 𝓤 H 𝓜 𝓖 𝓡 code.env wrap.ended stayed (gone 𝓤 H (𝓖 .A) (givenOf 𝓤 H 𝓜 𝓖)) (wrap.clauses 𝓤 H (𝓖 .A) (𝓜 .mem) (𝓡 .run)) #wrap code.function (code.unfolded 𝓤 H 𝓜 𝓡)
     (walks 𝓤 H (𝓖 .A) (givenOf 𝓤 H 𝓜 𝓖) (𝓜 .mem) (𝓡 .run) (tables 𝓤 H 𝓜 𝓡 code.env .C) (tables 𝓤 H 𝓜 𝓡 code.env .Λ) (fmOf 𝓤 H (givenOf 𝓤 H 𝓜 𝓖 .laws) (tablesOf 𝓤 H 𝓜 (tables 𝓤 H 𝓜 𝓡 code.env)))
-    (cited 𝓤 H (Callee 𝓤 H (𝓖 .A) (𝓜 .mem) (𝓡 .run)) 𝓜 𝓡 code.env #callee callee-def.routine code.calls-in-endpoint·cancel (callee-thm.met 𝓤 H 𝓜 𝓖 𝓡)))
+    (cited 𝓤 H (Callee 𝓤 H (𝓖 .A) (𝓜 .mem) (𝓡 .run)) 𝓜 𝓡 code.env #callee callee-def.routine code.calls-control-endpoint·cancel (callee-thm.met 𝓤 H 𝓜 𝓖 𝓡)))
