@@ -1,2 +1,4 @@
 pub mod LentLaws
 pub mod Again
+pub mod Layers
+pub mod CancelLayer
