@@ -3,6 +3,7 @@ use control_block::ControlBlock;
 use in_block::InBlock;
 use trb::Answer;
 use trb::CompletionAnswer;
+use trb::ControlRequestProcessingResult;
 use trb::InTrbProcessingResult;
 use trb::TransferTrb;
 ghost use mathlib.Core.Path.{_≡_};
@@ -12,7 +13,9 @@ ghost use Rattle.log.specs.Logs.{recordsIn};
 ghost use Rattle.in_endpoint.specs.Creation.{cancelled};
 ghost use Rattle.in_endpoint.specs.Submission.{submission as submissionIn};
 ghost use Rattle.in_endpoint.specs.Completion.{completion as completionIn, Accounted};
-ghost use Rattle.by_reference.specs.Outcomes.{submittedIn, completedIn};
+ghost use Rattle.control_submit.specs.Submits.{submission as submissionControl, Submits};
+ghost use Rattle.control_complete.specs.Completes.{completion as completionControl};
+ghost use Rattle.by_reference.specs.Outcomes.{submittedIn, completedIn, submittedControl, completedControl};
 
 pub struct SubmissionOutcome {
     pub answer: Answer,
@@ -67,6 +70,40 @@ pub fn in_cancel(block: &mut InBlock)
 }
 
 // ---- Control endpoint
+
+pub fn control_submit_trb(
+    log: &mut [u8],
+    collect: &mut [u8],
+    block: &mut ControlBlock,
+    t: TransferTrb,
+    window_base: u64,
+    window: &[u8],
+) -> SubmissionOutcome
+    ensures { λ r. ⌜ Submits (submissionControl (length (now (log .entry))) (length (now (collect .entry))) (now (block .entry)) t «window_base» (now (window .entry))) (now (log .entry)) (now (collect .entry)) (submittedControl r (now (block .exit))) (now (log .exit)) (now (collect .exit)) ⌝ }
+{
+    let r = control_endpoint::submit_trb(log, collect, *block, t, window_base, window);
+    *block = r.block;
+    SubmissionOutcome {
+        answer: r.answer,
+        records: r.records,
+    }
+}
+
+pub fn control_next_completion(
+    log: &mut [u8],
+    block: &mut ControlBlock,
+    result: ControlRequestProcessingResult,
+    data: &[u8],
+) -> CompletionOutcome
+    ensures { λ r. ⌜ Meets (completionControl (length (now (log .entry))) (now (block .entry)) result (length (now («data» .entry)))) 0 (now (log .entry)) (completedControl r (now (block .exit))) (now (log .exit)) ⌝ }
+{
+    let r = control_endpoint::next_completion(log, *block, result, data);
+    *block = r.block;
+    CompletionOutcome {
+        answer: r.answer,
+        records: r.records,
+    }
+}
 
 pub fn control_cancel(block: &mut ControlBlock)
     ensures { λ _. ⌜ now (block .exit) ≡ now (block .entry) ⌝ }

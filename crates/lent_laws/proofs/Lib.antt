@@ -2,3 +2,6 @@ pub mod LentLaws
 pub mod Again
 pub mod Layers
 pub mod CancelLayer
+pub mod CompletionLayer
+pub mod SubmissionLayer
+pub mod CollectingLayer
