@@ -39,7 +39,7 @@ use denote.Triple.Entry.{onEntry}
 use denote.Triple.Statement.{Contract, Triple}
 use denote.Triple.Walked.{Stays, stay-ref, stay-none, stay-none-slice, gave-slice, walkOf, AllGo, goes-none, goes-none-slice, goes-ref, goes-gave-slice, Walks, ends-at, walked}
 use Rattle.lent_laws.proofs.LentLaws.{gives, reads, returned}
-use Rattle.lent_laws.proofs.Layers.{Ensures, ensuring, Called, Shape, ensures-from, frees, mirOf, Passed, Layer, lends-again, stored-back, lends, stores-back}
+use Rattle.lent_laws.proofs.Layers.{Ensures, ensuring, Called, Shape, ensures-from, frees, mirOf, Passed, Layer, slice-passed, stored-back, passes-slice, stores-back}
 
 module _ (L : Layer) (X Y : Passed) where
   -- ---- The callee and the layer
@@ -72,7 +72,7 @@ module _ (L : Layer) (X Y : Passed) where
     outlives = [];
     params = 6;
     locals = local (mirOf (L .Outcome)) valueLocal ∷ local (sliceTy (tyRef (named 0) mut (tyInt w8))) valueLocal ∷ local (sliceTy (tyRef (named 1) mut (tyInt w8))) valueLocal ∷ local (tyRef (named 2) mut (pointee (row (L .Block) .written))) valueLocal ∷ local (X .mir) valueLocal ∷ local (Y .mir) valueLocal ∷ local (sliceTy (tyRef (named 3) imm (tyInt w8))) valueLocal ∷ local (mirOf (L .Returned)) valueLocal ∷ local (tyRef erased mut (tyInt w8)) valueLocal ∷ local (sliceTy (tyRef erased mut (tyInt w8))) valueLocal ∷ local (tyRef erased mut (tyInt w8)) valueLocal ∷ local (sliceTy (tyRef erased mut (tyInt w8))) valueLocal ∷ local (mirOf (L .Block)) valueLocal ∷ [];
-    body = lends-again 1 8 9 (tyInt w8) (lends-again 2 10 11 (tyInt w8)
+    body = slice-passed 1 8 9 (tyInt w8) (slice-passed 2 10 11 (tyInt w8)
         (seq (assign (place 12 []) (rvOpd (copy (place 3 (deref (mirOf (L .Block)) ∷ [])))))
         (seq (call callee (copy (place 9 []) ∷ copy (place 11 []) ∷ copy (place 12 []) ∷ copy (place 4 []) ∷ copy (place 5 []) ∷ copy (place 6 []) ∷ []) (place 7 []))
         (stored-back L 7 3 return))));
@@ -144,9 +144,9 @@ module _ (L : Layer) (X Y : Passed) where
         qed W ((‵ (flft κ0 q0) ⊛ ‵ (flft κ1 q1) ⊛ ‵ (flft κ2 q2) ⊛ ‵ (flft κ3 q3) ⊛ ‵ ftrue) ∷ ‵ (owns (MutSlice (named 0) κ0 u8 ∷ MutSlice (named 1) κ1 u8 ∷ MutRef (named 2) κ2 (row (L .Block)) ∷ X .type ∷ Y .type ∷ ShrSlice (named 3) κ3 u8 ∷ []) (log, (collect, (block, (x, (y, (bytes, tt)))))) (log-val ∷ [], (collect-val ∷ [], (block-val ∷ [], (X .val x ∷ [], (Y .val y ∷ [], (bytes-val ∷ [], tt))))))) ∷ []) ∵ enter ! C Λ (code callee) (log-val ∷ collect-val ∷ block-val ∷ X .val x ∷ Y .val y ∷ bytes-val ∷ []) _ $
         alloc1 ! (λ l0. alloc1 ! (λ l1. alloc1 ! (λ l2. alloc1 ! (λ l3. alloc1 ! (λ l4. alloc1 ! (λ l5. alloc1 ! (λ l6. alloc1 ! (λ l7. alloc1 ! (λ l8. alloc1 ! (λ l9. alloc1 ! (λ l10. alloc1 ! (λ l11. alloc1 ! (λ l12. alloc0 ! $ params1 ! $
         pass1 ! (init ! 22 refl (tt, (tt, (record { fits = log-room .0 }, tt)))) $ pass1 ! (init ! 20 refl (tt, (tt, (record { fits = collect-room .0 }, tt)))) $ pass1 ! (init ! 18 refl (tt, tt)) $ pass1 ! (init ! 16 refl (X .typed 𝓤 H A W x _ x-is)) $ pass1 ! (init ! 14 refl (Y .typed 𝓤 H A W y _ y-is)) $ pass1 ! (init ! 12 refl (tt, (tt, (record { fits = bytes-room .0 }, tt)))) $ pass0 ! $
-        -- each `&mut` slice is lent again
-        move ! (22 ∷ 8 ∷ 6 ∷ []) $ lends ! refl refl refl log-room $
-        move ! (21 ∷ 7 ∷ 5 ∷ []) $ lends ! refl refl refl collect-room $
+        -- each `&mut` slice is passed on
+        move ! (22 ∷ 8 ∷ 6 ∷ []) $ passes-slice ! refl refl refl log-room $
+        move ! (21 ∷ 7 ∷ 5 ∷ []) $ passes-slice ! refl refl refl collect-room $
         -- what each parameter owns, and each token, by itself
         move ! (27 ∷ []) $ fsplit ! $ move ! (1 ∷ []) $ fsplit ! $ move ! (1 ∷ []) $ fsplit ! $ fsplit3 ! $ drop ! $ move ! (2 ∷ []) $ fsplit ! $ drop ! $ fsplit ! $ drop ! $ fsplit ! $ use1 W (‵ (ShrSlice (named 3) κ3 u8 .own bytes (bytes-val ∷ [])) ⊛ ‵ (ShrSlice (named 3) κ3 u8 .own bytes (bytes-val ∷ []))) (shr-slice-copy 𝓤 H A W (named 3) κ3 u8 .twice bytes (bytes-val ∷ [])) $ split ! $ move ! (2 ∷ []) $ drop ! $
         move ! (32 ∷ []) $ split ! $ move ! (1 ∷ []) $ split ! $ move ! (1 ∷ []) $ split ! $ move ! (1 ∷ []) $ split ! $ move ! (1 ∷ []) $ drop ! $

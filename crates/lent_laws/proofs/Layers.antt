@@ -1,6 +1,7 @@
 -- What the walks share of a thin layer that reads a lent block, calls a function by value with it, and stores the block of the answer
--- back. `Layer` has the types: the block, what the function by value returns, and what the layer returns. They stay abstract here, so
--- that no step of a walk computes with their layouts. Assumes nothing.
+-- back. `Shape` is a layer's code with the walk of it, and `meets` the theorem of each layer of a shape. `Layer` has the types: the block,
+-- what the function by value returns, and what the layer returns. A walk takes them as they come, so that no step of it computes with
+-- their layouts. Assumes nothing.
 use mathlib.Core.Path.{_≡_, refl, sym, subst}
 use mathlib.Core.List.{List, [], _∷_}
 use mathlib.Core.Option.{some}
@@ -18,8 +19,8 @@ use prog.Model.{Model}
 use prog.Routine.{Routine, Env as Routines}
 use prog.Wp.{Heap, Env, Spot, spotOf, Calls, Loops, Closed, WpFn}
 use ghost.Atoms.{Atoms}
-use types.Kit.{Given, Item, Post, Goal, prop, runs, lands, frees as frees-of, Seq, Step, step, ⋆, pop, ‵, raw, _$_, move, rewrite}
-use types.Run.{Walks as Leads, Finds, look, look-raw, init, store-raw, forget, stop, hop, fld, from, load, addr, of-opd, and-then, no-more, assigns, land, free1}
+use types.Kit.{Given, Item, Post, Goal, prop, runs, lands, frees as frees-of, Seq, Step, step, ⋆, pop, ‵, raw, _$_, rewrite}
+use types.Run.{Walks as Leads, Finds, look, init, store-raw, forget, stop, hop, fld, from, load, addr, of-opd, and-then, no-more, assigns, land, free1}
 use types.Part.{agg, whole, sub, look-in}
 use types.SemTy.{Body as Lent}
 use contract.Lifetimes.{Lfts}
@@ -55,7 +56,8 @@ ensuring 𝓤 T E κs a = record { ghost = Unit {0}; requires = λ _. emp 𝓤; 
 abbrev pub Called : {M : Type 1} (𝓤 : URA M) (H : Heap 𝓤) (A : Atoms 𝓤) (S : Ended) → Ensures 𝓤 S → Contract 𝓤
 Called 𝓤 H A S E = tripleOf 𝓤 H A (S .signature) (closing 𝓤 H A S (ensuring 𝓤 S E))
 
--- a shape of layers, with the signature T, over functions by value with the signature S: its code, and the walk of it. `Told E F` says that what the layer ensures, F, follows from what the function by value ensures, E
+-- a shape of layers, with the signature T, over functions by value with the signature S: the code, and the walk of it.
+-- `Told E F` says that what the layer ensures, F, follows from what the function by value ensures, E
 pub record Shape (S T : Ended) : Type 2 where
   pub stayed : Stays (T .signature .params) (T .kept)
   pub gone : {M : Type 1} (𝓤 : URA M) (H : Heap 𝓤) (A : Atoms 𝓤) (W : Given 𝓤 H A) → AllGo 𝓤 H A W (T .signature .lifetimes) (T .signature .params) (T .kept) stayed
@@ -141,42 +143,43 @@ module _ {M : Type 1} {𝓤 : URA M} {H : Heap 𝓤} {A : Atoms 𝓤} {K : Type 
 
 -- ---- The layer's code
 
--- a `&mut [τ]` in the local i is lent again, its pointer in the local j and the slice in the local k
-abbrev pub lends-again : ℕ → ℕ → ℕ → Ty → Body → Body
-lends-again i j k τ rest =
+-- a `&mut [τ]` in the local i is passed on: its pointer is made anew in the local j, and the slice in the local k
+abbrev pub slice-passed : ℕ → ℕ → ℕ → Ty → Body → Body
+slice-passed i j k τ rest =
     seq (assign (place j []) (addrOf (place i (field 0 ∷ deref τ ∷ []))))
     (seq (assign (place k []) (aggregate (copy (place j []) ∷ copy (place i (field 1 ∷ [])) ∷ []))) rest)
 
--- what is left of a layer's code once the call has returned: `*block = r.block; Outcome { answer: r.answer, records: r.records }`, with r in the local i and the block's reference in the local j
+-- what is left of a layer's code once the call has returned: `*block = r.block; Outcome { answer: r.answer, records: r.records }`, with r in
+-- the local i and the block's reference in the local j
 abbrev pub stored-back : Layer → ℕ → ℕ → Body → Body
-stored-back Y i j rest =
-    seq (assign (place j (deref (mirOf (Y .Block)) ∷ [])) (rvOpd (copy (place i (field 2 ∷ [])))))
+stored-back L i j rest =
+    seq (assign (place j (deref (mirOf (L .Block)) ∷ [])) (rvOpd (copy (place i (field 2 ∷ [])))))
     (seq (assign (place 0 []) (aggregate (copy (place i (field 0 ∷ [])) ∷ copy (place i (field 1 ∷ [])) ∷ []))) rest)
 
 module _ {M : Type 1} {𝓤 : URA M} {H : Heap 𝓤} {A : Atoms 𝓤} {K : Type 0} {W : Given 𝓤 H A} {Γ : List (Item 𝓤)} {C : Calls 𝓤 H} {Λ : Loops 𝓤 H} {E : Env 𝓤 H} {q : Post 𝓤 H} where
-  pub lends : K → {ν : Lifetime} {τ : Ty} {p : ℕ × ℕ} {n li lj lk i j k : ℕ} {rest : Body}
+  pub passes-slice : K → {ν : Lifetime} {τ : Ty} {p : ℕ × ℕ} {n li lj lk i j k : ℕ} {rest : Body}
       → spotOf 𝓤 H E i ≡ (sliceTy (tyRef ν mut τ), li, zero) → spotOf 𝓤 H E j ≡ (tyRef erased mut τ, lj, zero) → spotOf 𝓤 H E k ≡ (sliceTy (tyRef erased mut τ), lk, zero) → Room u8 n
       → Step K W (‵ (fat fullShare (sliceTy (tyRef ν mut τ)) li 0 (sliceVal p n)) ∷ ‵ (fat fullShare (tyRef erased mut τ) lj 0 (vptr (p .0) (p .1))) ∷ ‵ (fat fullShare (sliceTy (tyRef erased mut τ)) lk 0 (sliceVal p n)) ∷ Γ) (runs C Λ E rest q)
-      (‵ (fat fullShare (sliceTy (tyRef ν mut τ)) li 0 (sliceVal p n)) ∷ ‵ (froom (tyRef erased mut τ) lj 0) ∷ ‵ (froom (sliceTy (tyRef erased mut τ)) lk 0) ∷ Γ) (runs C Λ E (lends-again i j k τ rest) q)
-  lends t ei ej ek room = step (λ s.
+      (‵ (fat fullShare (sliceTy (tyRef ν mut τ)) li 0 (sliceVal p n)) ∷ ‵ (froom (tyRef erased mut τ) lj 0) ∷ ‵ (froom (sliceTy (tyRef erased mut τ)) lk 0) ∷ Γ) (runs C Λ E (slice-passed i j k τ rest) q)
+  passes-slice t ei ej ek room = step (λ s.
       assigns t (addr t (local-at t ei (fld t refl (hop t (look-in t 0 (sub t 0 refl (whole t))) (stop t))))) (local-at t ej (stop t)) (init t 1 refl (tt, tt)) $
       assigns t (agg t (and-then t (load t (local-at t ej (stop t)) (look t 1 refl)) (and-then t (load t (local-at t ei (fld t refl (stop t))) (look-in t 0 (sub t 1 refl (whole t)))) (no-more t))))
       (local-at t ek (stop t)) (init t 2 refl (tt, (tt, (record { fits = room .0 }, tt)))) $ s)
 
-  pub stores-back : K → (Y : Layer) {κ : Lft} {s : Share} {γ : GName} {x y : Gv} {v : Val} {ρ : Ty} {lr lb lo i j : ℕ} {rest : Body} (r : Y .Returned .D) (w : Val) (b o : ℕ)
-      → spotOf 𝓤 H E i ≡ (mirOf (Y .Returned), lr, zero) → spotOf 𝓤 H E j ≡ (ρ, lb, zero) → spotOf 𝓤 H E 0 ≡ (mirOf (Y .Outcome), lo, zero) → Is (row (Y .Returned)) r (w ∷ [])
-      → ((u : Val) → Is (row (Y .Outcome)) (Y .outcome r) (u ∷ [])
-      → Seq K W (‵ (fobs γ (row (Y .Block) .coded .code (Y .block r))) ∷ ‵ (fbor κ (Lent (mem (row (Y .Block))) b o γ)) ∷ ‵ (flft κ s)
-      ∷ ‵ (froom (mirOf (Y .Returned)) lr 0) ∷ ‵ (fat fullShare ρ lb 0 (vptr b o)) ∷ ‵ (fat fullShare (mirOf (Y .Outcome)) lo 0 u) ∷ Γ) (runs C Λ E rest q))
-      → Seq K W (‵ (cellAt fullShare (row (Y .Block) .mir) (v ∷ []) b o) ∷ ‵ (fobor κ s (Lent (mem (row (Y .Block))) b o γ)) ∷ ‵ (fobs γ x) ∷ ‵ (fauth γ y)
-      ∷ ‵ (froom (mirOf (Y .Returned)) lr 0) ∷ ‵ (fat fullShare ρ lb 0 (vptr b o)) ∷ ‵ (froom (mirOf (Y .Outcome)) lo 0) ∷ Γ) (lands C Λ E (place i []) w (stored-back Y i j rest) q)
-  stores-back t Y {lr = lr} r w b o ei ej eo r-is k =
-      let p = Y .parts r w r-is in
-      land t (local-at t ei (stop t)) (init t 4 refl (LL.lawful (Y .Returned) (Y .returned-laws) 𝓤 H A W .typed r _ r-is .0)) $
-      rewrite t 4 (λ (u : Val). ‵ (fat fullShare (mirOf (Y .Returned)) lr 0 u)) (p .whole-is) refl $
-      assigns t (of-opd t (load t (local-at t ei (fld t (Y .block-place) (stop t))) (look-in t 4 (sub t 2 (Y .block-place) (whole t))))) (local-at t ej (hop t (look t 5 refl) (stop t)))
-      (store-raw t 0 refl (LL.lawful (Y .Block) (Y .block-laws) 𝓤 H A W .typed (Y .block r) _ (p .block-is) .0)) $
-      assigns t (agg t (and-then t (load t (local-at t ei (fld t (Y .answer-place) (stop t))) (look-in t 4 (sub t 0 (Y .answer-place) (whole t))))
-      (and-then t (load t (local-at t ei (fld t (Y .records-place) (stop t))) (look-in t 4 (sub t 1 (Y .records-place) (whole t)))) (no-more t))))
-      (local-at t eo (stop t)) (init t 6 refl (LL.lawful (Y .Outcome) (Y .outcome-laws) 𝓤 H A W .typed (Y .outcome r) _ (p .outcome-is) .0)) $
-      stores t tt (Y .Block) (Y .block-plain) (Y .block r) (p .block-val) b o (p .block-is) $ forget t 3 refl $ k (vstruct (ofList (p .answer-val ∷ p .records-val ∷ []))) (p .outcome-is)
+  pub stores-back : K → (L : Layer) {κ : Lft} {s : Share} {γ : GName} {x y : Gv} {v : Val} {ρ : Ty} {lr lb lo i j : ℕ} {rest : Body} (r : L .Returned .D) (w : Val) (b o : ℕ)
+      → spotOf 𝓤 H E i ≡ (mirOf (L .Returned), lr, zero) → spotOf 𝓤 H E j ≡ (ρ, lb, zero) → spotOf 𝓤 H E 0 ≡ (mirOf (L .Outcome), lo, zero) → Is (row (L .Returned)) r (w ∷ [])
+      → ((u : Val) → Is (row (L .Outcome)) (L .outcome r) (u ∷ [])
+      → Seq K W (‵ (fobs γ (row (L .Block) .coded .code (L .block r))) ∷ ‵ (fbor κ (Lent (mem (row (L .Block))) b o γ)) ∷ ‵ (flft κ s)
+      ∷ ‵ (froom (mirOf (L .Returned)) lr 0) ∷ ‵ (fat fullShare ρ lb 0 (vptr b o)) ∷ ‵ (fat fullShare (mirOf (L .Outcome)) lo 0 u) ∷ Γ) (runs C Λ E rest q))
+      → Seq K W (‵ (cellAt fullShare (row (L .Block) .mir) (v ∷ []) b o) ∷ ‵ (fobor κ s (Lent (mem (row (L .Block))) b o γ)) ∷ ‵ (fobs γ x) ∷ ‵ (fauth γ y)
+      ∷ ‵ (froom (mirOf (L .Returned)) lr 0) ∷ ‵ (fat fullShare ρ lb 0 (vptr b o)) ∷ ‵ (froom (mirOf (L .Outcome)) lo 0) ∷ Γ) (lands C Λ E (place i []) w (stored-back L i j rest) q)
+  stores-back t L {lr = lr} r w b o ei ej eo r-is k =
+      let p = L .parts r w r-is in
+      land t (local-at t ei (stop t)) (init t 4 refl (LL.lawful (L .Returned) (L .returned-laws) 𝓤 H A W .typed r _ r-is .0)) $
+      rewrite t 4 (λ (u : Val). ‵ (fat fullShare (mirOf (L .Returned)) lr 0 u)) (p .whole-is) refl $
+      assigns t (of-opd t (load t (local-at t ei (fld t (L .block-place) (stop t))) (look-in t 4 (sub t 2 (L .block-place) (whole t))))) (local-at t ej (hop t (look t 5 refl) (stop t)))
+      (store-raw t 0 refl (LL.lawful (L .Block) (L .block-laws) 𝓤 H A W .typed (L .block r) _ (p .block-is) .0)) $
+      assigns t (agg t (and-then t (load t (local-at t ei (fld t (L .answer-place) (stop t))) (look-in t 4 (sub t 0 (L .answer-place) (whole t))))
+      (and-then t (load t (local-at t ei (fld t (L .records-place) (stop t))) (look-in t 4 (sub t 1 (L .records-place) (whole t)))) (no-more t))))
+      (local-at t eo (stop t)) (init t 6 refl (LL.lawful (L .Outcome) (L .outcome-laws) 𝓤 H A W .typed (L .outcome r) _ (p .outcome-is) .0)) $
+      stores t tt (L .Block) (L .block-plain) (L .block r) (p .block-val) b o (p .block-is) $ forget t 3 refl $ k (vstruct (ofList (p .answer-val ∷ p .records-val ∷ []))) (p .outcome-is)

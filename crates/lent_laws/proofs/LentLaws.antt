@@ -25,7 +25,7 @@ use denote.Index as index
 use denote.Index.{elem-out, place, others}
 use denote.Memory.{mem, shares, cellAt}
 use denote.Signature.{typeAt}
-use denote.Steps.{opens, closes, owned, peeks, heard}
+use denote.Steps.{opens, closes, owned, peeks}
 use denote.Struct.Declared.{Declared, row, fields}
 use denote.Struct.Laws as LL
 use denote.Struct.Steps.{spelt}
@@ -83,11 +83,7 @@ module _ {M : Type 1} {𝓤 : URA M} {H : Heap 𝓤} {A : Atoms 𝓤} {K : Type 
       use1 W (some (λ (ws : Lasts T (y .0 .0) (y .0 .3)). ‵ (lasts T (y .0 .0) (y .0 .3) ws) ⊛ raw (c (y .0 .0) (y .0 .3) .ensures (y .1) r (atExit T (y .0 .0) (y .0 .3) ws)))) (id⊢ 𝓤 _) $
       pick t (λ ws. split t $ move t (2 ∷ []) $ split t $ move t (3 ∷ 2 ∷ []) $ k r ws))
 
-  -- an `ensures` of two clauses, as a callee gives it
-  pub heard-both : K → (φ ψ : Type 0) → (φ → ψ → Seq K W Γ G) → Seq K W (raw (sep 𝓤 (fact 𝓤 φ) (fact 𝓤 ψ)) ∷ Γ) G
-  heard-both t φ ψ k = use1 W (raw (fact 𝓤 φ) ⊛ raw (fact 𝓤 ψ)) (id⊢ 𝓤 _) $ split t $ heard t φ (λ x. heard t ψ (λ y. k x y))
-
--- and as a function shows it
+-- an `ensures` of two clauses, as a function shows it
 pub says-both : {M : Type 1} {𝓤 : URA M} {H : Heap 𝓤} {A : Atoms 𝓤} {K : Type 0} {W : Given 𝓤 H A} {Γ : List (Item 𝓤)} → K → {φ ψ : Type 0} {P : SProp 𝓤} → φ → ψ
     → Step K W Γ (prop P) Γ (prop (sep 𝓤 P (sep 𝓤 (fact 𝓤 φ) (fact 𝓤 ψ))))
 says-both {𝓤 = 𝓤} t {φ} {ψ} {P} x y = step (λ s. suffices t _ (assoc∗ 𝓤 P (fact 𝓤 φ) (fact 𝓤 ψ)) $ says t y $ says t x $ s)

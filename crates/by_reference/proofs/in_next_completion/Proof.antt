@@ -1,7 +1,6 @@
 -- `by_reference::in_next_completion` meets its contract: a layer over `in_endpoint::next_completion`, whose contract is the callee's, with the block that was left in the
 -- place of the one returned. Assumes nothing.
 use mathlib.Core.Path.{refl, ap}
-use mathlib.Core.List.{[], _∷_}
 use mir.Syntax.{tyInt, w64}
 use mir.Val.{vint}
 use base.Logic.{id⊢}
