@@ -9,7 +9,6 @@ use base.Logic.{SProp, ent, emp, via, fst∗}
 use base.Fml.{Lft, Share, ftrue, flft, fobs, fbor}
 use prog.Wp.{Heap, Calls, Loops, WpFn}
 use ghost.Atoms.{Atoms}
-use contract.Lifetimes.{Lfts}
 use types.Kit.{Given, Item, ⋆, ‵, raw, _⊛_, _$_, _∵_, !, qed, by, move, keep, drop, split, join, fsplit, fsplit3, fjoin, fjoin3, feqI, suffices, frame, done}
 use types.Run.{look, look-raw, init, store-raw, stop, hop, from, load, unit-lit, of-opd, and-then, no-more, assigns, land, returns, enter, alloc1, alloc0, params1, pass1, pass0, free0}
 use types.SemTy.{Body}
@@ -31,7 +30,7 @@ use denote.Triple.Entry.{onEntry}
 use denote.Triple.Statement.{Contract, Triple}
 use denote.Triple.Walked.{Stays, stay-ref, walkOf, AllGo, goes-ref, Walks, ends-at, walked}
 use Rattle.lent_laws.proofs.LentLaws.{gives, reads, stores, returned}
-use Rattle.lent_laws.proofs.Layers.{Ensures, ensuring, Called, Shape, ensures-from, frees, mirOf}
+use Rattle.lent_laws.proofs.Layers.{Ensures, ensuring, Called, Hands, Told, Shape, ensures-from, frees, mirOf}
 
 module _ (T : Declared) (L : LL.Laws T) (P : Plains (fields T)) where
   -- ---- The callee and the layer
@@ -61,15 +60,14 @@ module _ (T : Declared) (L : LL.Laws T) (P : Plains (fields T)) where
   pub gone : {M : Type 1} (𝓤 : URA M) (H : Heap 𝓤) (A : Atoms 𝓤) (W : Given 𝓤 H A) → AllGo 𝓤 H A W 1 (by-reference .signature .params) (by-reference .kept) stayed
   gone 𝓤 H A W = (goes-ref 𝓤 H A W 1 0 tt (plain (λ _. row T)), tt)
 
-  -- what the layer ensures follows from what the callee ensures, with the block that it returned left in the place of the one that was lent
-  abbrev pub Told : {M : Type 1} (𝓤 : URA M) → Ensures 𝓤 by-value → Ensures 𝓤 by-reference → Type 1
-  Told 𝓤 E F = (κs : Lfts 1) (block : RefT (T .D)) (r : T .D) (ws : Lasts by-value tt (now block, tt))
-      → ent 𝓤 (E tt (now block, tt) r (atExit by-value tt (now block, tt) ws)) (F κs (block, tt) tt (atExit by-reference κs (block, tt) (r, tt)))
+  -- the block is passed on by value, and what the callee returned is left
+  abbrev pub handed : Hands by-value by-reference
+  handed = record { lfts = λ κs. tt; args = λ κs a. (now (a .0), tt); result = λ κs r. tt; lasts = λ κs a r ws. (r, tt) }
 
   -- ---- The walk
 
   module _ {M : Type 1} (𝓤 : URA M) (H : Heap 𝓤) (A : Atoms 𝓤) (W : Given 𝓤 H A) (E : Ensures 𝓤 by-value) (F : Ensures 𝓤 by-reference)
-      (told : Told 𝓤 E F) where
+      (told : Told 𝓤 handed E F) where
     abbrev Callee : Contract 𝓤
     Callee = Called 𝓤 H A by-value E
 
@@ -95,7 +93,7 @@ module _ (T : Declared) (L : LL.Laws T) (P : Plains (fields T)) where
 
         leaves : ent 𝓤 (⋆ 𝓤 H A Left) (Post vunit)
         leaves =
-            qed W Left ∵ suffices ! _ (ends-at 𝓤 H A by-reference stayed (ensuring 𝓤 by-reference F) W bound vunit tt (r, tt) (tt, tt)) $ ensures-from ! (told (κ, tt) block r ws) $
+            qed W Left ∵ suffices ! _ (ends-at 𝓤 H A by-reference stayed (ensuring 𝓤 by-reference F) W bound vunit tt (r, tt) (tt, tt)) $ ensures-from ! (told (κ, tt) (block, tt) r ws) $
             nothing ! $ move ! (3 ∷ 0 ∷ []) $ join ! $ frame ! $
             feqI ! (List Val) (block-val ∷ []) (block-val ∷ []) refl $ fjoin3 ! $ nothing ! $ move ! (1 ∷ 0 ∷ []) $ fjoin ! $ feqI ! (List Val) (vunit ∷ []) (vunit ∷ []) refl $ move ! (1 ∷ 0 ∷ []) $ done !
 
@@ -124,11 +122,11 @@ module _ (T : Declared) (L : LL.Laws T) (P : Plains (fields T)) where
           returns ! (look ! 11 refl) $ keep ! (11 ∷ 12 ∷ 9 ∷ 10 ∷ 7 ∷ 8 ∷ 5 ∷ 6 ∷ 3 ∷ 0 ∷ 1 ∷ 2 ∷ []) $
           frees ! $ frees ! $ frees ! $ frees ! $ free0 ! $ by ! (leaves r ws)))))))))
 
-  pub walks : {M : Type 1} (𝓤 : URA M) (H : Heap 𝓤) (A : Atoms 𝓤) (W : Given 𝓤 H A) (E : Ensures 𝓤 by-value) (F : Ensures 𝓤 by-reference) → Told 𝓤 E F → (C : Calls 𝓤 H) (Λ : Loops 𝓤 H) (callee : Name) → FmC 𝓤 H (W .laws) C
+  pub walks : {M : Type 1} (𝓤 : URA M) (H : Heap 𝓤) (A : Atoms 𝓤) (W : Given 𝓤 H A) (E : Ensures 𝓤 by-value) (F : Ensures 𝓤 by-reference) → Told 𝓤 handed E F → (C : Calls 𝓤 H) (Λ : Loops 𝓤 H) (callee : Name) → FmC 𝓤 H (W .laws) C
       → Triple 𝓤 (C callee) (Called 𝓤 H A by-value E) → Walks 𝓤 H A by-reference stayed (WpFn 𝓤 H C Λ (code callee)) (ensuring 𝓤 by-reference F)
   walks 𝓤 H A W E F told C Λ callee fm known =
       walked 𝓤 H A by-reference stayed (ensuring 𝓤 by-reference F) (WpFn 𝓤 H C Λ (code callee)) (λ κs. (ptr-vals, tt)) (λ κs. (mut-tells (named 0) (κs .0) (row T), tt))
       (λ κs qs bounds a g are. via 𝓤 _ (fst∗ 𝓤 _ (emp 𝓤)) (walk 𝓤 H A W E F told (κs .0) (qs .0) (a .0) C Λ callee fm known))
 
   abbrev pub shape : Shape by-value by-reference
-  shape = record { stayed = stayed; gone = gone; code = code; Told = Told; walks = walks }
+  shape = record { hands = handed; stayed = stayed; gone = gone; code = code; walks = walks }

@@ -17,7 +17,6 @@ use base.Logic.{SProp, ent, emp, via, fst∗, id⊢}
 use base.Fml.{Lft, Share, ftrue, flft, fobs, fbor}
 use prog.Wp.{Heap, Calls, Loops, WpFn}
 use ghost.Atoms.{Atoms}
-use contract.Lifetimes.{Lfts}
 use types.Kit.{Given, Item, ⋆, ‵, raw, _⊛_, _$_, _∵_, !, qed, by, move, keep, drop, use1, split, join, fsplit, fsplit3, fjoin, fjoin3, feqI, feqL, suffices, frame, done}
 use types.Run.{look, look-raw, init, stop, hop, from, load, of-opd, and-then, no-more, assigns, returns, enter, alloc1, alloc0, params1, pass1, pass0, free1, free0}
 use types.SemTy.{Body}
@@ -39,7 +38,7 @@ use denote.Triple.Entry.{onEntry}
 use denote.Triple.Statement.{Contract, Triple}
 use denote.Triple.Walked.{Stays, stay-ref, stay-none, stay-none-slice, gave-slice, walkOf, AllGo, goes-none, goes-none-slice, goes-ref, goes-gave-slice, Walks, ends-at, walked}
 use Rattle.lent_laws.proofs.LentLaws.{gives, reads, returned}
-use Rattle.lent_laws.proofs.Layers.{Ensures, ensuring, Called, Shape, ensures-from, frees, mirOf, Passed, Layer, slice-passed, stored-back, passes-slice, stores-back}
+use Rattle.lent_laws.proofs.Layers.{Ensures, ensuring, Called, Hands, Told, Shape, ensures-from, frees, mirOf, Passed, Layer, slice-passed, stored-back, passes-slice, stores-back}
 
 module _ (L : Layer) (X : Passed) where
   -- ---- The callee and the layer
@@ -71,7 +70,9 @@ module _ (L : Layer) (X : Passed) where
     lifetimes = 3;
     outlives = [];
     params = 4;
-    locals = local (mirOf (L .Outcome)) valueLocal ∷ local (sliceTy (tyRef (named 0) mut (tyInt w8))) valueLocal ∷ local (tyRef (named 1) mut (pointee (row (L .Block) .written))) valueLocal ∷ local (X .mir) valueLocal ∷ local (sliceTy (tyRef (named 2) imm (tyInt w8))) valueLocal ∷ local (mirOf (L .Returned)) valueLocal ∷ local (tyRef erased mut (tyInt w8)) valueLocal ∷ local (sliceTy (tyRef erased mut (tyInt w8))) valueLocal ∷ local (mirOf (L .Block)) valueLocal ∷ [];
+    locals = local (mirOf (L .Outcome)) valueLocal ∷ local (sliceTy (tyRef (named 0) mut (tyInt w8))) valueLocal ∷ local (tyRef (named 1) mut (pointee (row (L .Block) .written))) valueLocal
+        ∷ local (X .mir) valueLocal ∷ local (sliceTy (tyRef (named 2) imm (tyInt w8))) valueLocal ∷ local (mirOf (L .Returned)) valueLocal ∷ local (tyRef erased mut (tyInt w8)) valueLocal
+        ∷ local (sliceTy (tyRef erased mut (tyInt w8))) valueLocal ∷ local (mirOf (L .Block)) valueLocal ∷ [];
     body = slice-passed 1 6 7 (tyInt w8)
         (seq (assign (place 8 []) (rvOpd (copy (place 2 (deref (mirOf (L .Block)) ∷ [])))))
         (seq (call callee (copy (place 7 []) ∷ copy (place 8 []) ∷ copy (place 3 []) ∷ copy (place 4 []) ∷ []) (place 5 []))
@@ -80,19 +81,25 @@ module _ (L : Layer) (X : Passed) where
 
   -- the block is still lent, at its last value; the callee has each `&mut` slice for good
   abbrev pub stayed : Stays (by-reference .signature .params) (by-reference .kept)
-  stayed = (gave-slice (0 ∷ []) tt (plain (λ _. u8)), (stay-ref (1 ∷ []) tt (plain (λ _. row (L .Block))), (stay-none (λ _. X .type) yes, (stay-none-slice (2 ∷ []) tt (plain (λ _. u8)) yes, tt))))
+  stayed = (gave-slice (0 ∷ []) tt (plain (λ _. u8)), (stay-ref (1 ∷ []) tt (plain (λ _. row (L .Block))), (stay-none (λ _. X .type) yes, (stay-none-slice (2
+      ∷ []) tt (plain (λ _. u8)) yes, tt))))
 
   pub gone : {M : Type 1} (𝓤 : URA M) (H : Heap 𝓤) (A : Atoms 𝓤) (W : Given 𝓤 H A) → AllGo 𝓤 H A W 3 (by-reference .signature .params) (by-reference .kept) stayed
-  gone 𝓤 H A W = (goes-gave-slice 𝓤 H A W 3 0 tt (plain (λ _. u8)), (goes-ref 𝓤 H A W 3 1 tt (plain (λ _. row (L .Block))), (goes-none 𝓤 H A W 3 (λ _. X .type) yes (λ κs x f. X .silent x f), (goes-none-slice 𝓤 H A W 3 (2 ∷ []) tt (plain (λ _. u8)) yes, tt))))
+  gone 𝓤 H A W = (goes-gave-slice 𝓤 H A W 3 0 tt (plain (λ _. u8)), (goes-ref 𝓤 H A W 3 1 tt (plain (λ _. row (L .Block))), (goes-none 𝓤 H A W 3 (λ _. X .type) yes (λ κs x f. X .silent x f), (goes-none-slice 𝓤 H A W 3 (2
+      ∷ []) tt (plain (λ _. u8)) yes, tt))))
 
-  -- what the layer ensures follows from what the callee ensures, with the block of its answer left in the place of the one that was lent
-  abbrev pub Told : {M : Type 1} (𝓤 : URA M) → Ensures 𝓤 by-value → Ensures 𝓤 by-reference → Type 1
-  Told 𝓤 E F = (κs : Lfts 3) (log : RefT (List ℕ)) (block : RefT (L .Block .D)) (x : X .type .Denot) (bytes : RefT (List ℕ)) (r : L .Returned .D) (ws : Lasts by-value (κs .0, (κs .1 .1 .0, tt)) (log, (now block, (x, (bytes, tt)))))
-      → ent 𝓤 (E (κs .0, (κs .1 .1 .0, tt)) (log, (now block, (x, (bytes, tt)))) r (atExit by-value (κs .0, (κs .1 .1 .0, tt)) (log, (now block, (x, (bytes, tt)))) ws)) (F κs (log, (block, (x, (bytes, tt)))) (L .outcome r) (atExit by-reference κs (log, (block, (x, (bytes, tt)))) (ws .0, (L .block r, (X .last x, (tt, tt))))))
+  -- the block is passed on by value, and what the callee returned of it is left
+  abbrev pub handed : Hands by-value by-reference
+  handed = record {
+    lfts = λ κs. (κs .0, (κs .1 .1 .0, tt));
+    args = λ κs a. (a .0, (now (a .1 .0), (a .1 .1 .0, (a .1 .1 .1 .0, tt))));
+    result = λ κs r. L .outcome r;
+    lasts = λ κs a r ws. (ws .0, (L .block r, (X .last (a .1 .1 .0), (tt, tt))));
+  }
 
   -- ---- The walk
 
-  module _ {M : Type 1} (𝓤 : URA M) (H : Heap 𝓤) (A : Atoms 𝓤) (W : Given 𝓤 H A) (E : Ensures 𝓤 by-value) (F : Ensures 𝓤 by-reference) (told : Told 𝓤 E F)
+  module _ {M : Type 1} (𝓤 : URA M) (H : Heap 𝓤) (A : Atoms 𝓤) (W : Given 𝓤 H A) (E : Ensures 𝓤 by-value) (F : Ensures 𝓤 by-reference) (told : Told 𝓤 handed E F)
       (κ0 κ1 κ2 : Lft) (q0 q1 q2 : Share) (log : RefT (List ℕ)) (block : RefT (L .Block .D)) (x : X .type .Denot) (bytes : RefT (List ℕ))
       (log-room : Room u8 (length (now log))) (bytes-room : Room u8 (length (now bytes))) (x-is : Is (X .type) x (X .val x ∷ [])) where
     abbrev log-val : Val
@@ -122,29 +129,41 @@ module _ (L : Layer) (X : Passed) where
 
     hands : (v : Val) → Is (row (L .Block)) (now block) (v ∷ []) → ent 𝓤 (⋆ 𝓤 H A Handed) (Callee .pre (to-callee v))
     hands v is =
-        qed W Handed ∵ nothing ! $ move ! (4 ∷ 0 ∷ []) $ fjoin ! $ owned ! (X .type) (Is (X .type)) (X .makes 𝓤 H A W) x _ x-is $ fjoin ! $ owned ! (row (L .Block)) (Is (row (L .Block))) (LL.makes (L .Block) (L .block-plain) 𝓤 H A) (now block) _ is $ fjoin ! $ move ! (3 ∷ 0 ∷ []) $ fjoin ! $ nothing ! $ move ! (3 ∷ 0 ∷ []) $ join ! $ move ! (2 ∷ 0 ∷ []) $ join ! $ join ! $ frame ! $ done !
+        qed W Handed ∵ nothing ! $ move ! (4 ∷ 0 ∷ []) $ fjoin ! $ owned ! (X .type) (Is (X .type)) (X .makes 𝓤 H A W) x _ x-is $ fjoin ! $
+        owned ! (row (L .Block)) (Is (row (L .Block))) (LL.makes (L .Block) (L .block-plain) 𝓤 H A) (now block) _ is $ fjoin ! $ move ! (3 ∷ 0 ∷ []) $ fjoin ! $ nothing ! $
+        move ! (3 ∷ 0 ∷ []) $ join ! $ move ! (2 ∷ 0 ∷ []) $ join ! $ join ! $ frame ! $ done !
 
     -- the layer has at the end what its own contract asks
     module _ (r : L .Returned .D) (ws : Lasts by-value (κ0, (κ2, tt)) (log, (now block, (x, (bytes, tt))))) where
       abbrev Left : List (Item 𝓤)
       Left =
-          raw (E (κ0, (κ2, tt)) (log, (now block, (x, (bytes, tt)))) r (atExit by-value (κ0, (κ2, tt)) (log, (now block, (x, (bytes, tt)))) ws)) ∷ ‵ (fobs (name block) (row (L .Block) .coded .code (L .block r))) ∷ ‵ (fbor κ1 (Body (mem (row (L .Block))) (ptr block .0) (ptr block .1) (name block))) ∷ ‵ (flft κ0 q0) ∷ ‵ (flft κ1 q1) ∷ ‵ (flft κ2 q2) ∷ ‵ (ShrSlice (named 2) κ2 u8 .own bytes (bytes-val ∷ [])) ∷ ‵ (finally u8 (name log) (ws .0)) ∷ []
+          raw (E (κ0, (κ2, tt)) (log, (now block, (x, (bytes, tt)))) r (atExit by-value (κ0, (κ2, tt)) (log, (now block, (x, (bytes, tt)))) ws))
+              ∷ ‵ (fobs (name block) (row (L .Block) .coded .code (L .block r))) ∷ ‵ (fbor κ1 (Body (mem (row (L .Block))) (ptr block .0) (ptr block .1) (name block))) ∷ ‵ (flft κ0 q0)
+              ∷ ‵ (flft κ1 q1) ∷ ‵ (flft κ2 q2) ∷ ‵ (ShrSlice (named 2) κ2 u8 .own bytes (bytes-val ∷ [])) ∷ ‵ (finally u8 (name log) (ws .0)) ∷ []
 
       leaves : (u : Val) → length (ws .0) ≡ length (now log) → Is (row (L .Outcome)) (L .outcome r) (u ∷ []) → ent 𝓤 (⋆ 𝓤 H A Left) (Post u)
       leaves u log-long u-is =
           qed W Left ∵ suffices ! _ (ends-at 𝓤 H A by-reference stayed (ensuring 𝓤 by-reference F) W bound u (L .outcome r) (ws .0, (L .block r, (X .last x, (tt, tt)))) (log-long, (tt, (tt, (tt, tt))))) $
-          ensures-from ! (told (κ0, (κ1, (κ2, tt))) log block x bytes r ws) $ nothing ! $ move ! (5 ∷ 0 ∷ []) $ join ! $ move ! (4 ∷ 0 ∷ []) $ join ! $ move ! (3 ∷ 0 ∷ []) $ join ! $ frame ! $ nothing ! $ move ! (3 ∷ 0 ∷ []) $ fjoin ! $ owned ! (X .type) (Is (X .type)) (X .makes 𝓤 H A W) x _ x-is $ fjoin ! $ move ! (1 ∷ 2 ∷ []) $ feqI ! (List Val) (block-val ∷ []) (block-val ∷ []) refl $ fjoin3 ! $ fjoin ! $ move ! (1 ∷ 0 ∷ []) $ fjoin ! $ owned ! (row (L .Outcome)) (Is (row (L .Outcome))) (LL.makes (L .Outcome) (L .outcome-plain) 𝓤 H A) (L .outcome r) _ u-is $ move ! (1 ∷ 0 ∷ []) $ done !
+          ensures-from ! (told (κ0, (κ1, (κ2, tt))) (log, (block, (x, (bytes, tt)))) r ws) $ nothing ! $ move ! (5 ∷ 0 ∷ []) $ join ! $ move ! (4 ∷ 0 ∷ []) $ join ! $ move ! (3 ∷ 0 ∷ []) $
+          join ! $ frame ! $ nothing ! $ move ! (3 ∷ 0 ∷ []) $ fjoin ! $ owned ! (X .type) (Is (X .type)) (X .makes 𝓤 H A W) x _ x-is $ fjoin ! $ move ! (1 ∷ 2 ∷ []) $
+          feqI ! (List Val) (block-val ∷ []) (block-val ∷ []) refl $ fjoin3 ! $ fjoin ! $ move ! (1 ∷ 0 ∷ []) $ fjoin ! $
+          owned ! (row (L .Outcome)) (Is (row (L .Outcome))) (LL.makes (L .Outcome) (L .outcome-plain) 𝓤 H A) (L .outcome r) _ u-is $ move ! (1 ∷ 0 ∷ []) $ done !
 
     walk : (C : Calls 𝓤 H) (Λ : Loops 𝓤 H) (callee : Name) → FmC 𝓤 H (W .laws) C → Triple 𝓤 (C callee) Callee
         → ent 𝓤 (onEntry 𝓤 H A (by-reference .signature) (κ0, (κ1, (κ2, tt))) (q0, (q1, (q2, tt))) (log, (block, (x, (bytes, tt)))) (log-val ∷ [], (block-val ∷ [], (X .val x ∷ [], (bytes-val ∷ [], tt))))) (WpFn 𝓤 H C Λ (code callee) (log-val ∷ block-val ∷ X .val x ∷ bytes-val ∷ []) Post)
     walk C Λ callee fm known =
-        qed W ((‵ (flft κ0 q0) ⊛ ‵ (flft κ1 q1) ⊛ ‵ (flft κ2 q2) ⊛ ‵ ftrue) ∷ ‵ (owns (MutSlice (named 0) κ0 u8 ∷ MutRef (named 1) κ1 (row (L .Block)) ∷ X .type ∷ ShrSlice (named 2) κ2 u8 ∷ []) (log, (block, (x, (bytes, tt)))) (log-val ∷ [], (block-val ∷ [], (X .val x ∷ [], (bytes-val ∷ [], tt))))) ∷ []) ∵ enter ! C Λ (code callee) (log-val ∷ block-val ∷ X .val x ∷ bytes-val ∷ []) _ $
+        qed W ((‵ (flft κ0 q0) ⊛ ‵ (flft κ1 q1) ⊛ ‵ (flft κ2 q2) ⊛ ‵ ftrue) ∷ ‵ (owns (MutSlice (named 0) κ0 u8 ∷ MutRef (named 1) κ1 (row (L .Block)) ∷ X .type ∷ ShrSlice (named 2) κ2 u8
+            ∷ []) (log, (block, (x, (bytes, tt)))) (log-val ∷ [], (block-val ∷ [], (X .val x ∷ [], (bytes-val ∷ [], tt))))) ∷ []) ∵ enter ! C Λ (code callee) (log-val ∷ block-val ∷ X .val x
+            ∷ bytes-val ∷ []) _ $
         alloc1 ! (λ l0. alloc1 ! (λ l1. alloc1 ! (λ l2. alloc1 ! (λ l3. alloc1 ! (λ l4. alloc1 ! (λ l5. alloc1 ! (λ l6. alloc1 ! (λ l7. alloc1 ! (λ l8. alloc0 ! $ params1 ! $
-        pass1 ! (init ! 14 refl (tt, (tt, (record { fits = log-room .0 }, tt)))) $ pass1 ! (init ! 12 refl (tt, tt)) $ pass1 ! (init ! 10 refl (X .typed 𝓤 H A W x _ x-is)) $ pass1 ! (init ! 8 refl (tt, (tt, (record { fits = bytes-room .0 }, tt)))) $ pass0 ! $
+        pass1 ! (init ! 14 refl (tt, (tt, (record { fits = log-room .0 }, tt)))) $ pass1 ! (init ! 12 refl (tt, tt)) $ pass1 ! (init ! 10 refl (X .typed 𝓤 H A W x _ x-is)) $
+        pass1 ! (init ! 8 refl (tt, (tt, (record { fits = bytes-room .0 }, tt)))) $ pass0 ! $
         -- each `&mut` slice is passed on
         move ! (14 ∷ 4 ∷ 2 ∷ []) $ passes-slice ! refl refl refl log-room $
         -- what each parameter owns, and each token, by itself
-        move ! (19 ∷ []) $ fsplit ! $ move ! (1 ∷ []) $ fsplit ! $ fsplit3 ! $ drop ! $ move ! (2 ∷ []) $ fsplit ! $ drop ! $ fsplit ! $ use1 W (‵ (ShrSlice (named 2) κ2 u8 .own bytes (bytes-val ∷ [])) ⊛ ‵ (ShrSlice (named 2) κ2 u8 .own bytes (bytes-val ∷ []))) (shr-slice-copy 𝓤 H A W (named 2) κ2 u8 .twice bytes (bytes-val ∷ [])) $ split ! $ move ! (2 ∷ []) $ drop ! $
+        move ! (19 ∷ []) $ fsplit ! $ move ! (1 ∷ []) $ fsplit ! $ fsplit3 ! $ drop ! $ move ! (2 ∷ []) $ fsplit ! $ drop ! $ fsplit ! $
+        use1 W (‵ (ShrSlice (named 2) κ2 u8 .own bytes (bytes-val ∷ [])) ⊛ ‵ (ShrSlice (named 2) κ2 u8 .own bytes (bytes-val ∷ []))) (shr-slice-copy 𝓤 H A W (named 2) κ2 u8 .twice bytes (bytes-val ∷ [])) $
+        split ! $ move ! (2 ∷ []) $ drop ! $
         move ! (23 ∷ []) $ split ! $ move ! (1 ∷ []) $ split ! $ move ! (1 ∷ []) $ split ! $ move ! (1 ∷ []) $ drop ! $
         -- the block's borrow is opened, and the block is read whole
         move ! (5 ∷ 6 ∷ 1 ∷ []) $ reads ! tt (L .Block) (L .block-laws) (now block) (ptr block .0) (ptr block .1) (λ v is.
@@ -163,7 +182,7 @@ module _ (L : Layer) (X : Passed) where
         returns ! (look ! 5 refl) $ keep ! (5 ∷ 25 ∷ 11 ∷ 24 ∷ 4 ∷ 23 ∷ 21 ∷ 22 ∷ 19 ∷ 20 ∷ 3 ∷ 18 ∷ 12 ∷ 17 ∷ 13 ∷ 16 ∷ 14 ∷ 15 ∷ 9 ∷ 0 ∷ 1 ∷ 7 ∷ 2 ∷ 6 ∷ 10 ∷ 8 ∷ []) $
         frees ! $ frees ! $ frees ! $ frees ! $ frees ! $ free1 ! $ frees ! $ frees ! $ frees ! $ free0 ! $ by ! (leaves r ws u log-long u-is))))))))))))))))
 
-  pub walks : {M : Type 1} (𝓤 : URA M) (H : Heap 𝓤) (A : Atoms 𝓤) (W : Given 𝓤 H A) (E : Ensures 𝓤 by-value) (F : Ensures 𝓤 by-reference) → Told 𝓤 E F → (C : Calls 𝓤 H) (Λ : Loops 𝓤 H) (callee : Name) → FmC 𝓤 H (W .laws) C
+  pub walks : {M : Type 1} (𝓤 : URA M) (H : Heap 𝓤) (A : Atoms 𝓤) (W : Given 𝓤 H A) (E : Ensures 𝓤 by-value) (F : Ensures 𝓤 by-reference) → Told 𝓤 handed E F → (C : Calls 𝓤 H) (Λ : Loops 𝓤 H) (callee : Name) → FmC 𝓤 H (W .laws) C
       → Triple 𝓤 (C callee) (Called 𝓤 H A by-value E) → Walks 𝓤 H A by-reference stayed (WpFn 𝓤 H C Λ (code callee)) (ensuring 𝓤 by-reference F)
   walks 𝓤 H A W E F told C Λ callee fm known =
       walked 𝓤 H A by-reference stayed (ensuring 𝓤 by-reference F) (WpFn 𝓤 H C Λ (code callee)) (λ κs. (slice-vals, (ptr-vals, ((λ x. X .val x ∷ []), (slice-vals, tt)))))
@@ -171,4 +190,4 @@ module _ (L : Layer) (X : Passed) where
       (λ κs qs bounds a g are. via 𝓤 _ (fst∗ 𝓤 _ (emp 𝓤)) (walk 𝓤 H A W E F told (κs .0) (κs .1 .0) (κs .1 .1 .0) (qs .0) (qs .1 .0) (qs .1 .1 .0) (a .0) (a .1 .0) (a .1 .1 .0) (a .1 .1 .1 .0) (are .0 .0 .1) (are .1 .1 .1 .0 .0 .1) (are .1 .1 .0) C Λ callee fm known))
 
   abbrev pub shape : Shape by-value by-reference
-  shape = record { stayed = stayed; gone = gone; code = code; Told = Told; walks = walks }
+  shape = record { hands = handed; stayed = stayed; gone = gone; code = code; walks = walks }

@@ -40,7 +40,7 @@ use denote.Struct.Struct.{Plains, Struct, layout}
 use denote.Struct.Values.{Values, intos}
 use denote.Shadow.{makes-shadow}
 use denote.Steps.{only}
-use denote.Triple.Clauses.{Clauses, Ended, AtExit, closing}
+use denote.Triple.Clauses.{Clauses, Ended, Lasts, AtExit, atExit, closing}
 use denote.Triple.Entry.{Args, Res}
 use denote.Triple.Spec.{tripleOf}
 use denote.Triple.Statement.{Contract, Triple}
@@ -61,19 +61,31 @@ ensuring 𝓤 T E κs a = record { ghost = Unit {0}; requires = λ _. emp 𝓤; 
 abbrev pub Called : {M : Type 1} (𝓤 : URA M) (H : Heap 𝓤) (A : Atoms 𝓤) (S : Ended) → Ensures 𝓤 S → Contract 𝓤
 Called 𝓤 H A S E = tripleOf 𝓤 H A (S .signature) (closing 𝓤 H A S (ensuring 𝓤 S E))
 
--- a shape of layers, with the signature T, over functions by value with the signature S: the code, and the walk of it.
--- `Told E F` says that what the layer ensures, F, follows from what the function by value ensures, E
+-- of a layer with the signature T over a function by value with the signature S: what it passes on of what it was called with, what it returns of what it was returned, r, and each parameter's last value, of r and of those that the function by value left
+pub record Hands (S T : Ended) : Type 2 where
+  pub lfts : Lfts (T .signature .lifetimes) → Lfts (S .signature .lifetimes)
+  pub args : (κs : Lfts (T .signature .lifetimes)) → Args (T .signature) κs → Args (S .signature) (lfts κs)
+  pub result : (κs : Lfts (T .signature .lifetimes)) → Res (S .signature) (lfts κs) → Res (T .signature) κs
+  pub lasts : (κs : Lfts (T .signature .lifetimes)) (a : Args (T .signature) κs) → Res (S .signature) (lfts κs) → Lasts S (lfts κs) (args κs a) → Lasts T κs a
+
+-- what the layer ensures, F, follows from what the function by value ensures, E
+abbrev pub Told : {M : Type 1} (𝓤 : URA M) {S T : Ended} → Hands S T → Ensures 𝓤 S → Ensures 𝓤 T → Type 1
+Told 𝓤 {S} {T} h E F =
+    (κs : Lfts (T .signature .lifetimes)) (a : Args (T .signature) κs) (r : Res (S .signature) (h .lfts κs)) (ws : Lasts S (h .lfts κs) (h .args κs a))
+    → ent 𝓤 (E (h .lfts κs) (h .args κs a) r (atExit S (h .lfts κs) (h .args κs a) ws)) (F κs a (h .result κs r) (atExit T κs a (h .lasts κs a r ws)))
+
+-- a shape of layers: the code, with what becomes of each parameter, and the walk of it
 pub record Shape (S T : Ended) : Type 2 where
+  pub hands : Hands S T
   pub stayed : Stays (T .signature .params) (T .kept)
   pub gone : {M : Type 1} (𝓤 : URA M) (H : Heap 𝓤) (A : Atoms 𝓤) (W : Given 𝓤 H A) → AllGo 𝓤 H A W (T .signature .lifetimes) (T .signature .params) (T .kept) stayed
   pub code : Name → Fn
-  pub Told : {M : Type 1} (𝓤 : URA M) → Ensures 𝓤 S → Ensures 𝓤 T → Type 1
-  pub walks : {M : Type 1} (𝓤 : URA M) (H : Heap 𝓤) (A : Atoms 𝓤) (W : Given 𝓤 H A) (E : Ensures 𝓤 S) (F : Ensures 𝓤 T) → Told 𝓤 E F → (C : Calls 𝓤 H) (Λ : Loops 𝓤 H) (callee : Name) → FmC 𝓤 H (W .laws) C
-      → Triple 𝓤 (C callee) (Called 𝓤 H A S E) → Walks 𝓤 H A T stayed (WpFn 𝓤 H C Λ (code callee)) (ensuring 𝓤 T F)
+  pub walks : {M : Type 1} (𝓤 : URA M) (H : Heap 𝓤) (A : Atoms 𝓤) (W : Given 𝓤 H A) (E : Ensures 𝓤 S) (F : Ensures 𝓤 T) → Told 𝓤 hands E F → (C : Calls 𝓤 H) (Λ : Loops 𝓤 H) (callee : Name)
+      → FmC 𝓤 H (W .laws) C → Triple 𝓤 (C callee) (Called 𝓤 H A S E) → Walks 𝓤 H A T stayed (WpFn 𝓤 H C Λ (code callee)) (ensuring 𝓤 T F)
 
 module _ {S T : Ended} (shape : Shape S T) {M : Type 1} (𝓤 : URA M) (H : Heap 𝓤) (𝓜 : Model 𝓤 H) (𝓖 : GhostRules 𝓤 H) (𝓡 : Running 𝓤 H 𝓜) (γ : Routines) (layer callee : Name) where
   -- a layer of the shape meets its contract
-  pub meets : (E : Ensures 𝓤 S) (F : Ensures 𝓤 T) → shape .Told 𝓤 E F → (routine : Routine) → γ callee ≡ routine → Triple 𝓤 (𝓡 .run routine) (Called 𝓤 H (𝓖 .A) S E)
+  pub meets : (E : Ensures 𝓤 S) (F : Ensures 𝓤 T) → Told 𝓤 (shape .hands) E F → (routine : Routine) → γ callee ≡ routine → Triple 𝓤 (𝓡 .run routine) (Called 𝓤 H (𝓖 .A) S E)
       → Closed 𝓤 H (tables 𝓤 H 𝓜 𝓡 γ .C) (tables 𝓤 H 𝓜 𝓡 γ .Λ) layer (shape .code callee) → Triple 𝓤 (tables 𝓤 H 𝓜 𝓡 γ .C layer) (Called 𝓤 H (𝓖 .A) T F)
   unfolding tablesOf
   meets E F told routine bound met closed =
