@@ -10,7 +10,7 @@ use base.Fml.{Lft, Share, ftrue, flft, fobs, fbor}
 use prog.Wp.{Heap, Calls, Loops, WpFn}
 use ghost.Atoms.{Atoms}
 use types.Kit.{Given, Item, ⋆, ‵, raw, _⊛_, _$_, _∵_, !, qed, by, move, keep, drop, split, join, fsplit, fsplit3, fjoin, fjoin3, feqI, suffices, frame, done}
-use types.Run.{look, look-raw, init, store-raw, stop, hop, from, load, unit-lit, of-opd, and-then, no-more, assigns, land, returns, enter, alloc1, alloc0, params1, pass1, pass0, free0}
+use types.Run.{look, look-raw, init, store-raw, stop, hop, from, load, unit-lit, of-opd, no-more, assigns, land, returns, enter, alloc1, alloc0, params1, pass1, pass0, free0}
 use types.SemTy.{Body}
 use sound.WpLaws.{FmC}
 use denote.RattleType.{owns}
@@ -19,8 +19,8 @@ use denote.Memory.{mem, pointee}
 use denote.Builtin.{unit}
 use denote.Exit.{yes}
 use denote.Ref.{RefT, MutRef, ptr, name, now, ptr-vals, mut-tells}
-use denote.Signature.{plain, mutRefTo}
-use denote.Steps.{owned, peeks, nothing}
+use denote.Signature.{plain, mutRef}
+use denote.Steps.{peeks, nothing}
 use denote.Struct.Declared.{Declared, row, fields}
 use denote.Struct.Laws as LL
 use denote.Struct.Struct.{Plains}
@@ -28,9 +28,9 @@ use denote.Triple.Call.{calls-at}
 use denote.Triple.Clauses.{Ended, Lasts, atExit}
 use denote.Triple.Entry.{onEntry}
 use denote.Triple.Statement.{Contract, Triple}
-use denote.Triple.Walked.{Stays, stay-ref, walkOf, AllGo, goes-ref, Walks, ends-at, walked}
+use denote.Triple.Walked.{Stays, stay-ref, walkOf, goes-ref, ends-at, walked}
 use Rattle.lent_laws.proofs.LentLaws.{gives, reads, stores, returned}
-use Rattle.lent_laws.proofs.Layers.{Ensures, ensuring, Called, Hands, Told, Shape, ensures-from, frees, mirOf}
+use Rattle.lent_laws.proofs.Layers.{Ensures, ensuring, Called, Hands, Told, Gone, Walk, Shape, ensures-from, and-local, owned-struct, frees, mirOf}
 
 module _ (T : Declared) (L : LL.Laws T) (P : Plains (fields T)) where
   -- ---- The callee and the layer
@@ -39,7 +39,7 @@ module _ (T : Declared) (L : LL.Laws T) (P : Plains (fields T)) where
   by-value = record { signature = record { lifetimes = 0; outlives = []; params = plain (λ _. row T) ∷ []; result = plain (λ _. row T) }; kept = (yes, tt) }
 
   abbrev pub by-reference : Ended
-  by-reference = record { signature = record { lifetimes = 1; outlives = []; params = mutRefTo (0 ∷ []) tt (plain (λ _. row T)) ∷ []; result = plain (λ _. unit) }; kept = (yes, tt) }
+  by-reference = record { signature = record { lifetimes = 1; outlives = []; params = mutRef 0 tt (λ _. row T) ∷ []; result = plain (λ _. unit) }; kept = (yes, tt) }
 
   abbrev pub code : Name → Fn
   code callee = record {
@@ -57,8 +57,8 @@ module _ (T : Declared) (L : LL.Laws T) (P : Plains (fields T)) where
   abbrev pub stayed : Stays (by-reference .signature .params) (by-reference .kept)
   stayed = (stay-ref (0 ∷ []) tt (plain (λ _. row T)), tt)
 
-  pub gone : {M : Type 1} (𝓤 : URA M) (H : Heap 𝓤) (A : Atoms 𝓤) (W : Given 𝓤 H A) → AllGo 𝓤 H A W 1 (by-reference .signature .params) (by-reference .kept) stayed
-  gone 𝓤 H A W = (goes-ref 𝓤 H A W 1 0 tt (plain (λ _. row T)), tt)
+  pub gone : Gone by-reference stayed
+  gone M 𝓤 H A W = (goes-ref 𝓤 H A W 1 0 tt (plain (λ _. row T)), tt)
 
   -- the block is passed on by value, and what the callee returned is left
   abbrev pub handed : Hands by-value by-reference
@@ -85,7 +85,7 @@ module _ (T : Declared) (L : LL.Laws T) (P : Plains (fields T)) where
       to-callee v = ((tt, tt, tt, (now block, tt), (v ∷ [], tt)), tt)
 
       hands : (v : Val) → Is (row T) (now block) (v ∷ []) → ent 𝓤 (⋆ 𝓤 H A (‵ ftrue ∷ [])) (Callee .pre (to-callee v))
-      hands v is = qed W (‵ ftrue ∷ []) ∵ nothing ! $ owned ! (row T) (Is (row T)) (LL.makes T P 𝓤 H A) (now block) _ is $ fjoin ! $ move ! (1 ∷ 0 ∷ []) $ join ! $ frame ! $ done !
+      hands v is = qed W (‵ ftrue ∷ []) ∵ nothing ! $ owned-struct ! T P (now block) _ is $ fjoin ! $ move ! (1 ∷ 0 ∷ []) $ join ! $ frame ! $ done !
 
       module _ (r : T .D) (ws : Lasts by-value tt (now block, tt)) where
         abbrev Left : List (Item 𝓤)
@@ -109,7 +109,7 @@ module _ (T : Declared) (L : LL.Laws T) (P : Plains (fields T)) where
           assigns ! (of-opd ! (load ! (from ! (hop ! (look ! 10 refl) (stop !))) (look-raw ! 0 refl))) (from ! (stop !)) (init ! 6 refl (LL.lawful T L 𝓤 H A W .typed (now block) _ is .0)) $
           -- the call
           move ! (4 ∷ []) $ gives W (‵ ftrue ∷ []) (raw (Callee .pre (to-callee v))) (hands v is) $
-          calls-at ! fm Callee known (to-callee v) (and-then ! (load ! (from ! (stop !)) (look ! 6 refl)) (no-more !)) (λ w.
+          calls-at ! fm Callee known (to-callee v) (and-local ! 6 refl (no-more !)) (λ w.
           returned ! tt by-value (ensuring 𝓤 by-value E) (to-callee v) w (λ r ws.
           -- [what the callee ensures; …; what the new block owns; the block's cell; …]
           move ! (3 ∷ []) $ peeks ! (row T) (Is (row T)) (shows 𝓤 H A (row T)) r (w ∷ []) (λ r-is. drop ! $ move ! (1 ∷ 2 ∷ []) $ drop ! $ drop ! $
@@ -122,9 +122,8 @@ module _ (T : Declared) (L : LL.Laws T) (P : Plains (fields T)) where
           returns ! (look ! 11 refl) $ keep ! (11 ∷ 12 ∷ 9 ∷ 10 ∷ 7 ∷ 8 ∷ 5 ∷ 6 ∷ 3 ∷ 0 ∷ 1 ∷ 2 ∷ []) $
           frees ! $ frees ! $ frees ! $ frees ! $ free0 ! $ by ! (leaves r ws)))))))))
 
-  pub walks : {M : Type 1} (𝓤 : URA M) (H : Heap 𝓤) (A : Atoms 𝓤) (W : Given 𝓤 H A) (E : Ensures 𝓤 by-value) (F : Ensures 𝓤 by-reference) → Told 𝓤 handed E F → (C : Calls 𝓤 H) (Λ : Loops 𝓤 H) (callee : Name) → FmC 𝓤 H (W .laws) C
-      → Triple 𝓤 (C callee) (Called 𝓤 H A by-value E) → Walks 𝓤 H A by-reference stayed (WpFn 𝓤 H C Λ (code callee)) (ensuring 𝓤 by-reference F)
-  walks 𝓤 H A W E F told C Λ callee fm known =
+  pub walks : Walk handed stayed code
+  walks M 𝓤 H A W E F told C Λ callee fm known =
       walked 𝓤 H A by-reference stayed (ensuring 𝓤 by-reference F) (WpFn 𝓤 H C Λ (code callee)) (λ κs. (ptr-vals, tt)) (λ κs. (mut-tells (named 0) (κs .0) (row T), tt))
       (λ κs qs bounds a g are. via 𝓤 _ (fst∗ 𝓤 _ (emp 𝓤)) (walk 𝓤 H A W E F told (κs .0) (qs .0) (a .0) C Λ callee fm known))
 
