@@ -17,7 +17,7 @@ use prog.Wp.{Heap, Env as Places, Calls, Loops, Closed, WpFn}
 use ghost.Atoms.{Atoms, sem}
 use contract.Monad.{fact}
 use contract.Running.{GhostRules, Running, givenOf, tables, tablesOf}
-use types.Kit.{Given, Item, Goal, Post, prop, runs, lands, Soaks, Seq, Step, step, cut, mean, ⋆, ‵, raw, some, later, _⊛_, _$_, move, use0, use1, split, pick, await, drop, suffices}
+use types.Kit.{Given, Item, Goal, Post, prop, runs, lands, settles, Soaks, Seq, Step, step, cut, mean, ⋆, ‵, raw, some, later, _⊛_, _$_, move, use0, use1, split, pick, await, drop, suffices}
 use types.SemTy.{Body}
 use types.Run.{Opds}
 use sound.WpLaws.{FmC, WpFn-mono}
@@ -32,11 +32,11 @@ use denote.Struct.Declared.{Declared, row, fields}
 use denote.Struct.Laws as LL
 use denote.Struct.Steps.{spelt}
 use denote.Struct.Struct.{Plains}
-use denote.Triple.Call.{calls-at}
+use denote.Triple.Call.{calls-at, calls-at-last}
 use denote.Triple.Clauses.{Clauses, Ended, Lasts, atExit, lasts, ensured, closing}
 use denote.Triple.Entry.{Res, alive}
 use denote.Triple.Spec.{tripleOf}
-use denote.Triple.Statement.{Triple}
+use denote.Triple.Statement.{Contract, Triple}
 use denote.Triple.Table.{entered}
 use denote.Triple.Walked.{says, Stays, AllGo, Walks, walk-meets}
 
@@ -44,6 +44,10 @@ use denote.Triple.Walked.{says, Stays, AllGo, Walks, walk-meets}
 pub gives : {M : Type 1} {𝓤 : URA M} {H : Heap 𝓤} {A : Atoms 𝓤} {K : Type 0} (W : Given 𝓤 H A) {Γ : List (Item 𝓤)} {G : Goal 𝓤 H} (Δ : List (Item 𝓤)) (i : Item 𝓤)
     → ent 𝓤 (⋆ 𝓤 H A Δ) (mean 𝓤 H A i) → Step K W (i ∷ Γ) G (Δ ++ Γ) G
 gives W {Γ} Δ i h = cut Δ (i ∷ []) Γ h
+
+-- what a caller knows of a callee
+abbrev Known : {M : Type 1} (𝓤 : URA M) (H : Heap 𝓤) (A : Atoms 𝓤) (T : Ended) → Clauses 𝓤 T → Contract 𝓤
+Known 𝓤 H A T c = tripleOf 𝓤 H A (T .signature) (closing 𝓤 H A T c)
 
 module _ {M : Type 1} {𝓤 : URA M} {H : Heap 𝓤} {A : Atoms 𝓤} {K : Type 0} {W : Given 𝓤 H A} {Γ : List (Item 𝓤)} {G : Goal 𝓤 H} where
   -- ---- A block that is lent
@@ -86,23 +90,36 @@ module _ {M : Type 1} {𝓤 : URA M} {H : Heap 𝓤} {A : Atoms 𝓤} {K : Type 
       use1 W (some (λ (ws : Lasts T (y .0 .0) (y .0 .3)). ‵ (lasts T (y .0 .0) (y .0 .3) ws) ⊛ raw (c (y .0 .0) (y .0 .3) .ensures (y .1) r (atExit T (y .0 .0) (y .0 .3) ws)))) (id⊢ 𝓤 _) $
       pick t (λ ws. split t $ move t (2 ∷ []) $ split t $ move t (3 ∷ 2 ∷ []) $ k r ws))
 
+  -- the same of a callee over plain values
+  returned-plain : K → Soaks G → (T : Ended) (c : Clauses 𝓤 T) (y : Known 𝓤 H A T c .Ghost) (w : Val)
+      → ((r : Res (T .signature) (y .0 .0)) (ws : Lasts T (y .0 .0) (y .0 .3)) → Is (typeAt (T .signature .result) (y .0 .0)) r (w ∷ [])
+      → Seq K W (raw (c (y .0 .0) (y .0 .3) .ensures (y .1) r (atExit T (y .0 .0) (y .0 .3) ws)) ∷ Γ) G)
+      → Seq K W (raw (Known 𝓤 H A T c .post y w) ∷ Γ) G
+  returned-plain t z T c y w k =
+      returned t z T c y w (λ r ws. move t (1 ∷ 2 ∷ 3 ∷ []) $ drop t $ drop t $
+      facts t (typeAt (T .signature .result) (y .0 .0)) (Is (typeAt (T .signature .result) (y .0 .0))) (shows 𝓤 H A (typeAt (T .signature .result) (y .0 .0))) r (w ∷ []) (λ is. k r ws is))
+
   -- an `ensures` of two clauses, as a callee gives it
   pub heard-both : K → (φ ψ : Type 0) → (φ → ψ → Seq K W Γ G) → Seq K W (raw (sep 𝓤 (fact 𝓤 φ) (fact 𝓤 ψ)) ∷ Γ) G
   heard-both t φ ψ k = use1 W (raw (fact 𝓤 φ) ⊛ raw (fact 𝓤 ψ)) (id⊢ 𝓤 _) $ split t $ heard t φ (λ x. heard t ψ (λ y. k x y))
 
-module _ {M : Type 1} {𝓤 : URA M} {H : Heap 𝓤} {A : Atoms 𝓤} {K : Type 0} {W : Given 𝓤 H A} {Γ : List (Item 𝓤)} where
-  -- a call of a function over plain values, which the caller has for nothing: the result r with its machine value w, and what the `ensures` says
-  pub calls-plain : K → {E : Places 𝓤 H} {C : Calls 𝓤 H} {Λ : Loops 𝓤 H} {f : Name} {xs : List Operand} {d : Place} {rest : Code} {o : Post 𝓤 H} → FmC 𝓤 H (W .laws) C → (T : Ended) (c : Clauses 𝓤 T)
-      → Triple 𝓤 (C f) (tripleOf 𝓤 H A (T .signature) (closing 𝓤 H A T c)) → (y : tripleOf 𝓤 H A (T .signature) (closing 𝓤 H A T c) .Ghost)
-      → ent 𝓤 (emp 𝓤) (tripleOf 𝓤 H A (T .signature) (closing 𝓤 H A T c) .pre y)
-      → Opds K W (raw (tripleOf 𝓤 H A (T .signature) (closing 𝓤 H A T c) .pre y) ∷ Γ) E xs (tripleOf 𝓤 H A (T .signature) (closing 𝓤 H A T c) .args y)
+-- a call of a function over plain values, which the caller has for nothing: the result r with its machine value w, and what the `ensures` says
+module _ {M : Type 1} {𝓤 : URA M} {H : Heap 𝓤} {A : Atoms 𝓤} {K : Type 0} {W : Given 𝓤 H A} {Γ : List (Item 𝓤)} {E : Places 𝓤 H} {C : Calls 𝓤 H} {Λ : Loops 𝓤 H} {f : Name} {xs : List Operand} {d : Place} {o : Post 𝓤 H} where
+  pub calls-plain : K → {rest : Code} → FmC 𝓤 H (W .laws) C → (T : Ended) (c : Clauses 𝓤 T) → Triple 𝓤 (C f) (Known 𝓤 H A T c) → (y : Known 𝓤 H A T c .Ghost) → ent 𝓤 (emp 𝓤) (Known 𝓤 H A T c .pre y)
+      → Opds K W (raw (Known 𝓤 H A T c .pre y) ∷ Γ) E xs (Known 𝓤 H A T c .args y)
       → ((w : Val) (r : Res (T .signature) (y .0 .0)) (ws : Lasts T (y .0 .0) (y .0 .3)) → Is (typeAt (T .signature .result) (y .0 .0)) r (w ∷ [])
       → Seq K W (raw (c (y .0 .0) (y .0 .3) .ensures (y .1) r (atExit T (y .0 .0) (y .0 .3) ws)) ∷ Γ) (lands C Λ E d w rest o))
       → Seq K W Γ (runs C Λ E (seq (call f xs d) rest) o)
   calls-plain t fm T c known y had operands k =
-      use0 W (raw (tripleOf 𝓤 H A (T .signature) (closing 𝓤 H A T c) .pre y)) had $ calls-at t fm (tripleOf 𝓤 H A (T .signature) (closing 𝓤 H A T c)) known y operands (λ w.
-      returned t tt T c y w (λ r ws. move t (1 ∷ 2 ∷ 3 ∷ []) $ drop t $ drop t $
-      facts t (typeAt (T .signature .result) (y .0 .0)) (Is (typeAt (T .signature .result) (y .0 .0))) (shows 𝓤 H A (typeAt (T .signature .result) (y .0 .0))) r (w ∷ []) (λ is. k w r ws is)))
+      use0 W (raw (Known 𝓤 H A T c .pre y)) had $ calls-at t fm (Known 𝓤 H A T c) known y operands (λ w. returned-plain t tt T c y w (k w))
+
+  pub calls-plain-last : K → FmC 𝓤 H (W .laws) C → (T : Ended) (c : Clauses 𝓤 T) → Triple 𝓤 (C f) (Known 𝓤 H A T c) → (y : Known 𝓤 H A T c .Ghost) → ent 𝓤 (emp 𝓤) (Known 𝓤 H A T c .pre y)
+      → Opds K W (raw (Known 𝓤 H A T c .pre y) ∷ Γ) E xs (Known 𝓤 H A T c .args y)
+      → ((w : Val) (r : Res (T .signature) (y .0 .0)) (ws : Lasts T (y .0 .0) (y .0 .3)) → Is (typeAt (T .signature .result) (y .0 .0)) r (w ∷ [])
+      → Seq K W (raw (c (y .0 .0) (y .0 .3) .ensures (y .1) r (atExit T (y .0 .0) (y .0 .3) ws)) ∷ Γ) (settles E d w o))
+      → Seq K W Γ (runs C Λ E (call f xs d) o)
+  calls-plain-last t fm T c known y had operands k =
+      use0 W (raw (Known 𝓤 H A T c .pre y)) had $ calls-at-last t fm (Known 𝓤 H A T c) known y operands (λ w. returned-plain t tt T c y w (k w))
 
 -- what such a function asks of its arguments
 pub from-nothing : {M : Type 1} (𝓤 : URA M) (H : Heap 𝓤) (A : Atoms 𝓤) (Rs : List RattleType) → Makess 𝓤 H A Rs (Ises Rs) → (a : Denots Rs) (vss : Valss Rs) → Are Rs (Ises Rs) a vss

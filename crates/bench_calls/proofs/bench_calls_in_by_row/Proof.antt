@@ -26,7 +26,6 @@ use contract.Running.{givenOf, tables, tablesOf}
 use types.Kit.{Given, Item, Sq, ⋆, ‵, raw, _⊛_, runs, anyQ, atRet, _$_, _∵_, !, qed, by, move, keep, drop, use1, split, join, rewrite, fsplit, fjoin, feqL, suffices, frame, done}
 use types.Run.{look, init, store, forget, stop, hop, fld, from, load, lit, true-lit, addr, bin, of-opd, and-then, no-more, assigns, assigns-last, land, first, blocks, stays, leaves-loop, returns, enter, alloc1, alloc0, params1, pass1, pass0, free1, free0, exec, Below, again, loops}
 use types.Part.{agg, whole, sub, look-in}
-use types.Tokens.{lft-new, lft-end}
 use sound.WpLaws.{FmC, fmOf}
 use denote.RattleType.{owns}
 use denote.Laws.{Is, shows}
@@ -312,7 +311,7 @@ module _ {M : Type 1} (𝓤 : URA M) (H : Heap 𝓤) (A : Atoms 𝓤) (W : Given
       -- [the row's token; its `&`; what is lent; the log; its token; the data; its token; _0 7; …, without _7; and that each local dies]
       abbrev At : Turn repeats ys → List (Item 𝓤)
       At u =
-          ‵ (flft (ν ∷ []) fullShare) ∷ ‵ OwnRow ∷ ‵ (LentFirst I.the-type (ν ∷ []) 64 count places l7) ∷ ‵ (OwnLog (u .zs)) ∷ ‵ (flft κ0 q0) ∷ ‵ OwnData ∷ ‵ (flft κ1 q1)
+          ‵ (flft (ν ∷ []) fullShare) ∷ ‵ OwnRow ∷ ‵ (LentFirst I.the-type ν 64 count places l7) ∷ ‵ (OwnLog (u .zs)) ∷ ‵ (flft κ0 q0) ∷ ‵ OwnData ∷ ‵ (flft κ1 q1)
           ∷ ‵ (froom (tyInt w64) l0 0) ∷ ‵ (fat fullShare tyLog l1 0 log-val) ∷ ‵ (fat fullShare tyData l2 0 bytes-val) ∷ ‵ (fat fullShare (tyInt w32) l3 0 (vint w32 trbs)) ∷ ‵ (fat fullShare (tyInt w32) l4 0 (vint w32 transfer-length)) ∷ ‵ (fat fullShare (tyInt w8) l5 0 (vint w8 status)) ∷ ‵ (fat fullShare (tyInt w32) l6 0 (vint w32 repeats)) ∷ ‵ (fat fullShare (tyInt w64) l8 0 (vint w64 count)) ∷ ‵ (fat fullShare tyRow l9 0 (sliceVal (l7, 0) count)) ∷ ‵ (fat fullShare R′.mir l10 0 result-val) ∷ ‵ (fat fullShare (tyInt w64) l11 0 (vint w64 (u .sum))) ∷ ‵ (fat fullShare (tyInt w32) l12 0 (vint w32 (u .k))) ∷ ‵ (froom O′.mir l13 0) ∷ ‵ (froom tyPlaces l14 0) ∷ ‵ (fat fullShare tyPlacesRef l15 0 (vptr l7 0)) ∷ ‵ (froom tyBool l16 0) ∷ ‵ (froom tyPart l17 0) ∷ ‵ (froom (sliceTy tyPart) l18 0) ∷ ‵ (froom E′.mir l19 0) ∷ ‵ (froom D′.mir l20 0)
           ∷ ‵ (fdies (tyInt w64) l0) ∷ ‵ (fdies tyLog l1) ∷ ‵ (fdies tyData l2) ∷ ‵ (fdies (tyInt w32) l3) ∷ ‵ (fdies (tyInt w32) l4) ∷ ‵ (fdies (tyInt w8) l5) ∷ ‵ (fdies (tyInt w32) l6) ∷ ‵ (fdies tyPlaces l7) ∷ ‵ (fdies (tyInt w64) l8) ∷ ‵ (fdies tyRow l9) ∷ ‵ (fdies R′.mir l10) ∷ ‵ (fdies (tyInt w64) l11) ∷ ‵ (fdies (tyInt w32) l12) ∷ ‵ (fdies O′.mir l13) ∷ ‵ (fdies tyPlaces l14) ∷ ‵ (fdies tyPlacesRef l15) ∷ ‵ (fdies tyBool l16) ∷ ‵ (fdies tyPart l17) ∷ ‵ (fdies (sliceTy tyPart) l18) ∷ ‵ (fdies E′.mir l19) ∷ ‵ (fdies D′.mir l20) ∷ []
 
@@ -361,7 +360,7 @@ module _ {M : Type 1} (𝓤 : URA M) (H : Heap 𝓤) (A : Atoms 𝓤) (W : Given
           leaves-loop ! (load ! (from ! (stop !)) (look ! 22 refl)) $ exec ! C Λ En steps.t-10 (atRet En Post) $
           assigns ! (of-opd ! (load ! (from ! (stop !)) (look ! 17 refl))) (from ! (stop !)) (init ! 7 refl (tt, record { fits = u .fits })) $
           -- the row comes back
-          move ! (0 ∷ 2 ∷ []) $ lft-end ! tt $ first-back ! tt I.the-type I′.the-laws 64 count places l7 (λ v.
+          move ! (0 ∷ 2 ∷ []) $ first-back ! tt I.the-type I′.the-laws 64 count places l7 (λ v.
           -- the locals are freed
           returns ! (look ! 6 refl) $ forget ! 6 refl $ forget ! 7 refl $ forget ! 8 refl $ forget ! 9 refl $ forget ! 10 refl $ forget ! 11 refl $ forget ! 12 refl $ forget ! 0 refl $ forget ! 13 refl $ forget ! 14 refl $ forget ! 15 refl $ forget ! 16 refl $ forget ! 17 refl $ forget ! 20 refl $ forget ! 21 refl $
           move ! (6 ∷ 26 ∷ []) $ free1 ! $ move ! (6 ∷ 25 ∷ []) $ free1 ! $ move ! (6 ∷ 24 ∷ []) $ free1 ! $ move ! (6 ∷ 23 ∷ []) $ free1 ! $ move ! (6 ∷ 22 ∷ []) $ free1 ! $ move ! (6 ∷ 21 ∷ []) $ free1 ! $ move ! (6 ∷ 20 ∷ []) $ free1 ! $ move ! (0 ∷ 19 ∷ []) $ free1 ! $ move ! (5 ∷ 18 ∷ []) $ free1 ! $ move ! (5 ∷ 17 ∷ []) $ free1 ! $ move ! (5 ∷ 16 ∷ []) $ free1 ! $ move ! (5 ∷ 15 ∷ []) $ free1 ! $ move ! (5 ∷ 14 ∷ []) $ free1 ! $ move ! (5 ∷ 13 ∷ []) $ free1 ! $ move ! (5 ∷ 12 ∷ []) $ free1 ! $ move ! (5 ∷ 11 ∷ []) $ free1 ! $ move ! (5 ∷ 10 ∷ []) $ free1 ! $ move ! (5 ∷ 9 ∷ []) $ free1 ! $ move ! (5 ∷ 8 ∷ []) $ free1 ! $ move ! (5 ∷ 7 ∷ []) $ free1 ! $ move ! (5 ∷ 6 ∷ []) $ free1 ! $ free0 ! $
@@ -399,9 +398,8 @@ module _ {M : Type 1} (𝓤 : URA M) (H : Heap 𝓤) (A : Atoms 𝓤) (W : Given
         assigns ! (of-opd ! (lit ! tt)) (from ! (stop !)) (init ! 15 refl (tt, record { fits = lit< tt })) $
         assigns ! (of-opd ! (lit ! tt)) (from ! (stop !)) (init ! 16 refl (tt, record { fits = lit< tt })) $
         -- the row is lent for a lifetime ν of the loop
-        lft-new ! tt (λ ν.
-        move ! (12 ∷ []) $ lends-first ! tt I.the-type I′.the-plain (named 1) (ν ∷ []) 64 count places places-val l7 places-is few (lit< tt, lit< tt) (λ γ.
-        keep ! (2 ∷ 0 ∷ 1 ∷ 3 ∷ 5 ∷ 4 ∷ 6 ∷ 7 ∷ 8 ∷ 9 ∷ 10 ∷ 11 ∷ 12 ∷ 13 ∷ 14 ∷ 15 ∷ 16 ∷ 17 ∷ 18 ∷ 19 ∷ 20 ∷ 21 ∷ 22 ∷ 23 ∷ 24 ∷ 25 ∷ 26 ∷ 27 ∷ 28 ∷ 29 ∷ 30 ∷ 31 ∷ 32 ∷ 33 ∷ 34 ∷ 35 ∷ 36 ∷ 37 ∷ 38 ∷ 39 ∷ 40 ∷ 41 ∷ 42 ∷ 43 ∷ 44 ∷ 45 ∷ 46 ∷ 47 ∷ []) $ looped places count result result-val ν γ (count-is .1) result-is))))))
+        move ! (11 ∷ []) $ lends-first ! tt I.the-type I′.the-plain (named 1) 64 count places places-val l7 places-is few (lit< tt, lit< tt) (λ ν γ.
+        keep ! (0 ∷ 1 ∷ 2 ∷ 3 ∷ 5 ∷ 4 ∷ 6 ∷ 7 ∷ 8 ∷ 9 ∷ 10 ∷ 11 ∷ 12 ∷ 13 ∷ 14 ∷ 15 ∷ 16 ∷ 17 ∷ 18 ∷ 19 ∷ 20 ∷ 21 ∷ 22 ∷ 23 ∷ 24 ∷ 25 ∷ 26 ∷ 27 ∷ 28 ∷ 29 ∷ 30 ∷ 31 ∷ 32 ∷ 33 ∷ 34 ∷ 35 ∷ 36 ∷ 37 ∷ 38 ∷ 39 ∷ 40 ∷ 41 ∷ 42 ∷ 43 ∷ 44 ∷ 45 ∷ 46 ∷ 47 ∷ []) $ looped places count result result-val ν γ (count-is .1) result-is)))))
 
   walk : (𝓣 : Tables 𝓤 H) → Triple 𝓤 (𝓣 .C #row-of) (RowOf 𝓤 H A at-mem run) → Triple 𝓤 (𝓣 .C #row-length) (RowLength 𝓤 H A at-mem run) → Triple 𝓤 (𝓣 .C #result-at) (ResultAt 𝓤 H A at-mem run)
       → Triple 𝓤 (𝓣 .C #complete) (Complete 𝓤 H A at-mem run) → Triple 𝓤 (𝓣 .C #add) (Add 𝓤 H A at-mem run)
