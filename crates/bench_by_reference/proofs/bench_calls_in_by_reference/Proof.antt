@@ -52,8 +52,8 @@ use Rattle.trb.specs.declared.InTrbProcessingResult.{InTrbProcessingResult}
 use Rattle.trb.specs.declared.TransferTrb.{TransferTrb}
 use Rattle.by_reference.specs.declared.CompletionOutcome.{CompletionOutcome}
 use Rattle.by_reference.specs.declared.SubmissionOutcome.{SubmissionOutcome}
-use Rattle.bench_calls.specs.declared.NextTrb.{NextTrb}
-use Rattle.bench_calls.specs.declared.Work.{Work}
+use Rattle.bench_by_reference.specs.declared.NextTrb.{NextTrb}
+use Rattle.bench_by_reference.specs.declared.Work.{Work}
 use Rattle.in_block.proofs.InBlock as B
 use Rattle.in_block.proofs.InBlock.Laws as B′
 use Rattle.trb.proofs.TransferTrb as I
@@ -64,67 +64,67 @@ use Rattle.by_reference.proofs.SubmissionOutcome as S
 use Rattle.by_reference.proofs.SubmissionOutcome.Laws as S′
 use Rattle.by_reference.proofs.CompletionOutcome as O
 use Rattle.by_reference.proofs.CompletionOutcome.Laws as O′
-use Rattle.bench_calls.proofs.Work as J
-use Rattle.bench_calls.proofs.Work.Laws as J′
-use Rattle.bench_calls.proofs.NextTrb as X
-use Rattle.bench_calls.proofs.NextTrb.Laws as X′
-use Rattle.bench_calls.proofs.work_of as work-of
-use Rattle.bench_calls.proofs.work_of.Symbol as work-of-def
-use Rattle.bench_calls.proofs.work_of.Symbol.{name as #work-of}
-use Rattle.bench_calls.proofs.work_of.Met as work-of-thm
-use Rattle.bench_calls.proofs.turns_of as turns-of
-use Rattle.bench_calls.proofs.turns_of.Symbol as turns-of-def
-use Rattle.bench_calls.proofs.turns_of.Symbol.{name as #turns-of}
-use Rattle.bench_calls.proofs.turns_of.Met as turns-of-thm
-use Rattle.bench_calls.proofs.fresh_block as fresh
-use Rattle.bench_calls.proofs.fresh_block.Symbol as fresh-def
-use Rattle.bench_calls.proofs.fresh_block.Symbol.{name as #fresh}
-use Rattle.bench_calls.proofs.fresh_block.Met as fresh-thm
-use Rattle.bench_calls.proofs.first_trb as first-trb
-use Rattle.bench_calls.proofs.first_trb.Symbol as first-trb-def
-use Rattle.bench_calls.proofs.first_trb.Symbol.{name as #first-trb}
-use Rattle.bench_calls.proofs.first_trb.Met as first-trb-thm
-use Rattle.bench_calls.proofs.trb_of as trb-of
-use Rattle.bench_calls.proofs.trb_of.Symbol as trb-of-def
-use Rattle.bench_calls.proofs.trb_of.Symbol.{name as #trb-of}
-use Rattle.bench_calls.proofs.trb_of.Met as trb-of-thm
+use Rattle.bench_by_reference.proofs.Work as J
+use Rattle.bench_by_reference.proofs.Work.Laws as J′
+use Rattle.bench_by_reference.proofs.NextTrb as X
+use Rattle.bench_by_reference.proofs.NextTrb.Laws as X′
+use Rattle.bench_by_reference.proofs.work_of as work-of
+use Rattle.bench_by_reference.proofs.work_of.Symbol as work-of-def
+use Rattle.bench_by_reference.proofs.work_of.Symbol.{name as #work-of}
+use Rattle.bench_by_reference.proofs.work_of.Met as work-of-thm
+use Rattle.bench_by_reference.proofs.turns_of as turns-of
+use Rattle.bench_by_reference.proofs.turns_of.Symbol as turns-of-def
+use Rattle.bench_by_reference.proofs.turns_of.Symbol.{name as #turns-of}
+use Rattle.bench_by_reference.proofs.turns_of.Met as turns-of-thm
+use Rattle.bench_by_reference.proofs.fresh_block as fresh
+use Rattle.bench_by_reference.proofs.fresh_block.Symbol as fresh-def
+use Rattle.bench_by_reference.proofs.fresh_block.Symbol.{name as #fresh}
+use Rattle.bench_by_reference.proofs.fresh_block.Met as fresh-thm
+use Rattle.bench_by_reference.proofs.first_trb as first-trb
+use Rattle.bench_by_reference.proofs.first_trb.Symbol as first-trb-def
+use Rattle.bench_by_reference.proofs.first_trb.Symbol.{name as #first-trb}
+use Rattle.bench_by_reference.proofs.first_trb.Met as first-trb-thm
+use Rattle.bench_by_reference.proofs.trb_of as trb-of
+use Rattle.bench_by_reference.proofs.trb_of.Symbol as trb-of-def
+use Rattle.bench_by_reference.proofs.trb_of.Symbol.{name as #trb-of}
+use Rattle.bench_by_reference.proofs.trb_of.Met as trb-of-thm
 use Rattle.by_reference.proofs.submit_trb as submit
 use Rattle.by_reference.proofs.submit_trb.Symbol as submit-def
 use Rattle.by_reference.proofs.submit_trb.Symbol.{name as #submit}
 use Rattle.by_reference.proofs.submit_trb.Met as submit-thm
-use Rattle.bench_calls.proofs.sum_with_submission as add-submission
-use Rattle.bench_calls.proofs.sum_with_submission.Symbol as add-submission-def
-use Rattle.bench_calls.proofs.sum_with_submission.Symbol.{name as #add-submission}
-use Rattle.bench_calls.proofs.sum_with_submission.Met as add-submission-thm
-use Rattle.bench_calls.proofs.is_cancelled as is-cancelled
-use Rattle.bench_calls.proofs.is_cancelled.Symbol as is-cancelled-def
-use Rattle.bench_calls.proofs.is_cancelled.Symbol.{name as #is-cancelled}
-use Rattle.bench_calls.proofs.is_cancelled.Met as is-cancelled-thm
+use Rattle.bench_by_reference.proofs.sum_with_submission as add-submission
+use Rattle.bench_by_reference.proofs.sum_with_submission.Symbol as add-submission-def
+use Rattle.bench_by_reference.proofs.sum_with_submission.Symbol.{name as #add-submission}
+use Rattle.bench_by_reference.proofs.sum_with_submission.Met as add-submission-thm
+use Rattle.bench_by_reference.proofs.is_cancelled as is-cancelled
+use Rattle.bench_by_reference.proofs.is_cancelled.Symbol as is-cancelled-def
+use Rattle.bench_by_reference.proofs.is_cancelled.Symbol.{name as #is-cancelled}
+use Rattle.bench_by_reference.proofs.is_cancelled.Met as is-cancelled-thm
 use Rattle.by_reference.proofs.cancel as cancel
 use Rattle.by_reference.proofs.cancel.Symbol as cancel-def
 use Rattle.by_reference.proofs.cancel.Symbol.{name as #cancel}
 use Rattle.by_reference.proofs.cancel.Met as cancel-thm
-use Rattle.bench_calls.proofs.result_of as result-of
-use Rattle.bench_calls.proofs.result_of.Symbol as result-of-def
-use Rattle.bench_calls.proofs.result_of.Symbol.{name as #result-of}
-use Rattle.bench_calls.proofs.result_of.Met as result-of-thm
+use Rattle.bench_by_reference.proofs.result_of as result-of
+use Rattle.bench_by_reference.proofs.result_of.Symbol as result-of-def
+use Rattle.bench_by_reference.proofs.result_of.Symbol.{name as #result-of}
+use Rattle.bench_by_reference.proofs.result_of.Met as result-of-thm
 use Rattle.by_reference.proofs.next_completion as complete
 use Rattle.by_reference.proofs.next_completion.Symbol as complete-def
 use Rattle.by_reference.proofs.next_completion.Symbol.{name as #complete}
 use Rattle.by_reference.proofs.next_completion.Met as complete-thm
-use Rattle.bench_calls.proofs.sum_with_completion as add-completion
-use Rattle.bench_calls.proofs.sum_with_completion.Symbol as add-completion-def
-use Rattle.bench_calls.proofs.sum_with_completion.Symbol.{name as #add-completion}
-use Rattle.bench_calls.proofs.sum_with_completion.Met as add-completion-thm
-use Rattle.bench_calls.proofs.trb_after as trb-after
-use Rattle.bench_calls.proofs.trb_after.Symbol as trb-after-def
-use Rattle.bench_calls.proofs.trb_after.Symbol.{name as #trb-after}
-use Rattle.bench_calls.proofs.trb_after.Met as trb-after-thm
-use Rattle.bench_calls.proofs.bench_calls_in_by_reference.Key.{name as #loop}
-use Rattle.bench_calls.proofs.bench_calls_in_by_reference as stated
-use Rattle.bench_calls.proofs.bench_calls_in_by_reference.Statement.{statement}
-use Rattle.bench_calls.proofs.bench_calls_in_by_reference.Code as code
-use Rattle.bench_calls.proofs.bench_calls_in_by_reference.Code.Mir as steps
+use Rattle.bench_by_reference.proofs.sum_with_completion as add-completion
+use Rattle.bench_by_reference.proofs.sum_with_completion.Symbol as add-completion-def
+use Rattle.bench_by_reference.proofs.sum_with_completion.Symbol.{name as #add-completion}
+use Rattle.bench_by_reference.proofs.sum_with_completion.Met as add-completion-thm
+use Rattle.bench_by_reference.proofs.trb_after as trb-after
+use Rattle.bench_by_reference.proofs.trb_after.Symbol as trb-after-def
+use Rattle.bench_by_reference.proofs.trb_after.Symbol.{name as #trb-after}
+use Rattle.bench_by_reference.proofs.trb_after.Met as trb-after-thm
+use Rattle.bench_by_reference.proofs.bench_calls_in_by_reference.Key.{name as #loop}
+use Rattle.bench_by_reference.proofs.bench_calls_in_by_reference as stated
+use Rattle.bench_by_reference.proofs.bench_calls_in_by_reference.Statement.{statement}
+use Rattle.bench_by_reference.proofs.bench_calls_in_by_reference.Code as code
+use Rattle.bench_by_reference.proofs.bench_calls_in_by_reference.Code.Mir as steps
 
 abbrev stayed : Stays (stated.ended .signature .params) (stated.ended .kept)
 stayed = (stay-slice (0 ∷ []) tt (plain (λ _. u8)), (stay-none-slice (1 ∷ []) tt (plain (λ _. u8)) yes, (stay-none-slice (2 ∷ []) tt (plain (λ _. u8)) yes, (stay-none (λ _. u32) yes, (stay-none (λ _. u32) yes, (stay-none (λ _. u8) yes, (stay-none (λ _. bool) yes, (stay-none (λ _. u32) yes, tt))))))))
@@ -652,17 +652,17 @@ unfolding code.routine tablesOf
 bench-calls-in-by-reference-spec 𝓤 H 𝓜 𝓖 𝓡 =
     by-walk 𝓤 H 𝓜 𝓖 𝓡 code.env stated.ended stayed (gone 𝓤 H (𝓖 .A) (givenOf 𝓤 H 𝓜 𝓖)) (stated.clauses 𝓤 H (𝓖 .A) (𝓜 .mem) (𝓡 .run)) #loop code.function (code.unfolded 𝓤 H 𝓜 𝓡)
     (walks 𝓤 H (𝓖 .A) (givenOf 𝓤 H 𝓜 𝓖) (𝓜 .mem) (𝓡 .run) (tablesOf 𝓤 H 𝓜 (tables 𝓤 H 𝓜 𝓡 code.env)) record {
-      work-of = cited 𝓤 H (WorkOf 𝓤 H (𝓖 .A) (𝓜 .mem) (𝓡 .run)) 𝓜 𝓡 code.env #work-of work-of-def.routine code.calls-bench-calls·work-of (work-of-thm.met 𝓤 H 𝓜 𝓖 𝓡);
-      turns-of = cited 𝓤 H (TurnsOf 𝓤 H (𝓖 .A) (𝓜 .mem) (𝓡 .run)) 𝓜 𝓡 code.env #turns-of turns-of-def.routine code.calls-bench-calls·turns-of (turns-of-thm.met 𝓤 H 𝓜 𝓖 𝓡);
-      fresh = cited 𝓤 H (Fresh 𝓤 H (𝓖 .A) (𝓜 .mem) (𝓡 .run)) 𝓜 𝓡 code.env #fresh fresh-def.routine code.calls-bench-calls·fresh-block (fresh-thm.met 𝓤 H 𝓜 𝓖 𝓡);
-      first-trb = cited 𝓤 H (FirstTrb 𝓤 H (𝓖 .A) (𝓜 .mem) (𝓡 .run)) 𝓜 𝓡 code.env #first-trb first-trb-def.routine code.calls-bench-calls·first-trb (first-trb-thm.met 𝓤 H 𝓜 𝓖 𝓡);
-      trb-of = cited 𝓤 H (TrbOf 𝓤 H (𝓖 .A) (𝓜 .mem) (𝓡 .run)) 𝓜 𝓡 code.env #trb-of trb-of-def.routine code.calls-bench-calls·trb-of (trb-of-thm.met 𝓤 H 𝓜 𝓖 𝓡);
+      work-of = cited 𝓤 H (WorkOf 𝓤 H (𝓖 .A) (𝓜 .mem) (𝓡 .run)) 𝓜 𝓡 code.env #work-of work-of-def.routine code.calls-bench-by-reference·work-of (work-of-thm.met 𝓤 H 𝓜 𝓖 𝓡);
+      turns-of = cited 𝓤 H (TurnsOf 𝓤 H (𝓖 .A) (𝓜 .mem) (𝓡 .run)) 𝓜 𝓡 code.env #turns-of turns-of-def.routine code.calls-bench-by-reference·turns-of (turns-of-thm.met 𝓤 H 𝓜 𝓖 𝓡);
+      fresh = cited 𝓤 H (Fresh 𝓤 H (𝓖 .A) (𝓜 .mem) (𝓡 .run)) 𝓜 𝓡 code.env #fresh fresh-def.routine code.calls-bench-by-reference·fresh-block (fresh-thm.met 𝓤 H 𝓜 𝓖 𝓡);
+      first-trb = cited 𝓤 H (FirstTrb 𝓤 H (𝓖 .A) (𝓜 .mem) (𝓡 .run)) 𝓜 𝓡 code.env #first-trb first-trb-def.routine code.calls-bench-by-reference·first-trb (first-trb-thm.met 𝓤 H 𝓜 𝓖 𝓡);
+      trb-of = cited 𝓤 H (TrbOf 𝓤 H (𝓖 .A) (𝓜 .mem) (𝓡 .run)) 𝓜 𝓡 code.env #trb-of trb-of-def.routine code.calls-bench-by-reference·trb-of (trb-of-thm.met 𝓤 H 𝓜 𝓖 𝓡);
       submit = cited 𝓤 H (Submit 𝓤 H (𝓖 .A) (𝓜 .mem) (𝓡 .run)) 𝓜 𝓡 code.env #submit submit-def.routine code.calls-by-reference·submit-trb (submit-thm.met 𝓤 H 𝓜 𝓖 𝓡);
-      add-submission = cited 𝓤 H (AddSubmission 𝓤 H (𝓖 .A) (𝓜 .mem) (𝓡 .run)) 𝓜 𝓡 code.env #add-submission add-submission-def.routine code.calls-bench-calls·sum-with-submission (add-submission-thm.met 𝓤 H 𝓜 𝓖 𝓡);
-      is-cancelled = cited 𝓤 H (IsCancelled 𝓤 H (𝓖 .A) (𝓜 .mem) (𝓡 .run)) 𝓜 𝓡 code.env #is-cancelled is-cancelled-def.routine code.calls-bench-calls·is-cancelled (is-cancelled-thm.met 𝓤 H 𝓜 𝓖 𝓡);
+      add-submission = cited 𝓤 H (AddSubmission 𝓤 H (𝓖 .A) (𝓜 .mem) (𝓡 .run)) 𝓜 𝓡 code.env #add-submission add-submission-def.routine code.calls-bench-by-reference·sum-with-submission (add-submission-thm.met 𝓤 H 𝓜 𝓖 𝓡);
+      is-cancelled = cited 𝓤 H (IsCancelled 𝓤 H (𝓖 .A) (𝓜 .mem) (𝓡 .run)) 𝓜 𝓡 code.env #is-cancelled is-cancelled-def.routine code.calls-bench-by-reference·is-cancelled (is-cancelled-thm.met 𝓤 H 𝓜 𝓖 𝓡);
       cancel = cited 𝓤 H (Cancel 𝓤 H (𝓖 .A) (𝓜 .mem) (𝓡 .run)) 𝓜 𝓡 code.env #cancel cancel-def.routine code.calls-by-reference·cancel (cancel-thm.met 𝓤 H 𝓜 𝓖 𝓡);
-      result-of = cited 𝓤 H (ResultOf 𝓤 H (𝓖 .A) (𝓜 .mem) (𝓡 .run)) 𝓜 𝓡 code.env #result-of result-of-def.routine code.calls-bench-calls·result-of (result-of-thm.met 𝓤 H 𝓜 𝓖 𝓡);
+      result-of = cited 𝓤 H (ResultOf 𝓤 H (𝓖 .A) (𝓜 .mem) (𝓡 .run)) 𝓜 𝓡 code.env #result-of result-of-def.routine code.calls-bench-by-reference·result-of (result-of-thm.met 𝓤 H 𝓜 𝓖 𝓡);
       complete = cited 𝓤 H (Complete 𝓤 H (𝓖 .A) (𝓜 .mem) (𝓡 .run)) 𝓜 𝓡 code.env #complete complete-def.routine code.calls-by-reference·next-completion (complete-thm.met 𝓤 H 𝓜 𝓖 𝓡);
-      add-completion = cited 𝓤 H (AddCompletion 𝓤 H (𝓖 .A) (𝓜 .mem) (𝓡 .run)) 𝓜 𝓡 code.env #add-completion add-completion-def.routine code.calls-bench-calls·sum-with-completion (add-completion-thm.met 𝓤 H 𝓜 𝓖 𝓡);
-      trb-after = cited 𝓤 H (TrbAfter 𝓤 H (𝓖 .A) (𝓜 .mem) (𝓡 .run)) 𝓜 𝓡 code.env #trb-after trb-after-def.routine code.calls-bench-calls·trb-after (trb-after-thm.met 𝓤 H 𝓜 𝓖 𝓡);
+      add-completion = cited 𝓤 H (AddCompletion 𝓤 H (𝓖 .A) (𝓜 .mem) (𝓡 .run)) 𝓜 𝓡 code.env #add-completion add-completion-def.routine code.calls-bench-by-reference·sum-with-completion (add-completion-thm.met 𝓤 H 𝓜 𝓖 𝓡);
+      trb-after = cited 𝓤 H (TrbAfter 𝓤 H (𝓖 .A) (𝓜 .mem) (𝓡 .run)) 𝓜 𝓡 code.env #trb-after trb-after-def.routine code.calls-bench-by-reference·trb-after (trb-after-thm.met 𝓤 H 𝓜 𝓖 𝓡);
     })

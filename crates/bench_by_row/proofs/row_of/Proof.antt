@@ -2,8 +2,8 @@
 use borrow.Author.Needs.{needs}
 use Prim.Native.Nat.{_≤_, _-_}
 use Rattle.trb.specs.Limits.{maxHeld}
-use Rattle.bench_calls.proofs.row_of.Statement.{statement}
-use Rattle.bench_calls.proofs.row_of.Tie as tie
+use Rattle.bench_by_row.proofs.row_of.Statement.{statement}
+use Rattle.bench_by_row.proofs.row_of.Tie as tie
 
 abbrev Inv-loop : tie.InvT-loop
 Inv-loop trbs transfer-length row₀ pointer₀ i₀ row pointer i = i ≤ maxHeld

@@ -65,31 +65,31 @@ use Rattle.trb.proofs.InTrbProcessingResult as R
 use Rattle.trb.proofs.InTrbProcessingResult.Laws as R′
 use Rattle.row_plan.proofs.RowCompleted as O
 use Rattle.row_plan.proofs.RowCompleted.Laws as O′
-use Rattle.bench_calls.proofs.row_of as row-of
-use Rattle.bench_calls.proofs.row_of.Symbol as row-of-def
-use Rattle.bench_calls.proofs.row_of.Symbol.{name as #row-of}
-use Rattle.bench_calls.proofs.row_of.Met as row-of-thm
-use Rattle.bench_calls.proofs.row_length as row-length
-use Rattle.bench_calls.proofs.row_length.Symbol as row-length-def
-use Rattle.bench_calls.proofs.row_length.Symbol.{name as #row-length}
-use Rattle.bench_calls.proofs.row_length.Met as row-length-thm
-use Rattle.bench_calls.proofs.result_at as result-at
-use Rattle.bench_calls.proofs.result_at.Symbol as result-at-def
-use Rattle.bench_calls.proofs.result_at.Symbol.{name as #result-at}
-use Rattle.bench_calls.proofs.result_at.Met as result-at-thm
+use Rattle.bench_by_row.proofs.row_of as row-of
+use Rattle.bench_by_row.proofs.row_of.Symbol as row-of-def
+use Rattle.bench_by_row.proofs.row_of.Symbol.{name as #row-of}
+use Rattle.bench_by_row.proofs.row_of.Met as row-of-thm
+use Rattle.bench_by_row.proofs.row_length as row-length
+use Rattle.bench_by_row.proofs.row_length.Symbol as row-length-def
+use Rattle.bench_by_row.proofs.row_length.Symbol.{name as #row-length}
+use Rattle.bench_by_row.proofs.row_length.Met as row-length-thm
+use Rattle.bench_work.proofs.result_at as result-at
+use Rattle.bench_work.proofs.result_at.Symbol as result-at-def
+use Rattle.bench_work.proofs.result_at.Symbol.{name as #result-at}
+use Rattle.bench_work.proofs.result_at.Met as result-at-thm
 use Rattle.td_row.proofs.complete_row as complete
 use Rattle.td_row.proofs.complete_row.Symbol as complete-def
 use Rattle.td_row.proofs.complete_row.Symbol.{name as #complete}
 use Rattle.td_row.proofs.complete_row.Met as complete-thm
-use Rattle.bench_calls.proofs.sum_with_row as add
-use Rattle.bench_calls.proofs.sum_with_row.Symbol as add-def
-use Rattle.bench_calls.proofs.sum_with_row.Symbol.{name as #add}
-use Rattle.bench_calls.proofs.sum_with_row.Met as add-thm
-use Rattle.bench_calls.proofs.bench_calls_in_by_row.Key.{name as #loop}
-use Rattle.bench_calls.proofs.bench_calls_in_by_row as stated
-use Rattle.bench_calls.proofs.bench_calls_in_by_row.Statement.{statement}
-use Rattle.bench_calls.proofs.bench_calls_in_by_row.Code as code
-use Rattle.bench_calls.proofs.bench_calls_in_by_row.Code.Mir as steps
+use Rattle.bench_by_row.proofs.sum_with_row as add
+use Rattle.bench_by_row.proofs.sum_with_row.Symbol as add-def
+use Rattle.bench_by_row.proofs.sum_with_row.Symbol.{name as #add}
+use Rattle.bench_by_row.proofs.sum_with_row.Met as add-thm
+use Rattle.bench_by_row.proofs.bench_calls_in_by_row.Key.{name as #loop}
+use Rattle.bench_by_row.proofs.bench_calls_in_by_row as stated
+use Rattle.bench_by_row.proofs.bench_calls_in_by_row.Statement.{statement}
+use Rattle.bench_by_row.proofs.bench_calls_in_by_row.Code as code
+use Rattle.bench_by_row.proofs.bench_calls_in_by_row.Code.Mir as steps
 
 abbrev stayed : Stays (stated.ended .signature .params) (stated.ended .kept)
 stayed = (
@@ -440,8 +440,8 @@ unfolding code.routine tablesOf
 bench-calls-in-by-row-spec 𝓤 H 𝓜 𝓖 𝓡 =
     by-walk 𝓤 H 𝓜 𝓖 𝓡 code.env stated.ended stayed (gone 𝓤 H (𝓖 .A) (givenOf 𝓤 H 𝓜 𝓖)) (stated.clauses 𝓤 H (𝓖 .A) (𝓜 .mem) (𝓡 .run)) #loop code.function (code.unfolded 𝓤 H 𝓜 𝓡)
     (walks 𝓤 H (𝓖 .A) (givenOf 𝓤 H 𝓜 𝓖) (𝓜 .mem) (𝓡 .run) (tablesOf 𝓤 H 𝓜 (tables 𝓤 H 𝓜 𝓡 code.env))
-    (cited 𝓤 H (RowOf 𝓤 H (𝓖 .A) (𝓜 .mem) (𝓡 .run)) 𝓜 𝓡 code.env #row-of row-of-def.routine code.calls-bench-calls·row-of (row-of-thm.met 𝓤 H 𝓜 𝓖 𝓡))
-    (cited 𝓤 H (RowLength 𝓤 H (𝓖 .A) (𝓜 .mem) (𝓡 .run)) 𝓜 𝓡 code.env #row-length row-length-def.routine code.calls-bench-calls·row-length (row-length-thm.met 𝓤 H 𝓜 𝓖 𝓡))
-    (cited 𝓤 H (ResultAt 𝓤 H (𝓖 .A) (𝓜 .mem) (𝓡 .run)) 𝓜 𝓡 code.env #result-at result-at-def.routine code.calls-bench-calls·result-at (result-at-thm.met 𝓤 H 𝓜 𝓖 𝓡))
+    (cited 𝓤 H (RowOf 𝓤 H (𝓖 .A) (𝓜 .mem) (𝓡 .run)) 𝓜 𝓡 code.env #row-of row-of-def.routine code.calls-bench-by-row·row-of (row-of-thm.met 𝓤 H 𝓜 𝓖 𝓡))
+    (cited 𝓤 H (RowLength 𝓤 H (𝓖 .A) (𝓜 .mem) (𝓡 .run)) 𝓜 𝓡 code.env #row-length row-length-def.routine code.calls-bench-by-row·row-length (row-length-thm.met 𝓤 H 𝓜 𝓖 𝓡))
+    (cited 𝓤 H (ResultAt 𝓤 H (𝓖 .A) (𝓜 .mem) (𝓡 .run)) 𝓜 𝓡 code.env #result-at result-at-def.routine code.calls-bench-work·result-at (result-at-thm.met 𝓤 H 𝓜 𝓖 𝓡))
     (cited 𝓤 H (Complete 𝓤 H (𝓖 .A) (𝓜 .mem) (𝓡 .run)) 𝓜 𝓡 code.env #complete complete-def.routine code.calls-td-row·complete-row (complete-thm.met 𝓤 H 𝓜 𝓖 𝓡))
-    (cited 𝓤 H (Add 𝓤 H (𝓖 .A) (𝓜 .mem) (𝓡 .run)) 𝓜 𝓡 code.env #add add-def.routine code.calls-bench-calls·sum-with-row (add-thm.met 𝓤 H 𝓜 𝓖 𝓡)))
+    (cited 𝓤 H (Add 𝓤 H (𝓖 .A) (𝓜 .mem) (𝓡 .run)) 𝓜 𝓡 code.env #add add-def.routine code.calls-bench-by-row·sum-with-row (add-thm.met 𝓤 H 𝓜 𝓖 𝓡)))
