@@ -1,4 +1,4 @@
-// What bench/ times of the IN endpoint by reference, as bench_calls by value: a library of its own, so that each timed function has one call site.
+// What bench/ times of the IN endpoint by reference. A library of its own, so that here too each timed function has one call site.
 use by_reference::CompletionOutcome;
 use by_reference::SubmissionOutcome;
 use in_block::InBlock;

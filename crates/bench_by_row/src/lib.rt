@@ -1,4 +1,4 @@
-// What bench/ times of the TD as a lent row, as bench_calls by value: a library of its own, so that each timed function has one call site.
+// What bench/ times of the TD as a lent row. A library of its own, so that here too each timed function has one call site.
 use row_plan::RowCompleted;
 use trb::EndpointId;
 use trb::SlotId;

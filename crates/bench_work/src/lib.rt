@@ -1,5 +1,5 @@
-// The work that bench/ times and its checksum, which the same work on the Rust answers too: records, plus `FAILED` for each result but Ok, plus
-// `REFUSED` for each refusal.
+// The work that bench/ times, and its checksum, which the same work on the Rust answers too: records, plus `FAILED` for each
+// result but Ok, plus `REFUSED` for each refusal.
 use trb::Answer;
 use trb::CompletionAnswer;
 use trb::InTrbProcessingResult;

@@ -1,6 +1,6 @@
 -- What the walks by hand of the thin layers share, over the type that is lent and over the callee. `reads` opens a `&mut` and writes out
 -- what lies behind it; `stores` closes it at what was stored there; `returned` takes apart what a callee's contract gives its caller;
--- `by-walk` makes a function's theorem of its walk. Assumes nothing.
+-- `calls-plain` is a call of a function over plain values; `by-walk` makes a function's theorem of its walk. Assumes nothing.
 use mathlib.Core.List.{List, [], _∷_, _++_}
 use Prim.Native.Nat.{ℕ, _<_}
 use lib.ListN.{length, getD}

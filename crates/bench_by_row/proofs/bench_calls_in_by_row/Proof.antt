@@ -32,7 +32,7 @@ use denote.Laws.{Is, shows}
 use denote.Memory.{pointee}
 use denote.Plain.{uint-vals, uint-tells, uint-makes, uint-lawful, bool-makes}
 use denote.Builtin.{u8, u32, u64, bool}
-use denote.Array.{Array, array-lawful}
+use denote.Array.{array-lawful}
 use denote.Ref.{RefT, ptr, name, now}
 use denote.Slice.{sliceTy, sliceVal, ShrSlice, MutSlice, Room, slice-vals, shr-slice-tells, mut-slice-tells, shr-slice-copy}
 use denote.Signature.{plain}
@@ -132,6 +132,13 @@ module _ {M : Type 1} (𝓤 : URA M) (H : Heap 𝓤) (A : Atoms 𝓤) (mem : Mem
   abbrev Add : Contract 𝓤
   Add = tripleOf 𝓤 H A add.signature (add.spec 𝓤 H A mem run)
 
+record Known {M : Type 1} (𝓤 : URA M) (H : Heap 𝓤) (A : Atoms 𝓤) (mem : Memory → SProp 𝓤) (run : Routine → Fun 𝓤) (C : Calls 𝓤 H) : Type 1 where
+  row-of : Triple 𝓤 (C #row-of) (RowOf 𝓤 H A mem run)
+  row-length : Triple 𝓤 (C #row-length) (RowLength 𝓤 H A mem run)
+  result-at : Triple 𝓤 (C #result-at) (ResultAt 𝓤 H A mem run)
+  complete : Triple 𝓤 (C #complete) (Complete 𝓤 H A mem run)
+  add : Triple 𝓤 (C #add) (Add 𝓤 H A mem run)
+
 abbrev tyLog : Ty
 tyLog = sliceTy (tyRef (named 0) mut (tyInt w8))
 
@@ -139,10 +146,10 @@ abbrev tyData : Ty
 tyData = sliceTy (tyRef (named 1) imm (tyInt w8))
 
 abbrev tyPlaces : Ty
-tyPlaces = tyArray I′.mir 64
+tyPlaces = tyArray I′.mir maxHeld
 
 abbrev tyPlacesRef : Ty
-tyPlacesRef = tyRef erased imm (tyArray (pointee (I.the-row .written)) 64)
+tyPlacesRef = tyRef erased imm (tyArray (pointee (I.the-row .written)) maxHeld)
 
 abbrev tyRow : Ty
 tyRow = sliceTy (tyRef erased imm (pointee (I.the-row .written)))
@@ -260,8 +267,7 @@ module _ {M : Type 1} (𝓤 : URA M) (H : Heap 𝓤) (A : Atoms 𝓤) (W : Given
   start : Turn repeats ys
   start = record { k = 0; sum = 0; zs = ys; most = omega arith; fits = lit< tt; same = refl }
 
-  module _ (𝓣 : Tables 𝓤 H) (known-row-of : Triple 𝓤 (𝓣 .C #row-of) (RowOf 𝓤 H A at-mem run)) (known-row-length : Triple 𝓤 (𝓣 .C #row-length) (RowLength 𝓤 H A at-mem run)) (known-result-at : Triple 𝓤 (𝓣 .C #result-at) (ResultAt 𝓤 H A at-mem run))
-      (known-complete : Triple 𝓤 (𝓣 .C #complete) (Complete 𝓤 H A at-mem run)) (known-add : Triple 𝓤 (𝓣 .C #add) (Add 𝓤 H A at-mem run)) (l0 l1 l2 l3 l4 l5 l6 l7 l8 l9 l10 l11 l12 l13 l14 l15 l16 l17 l18 l19 l20 : ℕ) where
+  module _ (𝓣 : Tables 𝓤 H) (known : Known 𝓤 H A at-mem run (𝓣 .C)) (l0 l1 l2 l3 l4 l5 l6 l7 l8 l9 l10 l11 l12 l13 l14 l15 l16 l17 l18 l19 l20 : ℕ) where
     abbrev C : Calls 𝓤 H
     C = 𝓣 .C
 
@@ -275,7 +281,7 @@ module _ {M : Type 1} (𝓤 : URA M) (H : Heap 𝓤) (A : Atoms 𝓤) (W : Given
     En = (tyInt w64, l0) ∷ (tyLog, l1) ∷ (tyData, l2) ∷ (tyInt w32, l3) ∷ (tyInt w32, l4) ∷ (tyInt w8, l5) ∷ (tyInt w32, l6) ∷ (tyPlaces, l7) ∷ (tyInt w64, l8) ∷ (tyRow, l9) ∷ (R′.mir, l10) ∷ (tyInt w64, l11) ∷ (tyInt w32, l12) ∷ (O′.mir, l13) ∷ (tyPlaces, l14) ∷ (tyPlacesRef, l15) ∷ (tyBool, l16) ∷ (tyPart, l17) ∷ (sliceTy tyPart, l18) ∷ (E′.mir, l19) ∷ (D′.mir, l20) ∷ []
 
     -- ---- The loop, with the first TRBs of the row lent for ν under the name γ
-    module _ (places : List TransferTrb) (count : ℕ) (result : InTrbProcessingResult) (result-val : Val) (ν : ℕ) (γ : GName) (count-fits : count < 2 ^ 64) (result-is : Is R.the-row result (result-val ∷ [])) where
+    module _ (places : List TransferTrb) (count : ℕ) (result : InTrbProcessingResult) (result-val : Val) (ν : ℕ) (γ : GName) (result-is : Is R.the-row result (result-val ∷ [])) where
       abbrev row-ref : RefT (List TransferTrb)
       row-ref = record { ptr = (l7, 0); name = γ; now = take count places }
 
@@ -311,7 +317,7 @@ module _ {M : Type 1} (𝓤 : URA M) (H : Heap 𝓤) (A : Atoms 𝓤) (W : Given
       -- [the row's token; its `&`; what is lent; the log; its token; the data; its token; _0 7; …, without _7; and that each local dies]
       abbrev At : Turn repeats ys → List (Item 𝓤)
       At u =
-          ‵ (flft (ν ∷ []) fullShare) ∷ ‵ OwnRow ∷ ‵ (LentFirst I.the-type ν 64 count places l7) ∷ ‵ (OwnLog (u .zs)) ∷ ‵ (flft κ0 q0) ∷ ‵ OwnData ∷ ‵ (flft κ1 q1)
+          ‵ (flft (ν ∷ []) fullShare) ∷ ‵ OwnRow ∷ ‵ (LentFirst I.the-type ν maxHeld count places l7) ∷ ‵ (OwnLog (u .zs)) ∷ ‵ (flft κ0 q0) ∷ ‵ OwnData ∷ ‵ (flft κ1 q1)
           ∷ ‵ (froom (tyInt w64) l0 0) ∷ ‵ (fat fullShare tyLog l1 0 log-val) ∷ ‵ (fat fullShare tyData l2 0 bytes-val) ∷ ‵ (fat fullShare (tyInt w32) l3 0 (vint w32 trbs)) ∷ ‵ (fat fullShare (tyInt w32) l4 0 (vint w32 transfer-length)) ∷ ‵ (fat fullShare (tyInt w8) l5 0 (vint w8 status)) ∷ ‵ (fat fullShare (tyInt w32) l6 0 (vint w32 repeats)) ∷ ‵ (fat fullShare (tyInt w64) l8 0 (vint w64 count)) ∷ ‵ (fat fullShare tyRow l9 0 (sliceVal (l7, 0) count)) ∷ ‵ (fat fullShare R′.mir l10 0 result-val) ∷ ‵ (fat fullShare (tyInt w64) l11 0 (vint w64 (u .sum))) ∷ ‵ (fat fullShare (tyInt w32) l12 0 (vint w32 (u .k))) ∷ ‵ (froom O′.mir l13 0) ∷ ‵ (froom tyPlaces l14 0) ∷ ‵ (fat fullShare tyPlacesRef l15 0 (vptr l7 0)) ∷ ‵ (froom tyBool l16 0) ∷ ‵ (froom tyPart l17 0) ∷ ‵ (froom (sliceTy tyPart) l18 0) ∷ ‵ (froom E′.mir l19 0) ∷ ‵ (froom D′.mir l20 0)
           ∷ ‵ (fdies (tyInt w64) l0) ∷ ‵ (fdies tyLog l1) ∷ ‵ (fdies tyData l2) ∷ ‵ (fdies (tyInt w32) l3) ∷ ‵ (fdies (tyInt w32) l4) ∷ ‵ (fdies (tyInt w8) l5) ∷ ‵ (fdies (tyInt w32) l6) ∷ ‵ (fdies tyPlaces l7) ∷ ‵ (fdies (tyInt w64) l8) ∷ ‵ (fdies tyRow l9) ∷ ‵ (fdies R′.mir l10) ∷ ‵ (fdies (tyInt w64) l11) ∷ ‵ (fdies (tyInt w32) l12) ∷ ‵ (fdies O′.mir l13) ∷ ‵ (fdies tyPlaces l14) ∷ ‵ (fdies tyPlacesRef l15) ∷ ‵ (fdies tyBool l16) ∷ ‵ (fdies tyPart l17) ∷ ‵ (fdies (sliceTy tyPart) l18) ∷ ‵ (fdies E′.mir l19) ∷ ‵ (fdies D′.mir l20) ∷ []
 
@@ -335,7 +341,7 @@ module _ {M : Type 1} (𝓤 : URA M) (H : Heap 𝓤) (A : Atoms 𝓤) (W : Given
           move ! (6 ∷ 7 ∷ []) $ lends-to-call u8 (named 0) (name log-ref) (ptr log-ref .0) (ptr log-ref .1) (length ys) ! tt (u .zs) (u .same) (λ ν₁ δ.
           move ! (0 ∷ 7 ∷ 9 ∷ 1 ∷ 6 ∷ 4 ∷ []) $ gives W (Handed ν₁ δ u) (raw (Complete 𝓤 H A at-mem run .pre (to-complete ν₁ δ u))) (hands ν₁ δ u) $
           -- the call
-          calls-at ! fm (Complete 𝓤 H A at-mem run) known-complete (to-complete ν₁ δ u) (and-then ! (load ! (from ! (stop !)) (look ! 22 refl)) (and-then ! (load ! (from ! (stop !)) (look ! 23 refl)) (and-then ! (load ! (from ! (stop !)) (look ! 24 refl)) (and-then ! (load ! (from ! (stop !)) (look ! 13 refl)) (and-then ! (load ! (from ! (stop !)) (look ! 14 refl)) (and-then ! (load ! (from ! (stop !)) (look ! 7 refl)) (no-more !))))))) (λ w.
+          calls-at ! fm (Complete 𝓤 H A at-mem run) (known .complete) (to-complete ν₁ δ u) (and-then ! (load ! (from ! (stop !)) (look ! 22 refl)) (and-then ! (load ! (from ! (stop !)) (look ! 23 refl)) (and-then ! (load ! (from ! (stop !)) (look ! 24 refl)) (and-then ! (load ! (from ! (stop !)) (look ! 13 refl)) (and-then ! (load ! (from ! (stop !)) (look ! 14 refl)) (and-then ! (load ! (from ! (stop !)) (look ! 7 refl)) (no-more !))))))) (λ w.
           returned ! tt complete.ended (complete.clauses 𝓤 H A at-mem run) (to-complete ν₁ δ u) w (λ completed lasts. drop ! $
           fsplit ! $ fsplit ! $ move ! (1 ∷ []) $ feqL ! (λ long. move ! (1 ∷ []) $ drop ! $
           move ! (1 ∷ []) $ use1 W (‵ (flft (ν₁ ∷ []) fullShare) ⊛ ‵ (flft (ν ∷ []) fullShare) ⊛ ‵ (flft κ1 q1) ⊛ ‵ ftrue) (id⊢ 𝓤 _) $ split ! $ move ! (1 ∷ []) $ split ! $ move ! (1 ∷ []) $ split ! $ move ! (1 ∷ []) $ drop ! $
@@ -343,7 +349,7 @@ module _ {M : Type 1} (𝓤 : URA M) (H : Heap 𝓤) (A : Atoms 𝓤) (W : Given
           land ! (from ! (stop !)) (init ! 20 refl (LL.lawful O.the-type O′.the-laws 𝓤 H A W .typed completed _ completed-is .0)) $
           move ! (2 ∷ 4 ∷ 3 ∷ []) $ back-from-call u8 (named 0) (name log-ref) (ptr log-ref .0) (ptr log-ref .1) (length ys) ! tt (u .zs) (lasts .0) (u .same) long log-room $
           -- the checksum, and the next turn
-          calls-plain ! fm add.ended (add.clauses 𝓤 H A at-mem run) known-add (to-add (u .sum) completed w) (hands-add (u .sum) completed w (u .fits) completed-is) (and-then ! (load ! (from ! (stop !)) (look ! 18 refl)) (and-then ! (load ! (from ! (stop !)) (look ! 20 refl)) (no-more !))) (λ v sum ws sum-is. drop ! $
+          calls-plain ! fm add.ended (add.clauses 𝓤 H A at-mem run) (known .add) (to-add (u .sum) completed w) (hands-add (u .sum) completed w (u .fits) completed-is) (and-then ! (load ! (from ! (stop !)) (look ! 18 refl)) (and-then ! (load ! (from ! (stop !)) (look ! 20 refl)) (no-more !))) (λ v sum ws sum-is. drop ! $
           land ! (from ! (stop !)) (store ! 17 refl (uint-lawful 𝓤 H A W w64 .typed sum _ sum-is .0)) $
           rewrite ! 17 (λ (z : Val). ‵ (fat fullShare (tyInt w64) l11 0 z)) (ap only (sum-is .0)) refl $
           assigns-last ! (bin ! (load ! (from ! (stop !)) (look ! 18 refl)) (lit ! tt) (record { fits = next-fits (u .k) repeats small repeats-fits })) (from ! (stop !)) (store ! 18 refl (tt, record { fits = next-fits (u .k) repeats small repeats-fits })) $
@@ -360,7 +366,7 @@ module _ {M : Type 1} (𝓤 : URA M) (H : Heap 𝓤) (A : Atoms 𝓤) (W : Given
           leaves-loop ! (load ! (from ! (stop !)) (look ! 22 refl)) $ exec ! C Λ En steps.t-10 (atRet En Post) $
           assigns ! (of-opd ! (load ! (from ! (stop !)) (look ! 17 refl))) (from ! (stop !)) (init ! 7 refl (tt, record { fits = u .fits })) $
           -- the row comes back
-          move ! (0 ∷ 2 ∷ []) $ first-back ! tt I.the-type I′.the-laws 64 count places l7 (λ v.
+          move ! (0 ∷ 2 ∷ []) $ first-back ! tt I.the-type I′.the-laws maxHeld count places l7 (λ v.
           -- the locals are freed
           returns ! (look ! 6 refl) $ forget ! 6 refl $ forget ! 7 refl $ forget ! 8 refl $ forget ! 9 refl $ forget ! 10 refl $ forget ! 11 refl $ forget ! 12 refl $ forget ! 0 refl $ forget ! 13 refl $ forget ! 14 refl $ forget ! 15 refl $ forget ! 16 refl $ forget ! 17 refl $ forget ! 20 refl $ forget ! 21 refl $
           move ! (6 ∷ 26 ∷ []) $ free1 ! $ move ! (6 ∷ 25 ∷ []) $ free1 ! $ move ! (6 ∷ 24 ∷ []) $ free1 ! $ move ! (6 ∷ 23 ∷ []) $ free1 ! $ move ! (6 ∷ 22 ∷ []) $ free1 ! $ move ! (6 ∷ 21 ∷ []) $ free1 ! $ move ! (6 ∷ 20 ∷ []) $ free1 ! $ move ! (0 ∷ 19 ∷ []) $ free1 ! $ move ! (5 ∷ 18 ∷ []) $ free1 ! $ move ! (5 ∷ 17 ∷ []) $ free1 ! $ move ! (5 ∷ 16 ∷ []) $ free1 ! $ move ! (5 ∷ 15 ∷ []) $ free1 ! $ move ! (5 ∷ 14 ∷ []) $ free1 ! $ move ! (5 ∷ 13 ∷ []) $ free1 ! $ move ! (5 ∷ 12 ∷ []) $ free1 ! $ move ! (5 ∷ 11 ∷ []) $ free1 ! $ move ! (5 ∷ 10 ∷ []) $ free1 ! $ move ! (5 ∷ 9 ∷ []) $ free1 ! $ move ! (5 ∷ 8 ∷ []) $ free1 ! $ move ! (5 ∷ 7 ∷ []) $ free1 ! $ move ! (5 ∷ 6 ∷ []) $ free1 ! $ free0 ! $
@@ -384,28 +390,27 @@ module _ {M : Type 1} (𝓤 : URA M) (H : Heap 𝓤) (A : Atoms 𝓤) (W : Given
     begins : Sq W Start (runs C Λ En steps.t-1 (atRet En Post))
     unfolding start
     begins =
-        calls-plain ! fm row-of.ended (row-of.clauses 𝓤 H A at-mem run) known-row-of to-row-of hands-row-of (and-then ! (load ! (from ! (stop !)) (look ! 8 refl)) (and-then ! (load ! (from ! (stop !)) (look ! 9 refl)) (no-more !))) (λ places-val places ws places-is. drop ! $
-        land ! (from ! (stop !)) (init ! 18 refl (array-lawful 𝓤 H A W I.the-row (LL.lawful I.the-type I′.the-laws 𝓤 H A W) 64 .typed places _ places-is .0)) $
-        assigns ! (of-opd ! (load ! (from ! (stop !)) (look ! 18 refl))) (from ! (stop !)) (init ! 11 refl (array-lawful 𝓤 H A W I.the-row (LL.lawful I.the-type I′.the-laws 𝓤 H A W) 64 .typed places _ places-is .0)) $
+        calls-plain ! fm row-of.ended (row-of.clauses 𝓤 H A at-mem run) (known .row-of) to-row-of hands-row-of (and-then ! (load ! (from ! (stop !)) (look ! 8 refl)) (and-then ! (load ! (from ! (stop !)) (look ! 9 refl)) (no-more !))) (λ places-val places ws places-is. drop ! $
+        land ! (from ! (stop !)) (init ! 18 refl (array-lawful 𝓤 H A W I.the-row (LL.lawful I.the-type I′.the-laws 𝓤 H A W) maxHeld .typed places _ places-is .0)) $
+        assigns ! (of-opd ! (load ! (from ! (stop !)) (look ! 18 refl))) (from ! (stop !)) (init ! 11 refl (array-lawful 𝓤 H A W I.the-row (LL.lawful I.the-type I′.the-laws 𝓤 H A W) maxHeld .typed places _ places-is .0)) $
         forget ! 18 refl $
-        calls-plain ! fm row-length.ended (row-length.clauses 𝓤 H A at-mem run) known-row-length to-row-length hands-row-length (and-then ! (load ! (from ! (stop !)) (look ! 8 refl)) (no-more !)) (λ count-val count ws₁ count-is. heard ! (count ≤ maxHeld) (λ few.
+        calls-plain ! fm row-length.ended (row-length.clauses 𝓤 H A at-mem run) (known .row-length) to-row-length hands-row-length (and-then ! (load ! (from ! (stop !)) (look ! 8 refl)) (no-more !)) (λ count-val count ws₁ count-is. heard ! (count ≤ maxHeld) (λ few.
         land ! (from ! (stop !)) (init ! 12 refl (uint-lawful 𝓤 H A W w64 .typed count _ count-is .0)) $
         rewrite ! 12 (λ (z : Val). ‵ (fat fullShare (tyInt w64) l8 0 z)) (ap only (count-is .0)) refl $
         assigns ! (addr ! (from ! (stop !))) (from ! (stop !)) (init ! 19 refl (tt, tt)) $
         assigns ! (agg ! (and-then ! (load ! (from ! (stop !)) (look ! 19 refl)) (and-then ! (load ! (from ! (stop !)) (look ! 12 refl)) (no-more !)))) (from ! (stop !)) (init ! 13 refl (tt, (tt, (record { fits = count-is .1 }, tt)))) $
-        calls-plain ! fm result-at.ended (result-at.clauses 𝓤 H A at-mem run) known-result-at to-result-at hands-result-at (and-then ! (true-lit !) (and-then ! (load ! (from ! (stop !)) (look ! 10 refl)) (no-more !))) (λ result-val result ws₂ result-is. drop ! $
+        calls-plain ! fm result-at.ended (result-at.clauses 𝓤 H A at-mem run) (known .result-at) to-result-at hands-result-at (and-then ! (true-lit !) (and-then ! (load ! (from ! (stop !)) (look ! 10 refl)) (no-more !))) (λ result-val result ws₂ result-is. drop ! $
         land ! (from ! (stop !)) (init ! 14 refl (EL.lawful R.the-type R′.the-laws 𝓤 H A W tt .typed result _ result-is .0)) $
         assigns ! (of-opd ! (lit ! tt)) (from ! (stop !)) (init ! 15 refl (tt, record { fits = lit< tt })) $
         assigns ! (of-opd ! (lit ! tt)) (from ! (stop !)) (init ! 16 refl (tt, record { fits = lit< tt })) $
         -- the row is lent for a lifetime ν of the loop
-        move ! (11 ∷ []) $ lends-first ! tt I.the-type I′.the-plain (named 1) 64 count places places-val l7 places-is few (lit< tt, lit< tt) (λ ν γ.
-        keep ! (0 ∷ 1 ∷ 2 ∷ 3 ∷ 5 ∷ 4 ∷ 6 ∷ 7 ∷ 8 ∷ 9 ∷ 10 ∷ 11 ∷ 12 ∷ 13 ∷ 14 ∷ 15 ∷ 16 ∷ 17 ∷ 18 ∷ 19 ∷ 20 ∷ 21 ∷ 22 ∷ 23 ∷ 24 ∷ 25 ∷ 26 ∷ 27 ∷ 28 ∷ 29 ∷ 30 ∷ 31 ∷ 32 ∷ 33 ∷ 34 ∷ 35 ∷ 36 ∷ 37 ∷ 38 ∷ 39 ∷ 40 ∷ 41 ∷ 42 ∷ 43 ∷ 44 ∷ 45 ∷ 46 ∷ 47 ∷ []) $ looped places count result result-val ν γ (count-is .1) result-is)))))
+        move ! (11 ∷ []) $ lends-first ! tt I.the-type I′.the-plain (named 1) maxHeld count places places-val l7 places-is few (lit< tt, lit< tt) (λ ν γ.
+        keep ! (0 ∷ 1 ∷ 2 ∷ 3 ∷ 5 ∷ 4 ∷ 6 ∷ 7 ∷ 8 ∷ 9 ∷ 10 ∷ 11 ∷ 12 ∷ 13 ∷ 14 ∷ 15 ∷ 16 ∷ 17 ∷ 18 ∷ 19 ∷ 20 ∷ 21 ∷ 22 ∷ 23 ∷ 24 ∷ 25 ∷ 26 ∷ 27 ∷ 28 ∷ 29 ∷ 30 ∷ 31 ∷ 32 ∷ 33 ∷ 34 ∷ 35 ∷ 36 ∷ 37 ∷ 38 ∷ 39 ∷ 40 ∷ 41 ∷ 42 ∷ 43 ∷ 44 ∷ 45 ∷ 46 ∷ 47 ∷ []) $ looped places count result result-val ν γ result-is)))))
 
-  walk : (𝓣 : Tables 𝓤 H) → Triple 𝓤 (𝓣 .C #row-of) (RowOf 𝓤 H A at-mem run) → Triple 𝓤 (𝓣 .C #row-length) (RowLength 𝓤 H A at-mem run) → Triple 𝓤 (𝓣 .C #result-at) (ResultAt 𝓤 H A at-mem run)
-      → Triple 𝓤 (𝓣 .C #complete) (Complete 𝓤 H A at-mem run) → Triple 𝓤 (𝓣 .C #add) (Add 𝓤 H A at-mem run)
+  walk : (𝓣 : Tables 𝓤 H) → Known 𝓤 H A at-mem run (𝓣 .C)
       → ent 𝓤 (onEntry 𝓤 H A stated.signature (κ0, (κ1, tt)) (q0, (q1, tt)) args vals)
       (WpFn 𝓤 H (𝓣 .C) (𝓣 .Λ) code.function (log-val ∷ bytes-val ∷ vint w32 trbs ∷ vint w32 transfer-length ∷ vint w8 status ∷ vint w32 repeats ∷ []) Post)
-  walk 𝓣 known-row-of known-row-length known-result-at known-complete known-add =
+  walk 𝓣 known =
       qed W ((‵ (flft κ0 q0) ⊛ ‵ (flft κ1 q1) ⊛ ‵ ftrue) ∷ ‵ (owns (MutSlice (named 0) κ0 u8 ∷ ShrSlice (named 1) κ1 u8 ∷ u32 ∷ u32 ∷ u8 ∷ u32 ∷ []) args vals) ∷ []) ∵
       enter ! (𝓣 .C) (𝓣 .Λ) code.function (log-val ∷ bytes-val ∷ vint w32 trbs ∷ vint w32 transfer-length ∷ vint w8 status ∷ vint w32 repeats ∷ []) _ $
       alloc1 ! (λ l0. alloc1 ! (λ l1. alloc1 ! (λ l2. alloc1 ! (λ l3. alloc1 ! (λ l4. alloc1 ! (λ l5. alloc1 ! (λ l6. alloc1 ! (λ l7. alloc1 ! (λ l8. alloc1 ! (λ l9. alloc1 ! (λ l10. alloc1 ! (λ l11. alloc1 ! (λ l12. alloc1 ! (λ l13. alloc1 ! (λ l14. alloc1 ! (λ l15. alloc1 ! (λ l16. alloc1 ! (λ l17. alloc1 ! (λ l18. alloc1 ! (λ l19. alloc1 ! (λ l20. alloc0 ! $ params1 ! $
@@ -421,27 +426,27 @@ module _ {M : Type 1} (𝓤 : URA M) (H : Heap 𝓤) (A : Atoms 𝓤) (W : Given
       move ! (45 ∷ []) $ split ! $
       move ! (1 ∷ []) $ split ! $
       keep ! (5 ∷ 3 ∷ 2 ∷ 0 ∷ 46 ∷ 44 ∷ 42 ∷ 40 ∷ 38 ∷ 36 ∷ 34 ∷ 32 ∷ 30 ∷ 28 ∷ 26 ∷ 24 ∷ 22 ∷ 20 ∷ 18 ∷ 16 ∷ 14 ∷ 12 ∷ 10 ∷ 8 ∷ 6 ∷ 47 ∷ 45 ∷ 43 ∷ 41 ∷ 39 ∷ 37 ∷ 35 ∷ 33 ∷ 31 ∷ 29 ∷ 27 ∷ 25 ∷ 23 ∷ 21 ∷ 19 ∷ 17 ∷ 15 ∷ 13 ∷ 11 ∷ 9 ∷ 7 ∷ []) $
-      begins 𝓣 known-row-of known-row-length known-result-at known-complete known-add l0 l1 l2 l3 l4 l5 l6 l7 l8 l9 l10 l11 l12 l13 l14 l15 l16 l17 l18 l19 l20)))))))))))))))))))))
+      begins 𝓣 known l0 l1 l2 l3 l4 l5 l6 l7 l8 l9 l10 l11 l12 l13 l14 l15 l16 l17 l18 l19 l20)))))))))))))))))))))
 
 module _ {M : Type 1} (𝓤 : URA M) (H : Heap 𝓤) (A : Atoms 𝓤) (W : Given 𝓤 H A) (at-mem : Memory → SProp 𝓤) (run : Routine → Fun 𝓤) where
-  walks : (𝓣 : Tables 𝓤 H) → Triple 𝓤 (𝓣 .C #row-of) (RowOf 𝓤 H A at-mem run) → Triple 𝓤 (𝓣 .C #row-length) (RowLength 𝓤 H A at-mem run) → Triple 𝓤 (𝓣 .C #result-at) (ResultAt 𝓤 H A at-mem run)
-      → Triple 𝓤 (𝓣 .C #complete) (Complete 𝓤 H A at-mem run) → Triple 𝓤 (𝓣 .C #add) (Add 𝓤 H A at-mem run)
+  walks : (𝓣 : Tables 𝓤 H) → Known 𝓤 H A at-mem run (𝓣 .C)
       → Walks 𝓤 H A stated.ended stayed (WpFn 𝓤 H (𝓣 .C) (𝓣 .Λ) code.function) (stated.clauses 𝓤 H A at-mem run)
-  walks 𝓣 known-row-of known-row-length known-result-at known-complete known-add =
+  walks 𝓣 known =
       walked 𝓤 H A stated.ended stayed (stated.clauses 𝓤 H A at-mem run) (WpFn 𝓤 H (𝓣 .C) (𝓣 .Λ) code.function)
       (λ κs. (slice-vals, (slice-vals, (uint-vals w32, (uint-vals w32, (uint-vals w8, (uint-vals w32, tt)))))))
       (λ κs. (mut-slice-tells (named 0) (κs .0) u8, (shr-slice-tells (named 1) (κs .1 .0) u8, (uint-tells w32, (uint-tells w32, (uint-tells w8, (uint-tells w32, tt)))))))
       (λ κs qs bounds a g are. via 𝓤 _ (fst∗ 𝓤 _ (emp 𝓤))
       (walk 𝓤 H A W at-mem run (κs .0) (κs .1 .0) (qs .0) (qs .1 .0) (a .0) (a .1 .0) (a .1 .1 .0) (a .1 .1 .1 .0) (a .1 .1 .1 .1 .0) (a .1 .1 .1 .1 .1 .0)
-      (are .0 .0 .1) (are .1 .0 .0 .1) (are .1 .1 .0 .1) (are .1 .1 .1 .0 .1) (are .1 .1 .1 .1 .0 .1) (are .1 .1 .1 .1 .1 .0 .1) 𝓣 known-row-of known-row-length known-result-at known-complete known-add))
+      (are .0 .0 .1) (are .1 .0 .0 .1) (are .1 .1 .0 .1) (are .1 .1 .1 .0 .1) (are .1 .1 .1 .1 .0 .1) (are .1 .1 .1 .1 .1 .0 .1) 𝓣 known))
 
 pub bench-calls-in-by-row-spec : {M : Type 1} → statement M
 unfolding code.routine tablesOf
 bench-calls-in-by-row-spec 𝓤 H 𝓜 𝓖 𝓡 =
     by-walk 𝓤 H 𝓜 𝓖 𝓡 code.env stated.ended stayed (gone 𝓤 H (𝓖 .A) (givenOf 𝓤 H 𝓜 𝓖)) (stated.clauses 𝓤 H (𝓖 .A) (𝓜 .mem) (𝓡 .run)) #loop code.function (code.unfolded 𝓤 H 𝓜 𝓡)
-    (walks 𝓤 H (𝓖 .A) (givenOf 𝓤 H 𝓜 𝓖) (𝓜 .mem) (𝓡 .run) (tablesOf 𝓤 H 𝓜 (tables 𝓤 H 𝓜 𝓡 code.env))
-    (cited 𝓤 H (RowOf 𝓤 H (𝓖 .A) (𝓜 .mem) (𝓡 .run)) 𝓜 𝓡 code.env #row-of row-of-def.routine code.calls-bench-by-row·row-of (row-of-thm.met 𝓤 H 𝓜 𝓖 𝓡))
-    (cited 𝓤 H (RowLength 𝓤 H (𝓖 .A) (𝓜 .mem) (𝓡 .run)) 𝓜 𝓡 code.env #row-length row-length-def.routine code.calls-bench-by-row·row-length (row-length-thm.met 𝓤 H 𝓜 𝓖 𝓡))
-    (cited 𝓤 H (ResultAt 𝓤 H (𝓖 .A) (𝓜 .mem) (𝓡 .run)) 𝓜 𝓡 code.env #result-at result-at-def.routine code.calls-bench-work·result-at (result-at-thm.met 𝓤 H 𝓜 𝓖 𝓡))
-    (cited 𝓤 H (Complete 𝓤 H (𝓖 .A) (𝓜 .mem) (𝓡 .run)) 𝓜 𝓡 code.env #complete complete-def.routine code.calls-td-row·complete-row (complete-thm.met 𝓤 H 𝓜 𝓖 𝓡))
-    (cited 𝓤 H (Add 𝓤 H (𝓖 .A) (𝓜 .mem) (𝓡 .run)) 𝓜 𝓡 code.env #add add-def.routine code.calls-bench-by-row·sum-with-row (add-thm.met 𝓤 H 𝓜 𝓖 𝓡)))
+    (walks 𝓤 H (𝓖 .A) (givenOf 𝓤 H 𝓜 𝓖) (𝓜 .mem) (𝓡 .run) (tablesOf 𝓤 H 𝓜 (tables 𝓤 H 𝓜 𝓡 code.env)) record {
+      row-of = cited 𝓤 H (RowOf 𝓤 H (𝓖 .A) (𝓜 .mem) (𝓡 .run)) 𝓜 𝓡 code.env #row-of row-of-def.routine code.calls-bench-by-row·row-of (row-of-thm.met 𝓤 H 𝓜 𝓖 𝓡);
+      row-length = cited 𝓤 H (RowLength 𝓤 H (𝓖 .A) (𝓜 .mem) (𝓡 .run)) 𝓜 𝓡 code.env #row-length row-length-def.routine code.calls-bench-by-row·row-length (row-length-thm.met 𝓤 H 𝓜 𝓖 𝓡);
+      result-at = cited 𝓤 H (ResultAt 𝓤 H (𝓖 .A) (𝓜 .mem) (𝓡 .run)) 𝓜 𝓡 code.env #result-at result-at-def.routine code.calls-bench-work·result-at (result-at-thm.met 𝓤 H 𝓜 𝓖 𝓡);
+      complete = cited 𝓤 H (Complete 𝓤 H (𝓖 .A) (𝓜 .mem) (𝓡 .run)) 𝓜 𝓡 code.env #complete complete-def.routine code.calls-td-row·complete-row (complete-thm.met 𝓤 H 𝓜 𝓖 𝓡);
+      add = cited 𝓤 H (Add 𝓤 H (𝓖 .A) (𝓜 .mem) (𝓡 .run)) 𝓜 𝓡 code.env #add add-def.routine code.calls-bench-by-row·sum-with-row (add-thm.met 𝓤 H 𝓜 𝓖 𝓡);
+    })
