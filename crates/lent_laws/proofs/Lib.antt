@@ -1,5 +1,6 @@
 pub mod LentLaws
 pub mod Again
+pub mod Local
 pub mod Layers
 pub mod CancelLayer
 pub mod CompletionLayer
