@@ -40,13 +40,12 @@ use denote.Struct.Struct.{Plains, Struct, layout}
 use denote.Struct.Values.{Values, intos}
 use denote.Shadow.{makes-shadow}
 use denote.Steps.{only, owned}
-use denote.Triple.Clauses.{Clauses, Ended, Lasts, AtExit, atExit, closing}
+use denote.Triple.Clauses.{Clauses, Ended, Lasts, AtExit, atExit}
 use denote.Triple.Entry.{Args, Res}
-use denote.Triple.Spec.{tripleOf}
 use denote.Triple.Statement.{Contract, Triple}
 use denote.Triple.Table.{cited}
 use denote.Triple.Walked.{Stays, AllGo, Walks}
-use Rattle.lent_laws.proofs.LentLaws.{stores, by-walk}
+use Rattle.lent_laws.proofs.LentLaws.{Known, stores, by-walk}
 
 -- ---- Contracts
 
@@ -59,7 +58,7 @@ ensuring 𝓤 T E κs a = record { ghost = Unit {0}; requires = λ _. emp 𝓤; 
 
 -- of a function by value that ensures E
 abbrev pub Called : {M : Type 1} (𝓤 : URA M) (H : Heap 𝓤) (A : Atoms 𝓤) (S : Ended) → Ensures 𝓤 S → Contract 𝓤
-Called 𝓤 H A S E = tripleOf 𝓤 H A (S .signature) (closing 𝓤 H A S (ensuring 𝓤 S E))
+Called 𝓤 H A S E = Known 𝓤 H A S (ensuring 𝓤 S E)
 
 -- of a layer with the signature T over a function by value with the signature S: what it passes on of what it was called with; what it
 -- returns, of what it was returned; and each parameter's last value, of that and of the last values that the function by value left

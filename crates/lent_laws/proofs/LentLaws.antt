@@ -27,7 +27,7 @@ use denote.Index as index
 use denote.Index.{elem-out, place, others}
 use denote.Memory.{mem, shares, cellAt}
 use denote.Signature.{typeAt}
-use denote.Steps.{opens, closes, owned, peeks, facts, heard}
+use denote.Steps.{opens, closes, owned, peeks, facts}
 use denote.Struct.Declared.{Declared, row, fields}
 use denote.Struct.Laws as LL
 use denote.Struct.Steps.{spelt}
@@ -46,7 +46,7 @@ pub gives : {M : Type 1} {𝓤 : URA M} {H : Heap 𝓤} {A : Atoms 𝓤} {K : Ty
 gives W {Γ} Δ i h = cut Δ (i ∷ []) Γ h
 
 -- what a caller knows of a callee
-abbrev Known : {M : Type 1} (𝓤 : URA M) (H : Heap 𝓤) (A : Atoms 𝓤) (T : Ended) → Clauses 𝓤 T → Contract 𝓤
+abbrev pub Known : {M : Type 1} (𝓤 : URA M) (H : Heap 𝓤) (A : Atoms 𝓤) (T : Ended) → Clauses 𝓤 T → Contract 𝓤
 Known 𝓤 H A T c = tripleOf 𝓤 H A (T .signature) (closing 𝓤 H A T c)
 
 module _ {M : Type 1} {𝓤 : URA M} {H : Heap 𝓤} {A : Atoms 𝓤} {K : Type 0} {W : Given 𝓤 H A} {Γ : List (Item 𝓤)} {G : Goal 𝓤 H} where
@@ -79,11 +79,11 @@ module _ {M : Type 1} {𝓤 : URA M} {H : Heap 𝓤} {A : Atoms 𝓤} {K : Type 
   -- ---- A call
 
   -- of what a callee's contract gives: the result r and the last values ws, with what the `ensures` says of them
-  pub returned : K → Soaks G → (T : Ended) (c : Clauses 𝓤 T) (y : tripleOf 𝓤 H A (T .signature) (closing 𝓤 H A T c) .Ghost) (w : Val)
+  pub returned : K → Soaks G → (T : Ended) (c : Clauses 𝓤 T) (y : Known 𝓤 H A T c .Ghost) (w : Val)
       → ((r : Res (T .signature) (y .0 .0)) (ws : Lasts T (y .0 .0) (y .0 .3))
       → Seq K W (raw (c (y .0 .0) (y .0 .3) .ensures (y .1) r (atExit T (y .0 .0) (y .0 .3) ws)) ∷ ‵ (lasts T (y .0 .0) (y .0 .3) ws)
       ∷ raw (alive 𝓤 H A (T .signature) (y .0 .0) (y .0 .1)) ∷ ‵ (typeAt (T .signature .result) (y .0 .0) .own r (w ∷ [])) ∷ Γ) G)
-      → Seq K W (raw (tripleOf 𝓤 H A (T .signature) (closing 𝓤 H A T c) .post y w) ∷ Γ) G
+      → Seq K W (raw (Known 𝓤 H A T c .post y w) ∷ Γ) G
   returned t z T c y w k =
       use1 W (later (some (λ (r : Res (T .signature) (y .0 .0)). (raw (alive 𝓤 H A (T .signature) (y .0 .0) (y .0 .1)) ⊛ ‵ (typeAt (T .signature .result) (y .0 .0) .own r (w ∷ []))) ⊛ raw (ensured 𝓤 H A T c (y .0 .0) (y .0 .3) (y .1) r)))) (id⊢ 𝓤 _) $
       await t z $ pick t (λ r. split t $ move t (1 ∷ []) $
@@ -98,10 +98,6 @@ module _ {M : Type 1} {𝓤 : URA M} {H : Heap 𝓤} {A : Atoms 𝓤} {K : Type 
   returned-plain t z T c y w k =
       returned t z T c y w (λ r ws. move t (1 ∷ 2 ∷ 3 ∷ []) $ drop t $ drop t $
       facts t (typeAt (T .signature .result) (y .0 .0)) (Is (typeAt (T .signature .result) (y .0 .0))) (shows 𝓤 H A (typeAt (T .signature .result) (y .0 .0))) r (w ∷ []) (λ is. k r ws is))
-
-  -- an `ensures` of two clauses, as a callee gives it
-  pub heard-both : K → (φ ψ : Type 0) → (φ → ψ → Seq K W Γ G) → Seq K W (raw (sep 𝓤 (fact 𝓤 φ) (fact 𝓤 ψ)) ∷ Γ) G
-  heard-both t φ ψ k = use1 W (raw (fact 𝓤 φ) ⊛ raw (fact 𝓤 ψ)) (id⊢ 𝓤 _) $ split t $ heard t φ (λ x. heard t ψ (λ y. k x y))
 
 -- a call of a function over plain values, which the caller has for nothing: the result r with its machine value w, and what the `ensures` says
 module _ {M : Type 1} {𝓤 : URA M} {H : Heap 𝓤} {A : Atoms 𝓤} {K : Type 0} {W : Given 𝓤 H A} {Γ : List (Item 𝓤)} {E : Places 𝓤 H} {C : Calls 𝓤 H} {Λ : Loops 𝓤 H} {f : Name} {xs : List Operand} {d : Place} {o : Post 𝓤 H} where
@@ -127,7 +123,7 @@ pub from-nothing : {M : Type 1} (𝓤 : URA M) (H : Heap 𝓤) (A : Atoms 𝓤) 
 from-nothing 𝓤 H A Rs make a vss are =
     via 𝓤 (sep 𝓤 (emp 𝓤) (emp 𝓤)) (emp∗ 𝓤 (emp 𝓤)) (monoL 𝓤 (emp 𝓤) (via 𝓤 (sep 𝓤 (emp 𝓤) (emp 𝓤)) (emp∗ 𝓤 (emp 𝓤)) (monoR 𝓤 (emp 𝓤) (owns-make 𝓤 H A Rs (Ises Rs) make a vss are))))
 
--- and as a function shows it
+-- an `ensures` of two clauses, as a function shows it
 pub says-both : {M : Type 1} {𝓤 : URA M} {H : Heap 𝓤} {A : Atoms 𝓤} {K : Type 0} {W : Given 𝓤 H A} {Γ : List (Item 𝓤)} → K → {φ ψ : Type 0} {P : SProp 𝓤} → φ → ψ
     → Step K W Γ (prop P) Γ (prop (sep 𝓤 P (sep 𝓤 (fact 𝓤 φ) (fact 𝓤 ψ))))
 says-both {𝓤 = 𝓤} t {φ} {ψ} {P} x y = step (λ s. suffices t _ (assoc∗ 𝓤 P (fact 𝓤 φ) (fact 𝓤 ψ)) $ says t y $ says t x $ s)
@@ -143,9 +139,9 @@ module _ {M : Type 1} (𝓤 : URA M) (H : Heap 𝓤) (𝓜 : Model 𝓤 H) (𝓖
   pub by-walk : (T : Ended) (hs : Stays (T .signature .params) (T .kept)) → AllGo 𝓤 H (𝓖 .A) (givenOf 𝓤 H 𝓜 𝓖) (T .signature .lifetimes) (T .signature .params) (T .kept) hs
       → (c : Clauses 𝓤 T) (k : Name) (f : Fn) → Closed 𝓤 H (tables 𝓤 H 𝓜 𝓡 γ .C) (tables 𝓤 H 𝓜 𝓡 γ .Λ) k f
       → Walks 𝓤 H (𝓖 .A) T hs (WpFn 𝓤 H (tables 𝓤 H 𝓜 𝓡 γ .C) (tables 𝓤 H 𝓜 𝓡 γ .Λ) f) c
-      → Triple 𝓤 (tables 𝓤 H 𝓜 𝓡 γ .C k) (tripleOf 𝓤 H (𝓖 .A) (T .signature) (closing 𝓤 H (𝓖 .A) T c))
+      → Triple 𝓤 (tables 𝓤 H 𝓜 𝓡 γ .C k) (Known 𝓤 H (𝓖 .A) T c)
   unfolding tablesOf
   by-walk T hs gone c k f closed walk =
-      entered 𝓤 H (tripleOf 𝓤 H (𝓖 .A) (T .signature) (closing 𝓤 H (𝓖 .A) T c)) (tables 𝓤 H 𝓜 𝓡 γ .C) (tables 𝓤 H 𝓜 𝓡 γ .Λ) k f closed
+      entered 𝓤 H (Known 𝓤 H (𝓖 .A) T c) (tables 𝓤 H 𝓜 𝓡 γ .C) (tables 𝓤 H 𝓜 𝓡 γ .Λ) k f closed
       (walk-meets 𝓤 H (𝓖 .A) T hs (givenOf 𝓤 H 𝓜 𝓖) gone c (WpFn 𝓤 H (tables 𝓤 H 𝓜 𝓡 γ .C) (tables 𝓤 H 𝓜 𝓡 γ .Λ) f)
       (WpFn-mono 𝓤 H (givenOf 𝓤 H 𝓜 𝓖 .laws) (tablesOf 𝓤 H 𝓜 (tables 𝓤 H 𝓜 𝓡 γ)) f) walk)
