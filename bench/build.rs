@@ -1,8 +1,10 @@
-//! Links the product: the static library that `rt staticlib bench_calls` writes.
+//! Links the product: the static libraries that `rt staticlib` writes.
 
 fn main() {
-    let library = concat!(env!("CARGO_MANIFEST_DIR"), "/../target/staticlib");
-    println!("cargo:rustc-link-search=native={library}");
-    println!("cargo:rustc-link-lib=static=bench_calls");
-    println!("cargo:rerun-if-changed={library}/libbench_calls.a");
+    let folder = concat!(env!("CARGO_MANIFEST_DIR"), "/../target/staticlib");
+    println!("cargo:rustc-link-search=native={folder}");
+    for library in ["bench_calls", "bench_by_reference", "bench_by_row"] {
+        println!("cargo:rustc-link-lib=static={library}");
+        println!("cargo:rerun-if-changed={folder}/lib{library}.a");
+    }
 }

@@ -13,8 +13,8 @@ static ALLOCATOR: lending::LendingAllocator = lending::LendingAllocator;
 
 type InCalls = fn(&mut Log, &InWork, bool, u32) -> u64;
 
-/// Those that run a TD, the two baselines first.
-const SIDES: [(&str, InCalls); 3] = [
+/// Those that submit and complete a TD, the two baselines first.
+const SIDES: [(&str, InCalls); 4] = [
     ("Rust unchanged", |_, work, completes, repeats| {
         unchanged::calls::in_td(work.data, work.trbs, work.transfer_length, work.status, completes, repeats)
     }),
@@ -22,6 +22,7 @@ const SIDES: [(&str, InCalls); 3] = [
         capture_left_out::calls::in_td(work.data, work.trbs, work.transfer_length, work.status, completes, repeats)
     }),
     ("by value", product::in_by_value),
+    ("by reference", product::in_by_reference),
 ];
 const BASELINES: usize = 2;
 
@@ -46,69 +47,89 @@ fn tables(measure: &mut dyn Measure) {
     let bytes = bytes();
     let mut submissions = Vec::new();
     let mut wholes = Vec::new();
+    let mut completions = Vec::new();
     for work in InWork::all(bytes) {
         agree(&work);
-        let [submission, whole] = rows(&work, measure);
-        submissions.push(submission);
+        let [submission, whole, completion] = rows(&work, measure);
+        if work.end == End::Full {
+            submissions.push(submission);
+        }
         wholes.push(whole);
+        completions.push(completion);
     }
-    let completions: Vec<Row> = wholes.iter().zip(&submissions).map(|(whole, part)| whole.less(part)).collect();
-    let full = |row: &&Row| row.end == End::Full;
-    let names: Vec<&str> = SIDES.iter().map(|(name, _)| *name).collect();
-    print_table("A whole TD, per TRB", &names, &wholes.iter().collect::<Vec<_>>());
-    print_table("Submissions, per TRB", &names, &submissions.iter().filter(full).collect::<Vec<_>>());
-    print_table("The TD's completion, per TRB", &names, &completions.iter().collect::<Vec<_>>());
+    let names = SIDES.map(|(name, _)| name);
+    let names_and_row = [&names[..], &["by row"]].concat();
+    print_tables("A whole TD, per TRB", &names_and_row, &wholes);
+    print_tables("Submissions, per TRB", &names, &submissions);
+    print_tables("The TD's completion, per TRB", &names_and_row, &completions);
     control_table(bytes, measure);
     carry_out_table(bytes, measure);
 }
 
-/// All sides answer the same.
+/// All sides answer the same. A row answers what the whole TD has beyond its submissions.
 fn agree(work: &InWork) {
-    let sums = SIDES.map(|(_, calls)| calls(&mut Log::new(), work, true, 2));
-    assert!(sums.iter().all(|sum| *sum == sums[0]), "{}: the answers differ: {sums:?}", work.name());
+    let sums = |completes| SIDES.map(|(_, calls)| calls(&mut Log::new(), work, completes, 2));
+    let (submissions, wholes) = (sums(false), sums(true));
+    for sums in [submissions, wholes] {
+        assert!(sums.iter().all(|sum| *sum == sums[0]), "{}: the answers differ: {sums:?}", work.name());
+    }
+    let row = product::in_by_row(&mut Log::new(), work, 2);
+    assert!(row == wholes[0] - submissions[0], "{}: the row's answer differs: {row}", work.name());
 }
 
 /// What one piece of work costs on each side, by TRB.
 struct Row {
     name: String,
-    end: End,
     costs: Vec<f64>,
 }
 
-impl Row {
-    fn less(&self, part: &Row) -> Row {
-        let costs = self.costs.iter().zip(&part.costs).map(|(whole, part)| whole - part).collect();
-        Row { name: self.name.clone(), end: self.end, costs }
-    }
-}
-
-/// The TD's submissions, which end with a cancel, and the whole TD.
-fn rows(work: &InWork, measure: &mut dyn Measure) -> [Row; 2] {
+/// The TD's submissions, which end with a cancel, the whole TD, and the difference. A row has no submissions: its one call is
+/// the whole TD and its completion.
+fn rows(work: &InWork, measure: &mut dyn Measure) -> [Row; 3] {
     let side = |calls: InCalls, completes: bool| -> Calls {
         let mut log = Log::new();
         Box::new(move |repeats| calls(&mut log, work, completes, repeats))
     };
-    let submissions = SIDES.iter().map(|(_, calls)| side(*calls, false));
-    let wholes = SIDES.iter().map(|(_, calls)| side(*calls, true));
-    let mut costs = measure.measure(work.trbs, &mut submissions.chain(wholes).collect::<Vec<_>>());
-    let whole_costs = costs.split_off(SIDES.len());
-    [costs, whole_costs].map(|costs| Row { name: work.name(), end: work.end, costs })
+    let mut calls: Vec<Calls> = SIDES.iter().map(|(_, calls)| side(*calls, false)).collect();
+    calls.extend(SIDES.iter().map(|(_, calls)| side(*calls, true)));
+    let mut log = Log::new();
+    calls.push(Box::new(move |repeats| product::in_by_row(&mut log, work, repeats)));
+    let mut submissions = measure.measure(work.trbs, &mut calls);
+    let wholes = submissions.split_off(SIDES.len());
+    let differences = submissions.iter().zip(&wholes).map(|(part, whole)| whole - part);
+    let completions = differences.chain(wholes.last().copied()).collect();
+    [submissions, wholes, completions].map(|costs| Row { name: work.name(), costs })
 }
 
-/// Costs, and behind each of the product's its ratios to the baselines.
-fn print_table(title: &str, sides: &[&str], rows: &[&Row]) {
+/// Costs, and then the ratios of the product's to the baselines.
+fn print_tables(title: &str, sides: &[&str], rows: &[Row]) {
     println!("{title}\n");
-    let ratios: String =
-        sides[BASELINES..].iter().map(|side| format!(" {side} | to unchanged | to capture left out |")).collect();
-    println!("| TRBs | {} |{ratios}", sides[..BASELINES].join(" | "));
-    println!("|---|{}", "---|".repeat(BASELINES + 3 * (sides.len() - BASELINES)));
-    for Row { name, costs, .. } in rows {
-        let baselines: String = costs[..BASELINES].iter().map(|cost| format!(" {cost:.0} |")).collect();
-        let ratio = |cost: &f64| format!(" {cost:.0} | {:.2} | {:.2} |", cost / costs[0], cost / costs[1]);
-        let others: String = costs[BASELINES..].iter().map(ratio).collect();
-        println!("| {name} |{baselines}{others}");
+    print_line("TRBs", sides.iter());
+    print_rule(sides.len());
+    for Row { name, costs } in rows {
+        print_line(name, costs.iter().map(|cost| format!("{cost:.0}")));
+    }
+    println!("\n{title}: ratios\n");
+    let product = &sides[BASELINES..];
+    print_line("TRBs", product.iter().flat_map(|side| [format!("{side} to unchanged"), "to capture left out".into()]));
+    print_rule(BASELINES * product.len());
+    for Row { name, costs } in rows {
+        let (baselines, product) = costs.split_at(BASELINES);
+        let ratios =
+            product.iter().flat_map(|cost| baselines.iter().map(move |baseline| format!("{:.2}", cost / baseline)));
+        print_line(name, ratios);
     }
     println!();
+}
+
+fn print_line(first: &str, cells: impl Iterator<Item = impl std::fmt::Display>) {
+    print!("| {first} |");
+    cells.for_each(|cell| print!(" {cell} |"));
+    println!();
+}
+
+fn print_rule(columns: usize) {
+    println!("|---|{}", "---|".repeat(columns));
 }
 
 fn control_table(bytes: &'static [u8], measure: &mut dyn Measure) {
@@ -123,8 +144,8 @@ fn control_table(bytes: &'static [u8], measure: &mut dyn Measure) {
     assert!(sums.iter().all(|sum| *sum == sums[0]), "control: the answers differ: {sums:?}");
     let costs = measure.measure(CONTROL_TRBS, &mut sides);
     let names = [SIDES[0].0, SIDES[1].0, "by value"];
-    let row = Row { name: format!("Setup, Data IN of {CONTROL_LENGTH} bytes, Status"), end: End::Full, costs };
-    print_table("A control transfer, per TRB", &names, &[&row]);
+    let row = Row { name: format!("Setup, Data IN of {CONTROL_LENGTH} bytes, Status"), costs };
+    print_tables("A control transfer, per TRB", &names, &[row]);
 }
 
 fn carry_out_table(bytes: &'static [u8], measure: &mut dyn Measure) {

@@ -17,6 +17,31 @@ extern "C" {
         repeats: u32,
     ) -> u64;
 
+    fn bench_calls_in_by_reference(
+        log: *mut u8,
+        log_length: usize,
+        window: *const u8,
+        window_length: usize,
+        data: *const u8,
+        data_length: usize,
+        trbs: u32,
+        transfer_length: u32,
+        status: u8,
+        completes: bool,
+        repeats: u32,
+    ) -> u64;
+
+    fn bench_calls_in_by_row(
+        log: *mut u8,
+        log_length: usize,
+        data: *const u8,
+        data_length: usize,
+        trbs: u32,
+        transfer_length: u32,
+        status: u8,
+        repeats: u32,
+    ) -> u64;
+
     fn bench_calls_control(
         log: *mut u8,
         log_length: usize,
@@ -79,6 +104,24 @@ macro_rules! in_calls {
 }
 
 in_calls!(in_by_value, bench_calls_in_by_value);
+in_calls!(in_by_reference, bench_calls_in_by_reference);
+
+/// The TD's completion alone: a row is not submitted.
+pub fn in_by_row(log: &mut Log, work: &InWork, repeats: u32) -> u64 {
+    // SAFETY: as above.
+    unsafe {
+        bench_calls_in_by_row(
+            log.0.as_mut_ptr(),
+            log.0.len(),
+            work.data.as_ptr(),
+            work.data.len(),
+            work.trbs,
+            work.transfer_length,
+            work.status,
+            repeats,
+        )
+    }
+}
 
 /// Control transfers with their two lent buffers.
 pub struct Control {

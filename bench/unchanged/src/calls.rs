@@ -1,5 +1,5 @@
-//! The work that is timed: the same calls, in the same order and with the same checksum, as the product's crate bench_calls.
-//! A TRB goes in as its 16 bytes, which `submit_trb` parses; the product takes it decoded.
+//! The work that is timed: the same calls, in the same order and with the same checksum, as the product's crates bench_calls
+//! and bench_by_reference. A TRB goes in as its 16 bytes, which `submit_trb` parses; the product takes it decoded.
 
 use std::{
     future::Future,

@@ -1,101 +1,13 @@
-// What bench/ times: the product on repeated work, over numbers and lent bytes alone. Each function answers a checksum, which
-// the same work on the Rust answers too: records, plus `FAILED` for each result but Ok, plus `REFUSED` for each refusal.
+// What bench/ times: the product on repeated work, over numbers and lent bytes alone. Each function answers a checksum.
 // One call site for each timed function, as a program has that drives an endpoint.
-use trb::Answer;
-use trb::CompletionAnswer;
 use trb::ControlRequestProcessingResult;
 use trb::DataStageTrb;
 use trb::EndpointId;
-use trb::InTrbProcessingResult;
-use trb::InTrbProcessingStatus;
-use trb::NormalTrb;
 use trb::SetupStageTrb;
 use trb::SlotId;
 use trb::StatusStageTrb;
 use trb::TransferTrb;
 use trb::TransferTrbVariant;
-use trb::TrbProcessingResult;
-
-const FAILED: u64 = 1048576;
-
-const REFUSED: u64 = 1099511627776;
-
-// Where the first TRB lies, and how far apart they are.
-const FIRST_TRB: u64 = 4096;
-
-const TRB_BYTES: u64 = 16;
-
-// ---- The checksum
-
-fn sum_of(answer: Answer, records: usize) -> u64 {
-    match answer {
-        Answer::Accepted => records as u64,
-        Answer::Refused(_) => REFUSED,
-    }
-}
-
-fn sum_of_result(result: TrbProcessingResult) -> u64 {
-    match result {
-        TrbProcessingResult::Ok => 0,
-        TrbProcessingResult::Stall => FAILED,
-        TrbProcessingResult::StallAt(_, _) => FAILED,
-        TrbProcessingResult::TrbError => FAILED,
-        TrbProcessingResult::TransactionError => FAILED,
-        TrbProcessingResult::TransactionErrorAt(_, _) => FAILED,
-        TrbProcessingResult::Disconnect => FAILED,
-    }
-}
-
-fn sum_of_completion(answer: CompletionAnswer, records: usize) -> u64 {
-    match answer {
-        CompletionAnswer::Completed(result) => std::num::wrapping_add_u64(
-            sum_of_result(result),
-            records as u64,
-        ),
-        CompletionAnswer::Refused(_) => REFUSED,
-    }
-}
-
-// ---- The work
-
-fn status_of(number: u8) -> InTrbProcessingStatus {
-    if number == 0 {
-        return InTrbProcessingStatus::Success;
-    }
-    if number == 1 {
-        return InTrbProcessingStatus::Stall;
-    }
-    if number == 2 {
-        return InTrbProcessingStatus::TransactionError;
-    }
-    InTrbProcessingStatus::Disconnect
-}
-
-// Number `i` of a TD of Normals: interrupt-on-short on all of them, on the last interrupt-on-completion in the place of the
-// chain bit.
-fn normal_at(i: u32, data_pointer: u64, transfer_length: u32, chain: bool) -> TransferTrb {
-    TransferTrb {
-        variant: TransferTrbVariant::Normal(NormalTrb {
-            data_pointer: data_pointer,
-            transfer_length: transfer_length,
-            interrupt_on_short: true,
-            chain: chain,
-            interrupt_on_completion: !chain,
-            immediate_data: false,
-        }),
-        addr: FIRST_TRB + TRB_BYTES * (i as u64),
-        cycle_bit: true,
-    }
-}
-
-// What the device gives, if this TRB has ended the TD.
-fn result_at(ends: bool, status: u8) -> InTrbProcessingResult {
-    if ends {
-        InTrbProcessingResult::Given(status_of(status))
-    } else {
-        InTrbProcessingResult::NoneGiven
-    }
-}
 
 // ---- By value
 
@@ -122,21 +34,21 @@ pub extern "C" fn bench_calls_in_by_value(
         while i < trbs {
             let next = i + 1;
             let ends = next == trbs;
-            let t = normal_at(i, pointer, transfer_length, !ends);
+            let t = bench_work::normal_at(i, pointer, transfer_length, !ends);
             pointer = std::num::wrapping_add_u64(pointer, transfer_length as u64);
             let submitted = in_endpoint::submit_trb(log, block, t, 0, window);
             let answer = submitted.answer;
-            sum = std::num::wrapping_add_u64(sum, sum_of(answer, submitted.records));
+            sum = std::num::wrapping_add_u64(sum, bench_work::sum_of(answer, submitted.records));
             block = submitted.block;
             if ends && !completes {
                 block = in_endpoint::cancel(block);
             } else {
-                let result = result_at(ends, status);
+                let result = bench_work::result_at(ends, status);
                 let completed = in_endpoint::next_completion(log, block, result, data);
                 let completion = completed.answer;
                 sum = std::num::wrapping_add_u64(
                     sum,
-                    sum_of_completion(completion, completed.records),
+                    bench_work::sum_of_completion(completion, completed.records),
                 );
                 block = completed.block;
             }
@@ -191,7 +103,7 @@ fn stage_at(i: u32, transfer_length: u32) -> TransferTrb {
     };
     TransferTrb {
         variant: variant,
-        addr: FIRST_TRB + TRB_BYTES * (i as u64),
+        addr: bench_work::FIRST_TRB + bench_work::TRB_BYTES * (i as u64),
         cycle_bit: true,
     }
 }
@@ -224,12 +136,15 @@ pub extern "C" fn bench_calls_control(
             let t = stage_at(i, transfer_length);
             let submitted = control_endpoint::submit_trb(log, collect, block, t, 0, window);
             let answer = submitted.answer;
-            sum = std::num::wrapping_add_u64(sum, sum_of(answer, submitted.records));
+            sum = std::num::wrapping_add_u64(sum, bench_work::sum_of(answer, submitted.records));
             block = submitted.block;
             let result = control_result_at(i == 2);
             let completed = control_endpoint::next_completion(log, block, result, data);
             let completion = completed.answer;
-            sum = std::num::wrapping_add_u64(sum, sum_of_completion(completion, completed.records));
+            sum = std::num::wrapping_add_u64(
+                sum,
+                bench_work::sum_of_completion(completion, completed.records),
+            );
             block = completed.block;
             i += 1;
         }
@@ -253,7 +168,7 @@ pub extern "C" fn bench_calls_carry_out(
     let mut k = 0;
     while k < repeats {
         let answer = carry_out::carry_out(log, data, base, memory);
-        sum = std::num::wrapping_add_u64(sum, sum_of(answer, 1));
+        sum = std::num::wrapping_add_u64(sum, bench_work::sum_of(answer, 1));
         k += 1;
     }
     sum

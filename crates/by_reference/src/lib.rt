@@ -1,7 +1,9 @@
-// Submission, completion and cancel of an IN endpoint, with the block lent and updated where it is.
+// Submission, completion and cancel of the two endpoints, with the block lent and updated where it is.
+use control_block::ControlBlock;
 use in_block::InBlock;
 use trb::Answer;
 use trb::CompletionAnswer;
+use trb::ControlRequestProcessingResult;
 use trb::InTrbProcessingResult;
 use trb::TransferTrb;
 ghost use mathlib.Core.Path.{_≡_};
@@ -9,9 +11,11 @@ ghost use lib.ListN.{length};
 ghost use Rattle.log.specs.Calls.{Meets};
 ghost use Rattle.log.specs.Logs.{recordsIn};
 ghost use Rattle.in_endpoint.specs.Creation.{cancelled};
-ghost use Rattle.in_endpoint.specs.Submission.{submission};
-ghost use Rattle.in_endpoint.specs.Completion.{completion, Accounted};
-ghost use Rattle.by_reference.specs.Outcomes.{submitted, completed};
+ghost use Rattle.in_endpoint.specs.Submission.{submission as submissionIn};
+ghost use Rattle.in_endpoint.specs.Completion.{completion as completionIn, Accounted};
+ghost use Rattle.control_submit.specs.Submits.{submission as submissionControl, Submits};
+ghost use Rattle.control_complete.specs.Completes.{completion as completionControl};
+ghost use Rattle.by_reference.specs.Outcomes.{submittedIn, completedIn, submittedControl, completedControl};
 
 pub struct SubmissionOutcome {
     pub answer: Answer,
@@ -23,14 +27,16 @@ pub struct CompletionOutcome {
     pub records: usize,
 }
 
-pub fn submit_trb(
+// ---- IN endpoint
+
+pub fn in_submit_trb(
     log: &mut [u8],
     block: &mut InBlock,
     t: TransferTrb,
     window_base: u64,
     window: &[u8],
 ) -> SubmissionOutcome
-    ensures { λ r. ⌜ Meets (submission (length (now (log .entry))) (now (block .entry)) t «window_base» (length (now (window .entry)))) 0 (now (log .entry)) (submitted r (now (block .exit))) (now (log .exit)) ⌝ }
+    ensures { λ r. ⌜ Meets (submissionIn (length (now (log .entry))) (now (block .entry)) t «window_base» (length (now (window .entry)))) 0 (now (log .entry)) (submittedIn r (now (block .exit))) (now (log .exit)) ⌝ }
 {
     let r = in_endpoint::submit_trb(log, *block, t, window_base, window);
     *block = r.block;
@@ -40,13 +46,13 @@ pub fn submit_trb(
     }
 }
 
-pub fn next_completion(
+pub fn in_next_completion(
     log: &mut [u8],
     block: &mut InBlock,
     result: InTrbProcessingResult,
     data: &[u8],
 ) -> CompletionOutcome
-    ensures met { λ r. ⌜ Meets (completion (length (now (log .entry))) (now (block .entry)) result (length (now («data» .entry)))) 0 (now (log .entry)) (completed r (now (block .exit))) (now (log .exit)) ⌝ }
+    ensures met { λ r. ⌜ Meets (completionIn (length (now (log .entry))) (now (block .entry)) result (length (now («data» .entry)))) 0 (now (log .entry)) (completedIn r (now (block .exit))) (now (log .exit)) ⌝ }
     ensures account { λ r. ⌜ Accounted (now (block .entry)) (length (now («data» .entry))) (r .answer) (recordsIn (r .records) (now (log .exit))) ⌝ }
 {
     let r = in_endpoint::next_completion(log, *block, result, data);
@@ -57,8 +63,50 @@ pub fn next_completion(
     }
 }
 
-pub fn cancel(block: &mut InBlock)
+pub fn in_cancel(block: &mut InBlock)
     ensures { λ _. ⌜ now (block .exit) ≡ cancelled (now (block .entry)) ⌝ }
 {
     *block = in_endpoint::cancel(*block);
+}
+
+// ---- Control endpoint
+
+pub fn control_submit_trb(
+    log: &mut [u8],
+    collect: &mut [u8],
+    block: &mut ControlBlock,
+    t: TransferTrb,
+    window_base: u64,
+    window: &[u8],
+) -> SubmissionOutcome
+    ensures { λ r. ⌜ Submits (submissionControl (length (now (log .entry))) (length (now (collect .entry))) (now (block .entry)) t «window_base» (now (window .entry))) (now (log .entry)) (now (collect .entry)) (submittedControl r (now (block .exit))) (now (log .exit)) (now (collect .exit)) ⌝ }
+{
+    let r = control_endpoint::submit_trb(log, collect, *block, t, window_base, window);
+    *block = r.block;
+    SubmissionOutcome {
+        answer: r.answer,
+        records: r.records,
+    }
+}
+
+pub fn control_next_completion(
+    log: &mut [u8],
+    block: &mut ControlBlock,
+    result: ControlRequestProcessingResult,
+    data: &[u8],
+) -> CompletionOutcome
+    ensures { λ r. ⌜ Meets (completionControl (length (now (log .entry))) (now (block .entry)) result (length (now («data» .entry)))) 0 (now (log .entry)) (completedControl r (now (block .exit))) (now (log .exit)) ⌝ }
+{
+    let r = control_endpoint::next_completion(log, *block, result, data);
+    *block = r.block;
+    CompletionOutcome {
+        answer: r.answer,
+        records: r.records,
+    }
+}
+
+pub fn control_cancel(block: &mut ControlBlock)
+    ensures { λ _. ⌜ now (block .exit) ≡ now (block .entry) ⌝ }
+{
+    *block = control_endpoint::cancel(*block);
 }

@@ -1,6 +1,6 @@
 -- A `&κ mut [T]` that is lent again for a lifetime κ′ of a call, and comes back. `LentAgain` is what the holder keeps while the slice is
 -- lent under the name γ₁: the lender's part at κ′, and its own borrow at κ, open, with both halves of its ghost variable. Assumes nothing.
-use mathlib.Core.Path.{_≡_, sym, ap, subst}
+use mathlib.Core.Path.{_≡_, refl, sym, ap, subst}
 use Prim.Native.Nat.{ℕ}
 use mathlib.Core.List.{List, [], _∷_}
 use lib.ListN.{length}
@@ -12,7 +12,8 @@ use base.Logic.{ent, sep, ex}
 use base.Fml.{Lft, GName, Share, Fml, fsep, flft, fdead, fobs, fauth, flent, fobor}
 use prog.Wp.{Heap}
 use ghost.Atoms.{Atoms, sem}
-use types.Kit.{Given, ‵, _⊛_, some, later, _$_, _∵_, !, qed, move, use1, use3, drop, split, pick, fsplit, fjoin, frame, await, updating, now as at-once, show, done}
+use types.Kit.{Given, Item, Goal, Soaks, Seq, Step, step, ‵, _⊛_, some, later, _$_, _∵_, !, qed, move, use1, use2, use3, rewrite, drop, split, pick, fsplit, fjoin, frame, await, updating, now as at-once, show, done}
+use types.Tokens.{lft-new, lft-end}
 use types.SemTy.{cells, Arr}
 use denote.RattleType.{RattleType}
 use denote.Shadow.{pureL, pureI}
@@ -50,3 +51,23 @@ module _ (R : RattleType) (κ κ′ : Lft) (q : Share) (γ : GName) (b o : ℕ) 
         use3 W (later (‵ (Arr (mem R) (length ys) .lies zs b o))) (slice-back 𝓤 H A W R κ′ γ₁ zs (length ys) b o) $ await ! tt $ fsplit ! $ drop ! $ use1 W (‵ (row R fullShare zs b o)) (whole-out 𝓤 H A W R zs b o) $
         move ! (1 ∷ []) $ fsplit ! $ move ! (1 ∷ []) $ fsplit ! $ move ! (3 ∷ 2 ∷ 0 ∷ 1 ∷ []) $ closes-slice ! tt R ys zs e b o $ at-once ! $
         fjoin ! $ pureI ! (at-slice R (at-list γ zs) vals) (tt, (tt, tt)) (ap (λ (m : ℕ). sliceVal (b, o) m ∷ []) (sym e), subst (Room R) (sym e) room) $ fjoin ! $ done !
+
+-- what a `&κ mut [T]` at (b, o) owns, under the name δ, at the list ys, said to be of n elements
+abbrev slice-at : (R : RattleType) → Lifetime → ℕ → ℕ → Lft → GName → List (R .Denot) → ℕ → Fml
+slice-at R ℓ b o κ δ ys n = MutSlice ℓ κ R .own (record { ptr = (b, o); name = δ; now = ys }) (sliceVal (b, o) n ∷ [])
+
+-- both as steps of a walk: the slice, of m elements, is lent to a call for a lifetime ν of the call, and is back when the call is over
+module _ {M : Type 1} {𝓤 : URA M} {H : Heap 𝓤} {A : Atoms 𝓤} {K : Type 0} {W : Given 𝓤 H A} {Γ : List (Item 𝓤)} {G : Goal 𝓤 H} (R : RattleType) (ℓ : Lifetime) {κ : Lft} {q : Share} (γ : GName) (b o m : ℕ) where
+  pub lends-to-call : K → Soaks G → (ys : List (R .Denot)) → length ys ≡ m
+      → ((ν : ℕ) (δ : GName) → Seq K W (‵ (flft (ν ∷ []) fullShare) ∷ ‵ (slice-at R ℓ b o (ν ∷ []) δ ys m) ∷ ‵ (LentAgain R κ (ν ∷ []) q γ b o δ ys) ∷ Γ) G)
+      → Seq K W (‵ (slice-at R ℓ b o κ γ ys m) ∷ ‵ (flft κ q) ∷ Γ) G
+  lends-to-call t z ys e k =
+      rewrite t 0 (λ (n : ℕ). ‵ (slice-at R ℓ b o κ γ ys n)) (sym e) refl $ lft-new t z (λ ν. move t (1 ∷ 2 ∷ []) $
+      use2 W (later (some (λ (δ : GName). ‵ (slice-at R ℓ b o (ν ∷ []) δ ys (length ys)) ⊛ ‵ (LentAgain R κ (ν ∷ []) q γ b o δ ys)))) (lends-again R κ (ν ∷ []) q γ b o 𝓤 H A W ℓ ℓ ys) $ await t z $ pick t (λ δ. split t $
+      rewrite t 0 (λ (n : ℕ). ‵ (slice-at R ℓ b o (ν ∷ []) δ ys n)) e refl $ move t (2 ∷ 0 ∷ 1 ∷ []) $ k ν δ))
+
+  pub back-from-call : K → Soaks G → {ν : ℕ} {δ : GName} (ys zs : List (R .Denot)) → length ys ≡ m → length zs ≡ length ys → Room R m
+      → Step K W (‵ (slice-at R ℓ b o κ γ zs m) ∷ ‵ (flft κ q) ∷ Γ) G (‵ (flft (ν ∷ []) fullShare) ∷ ‵ (LentAgain R κ (ν ∷ []) q γ b o δ ys) ∷ ‵ (finally R δ zs) ∷ Γ) G
+  back-from-call t z {ν} {δ} ys zs e long room = step (λ s. lft-end t z $
+      use3 W (later (‵ (slice-at R ℓ b o κ γ zs (length ys)) ⊛ ‵ (flft κ q))) (comes-back R κ (ν ∷ []) q γ b o 𝓤 H A W ℓ ℓ ys δ zs (subst (Room R) (sym e) room) long) $ await t z $ split t $
+      rewrite t 0 (λ (n : ℕ). ‵ (slice-at R ℓ b o κ γ zs n)) e refl $ s)

@@ -1,2 +1,8 @@
 pub mod LentLaws
 pub mod Again
+pub mod Local
+pub mod Layers
+pub mod CancelLayer
+pub mod CompletionLayer
+pub mod SubmissionLayer
+pub mod CollectingLayer

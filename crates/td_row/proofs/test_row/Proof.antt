@@ -2,7 +2,7 @@
 -- it; each turn takes one TRB out of the row, reads it whole, puts it back, and calls `test_trb`, of which the proof knows only its
 -- contract. The invariant: what was found so far, and the test of the rest, are the test of all. Assumes nothing.
 use Prim.Native.Nat.{ℕ, _+_, _-_, _≤_, _<_}
-use mathlib.Core.Path.{_≡_, refl, sym, ap}
+use mathlib.Core.Path.{_≡_, refl, sym}
 use mathlib.Core.Bool.{Bool, true, false}
 use mathlib.Core.List.{List, [], _∷_}
 use mathlib.Core.WellFounded.{WellFounded, InvImage·wf}
