@@ -299,7 +299,8 @@ module _ (L : Layer) (P : Takes) where
   B = row (L .Block)
 
   module _ {M : Type 1} {𝓤 : URA M} {H : Heap 𝓤} {A : Atoms 𝓤} {K : Type 0} {W : Given 𝓤 H A} {Γ : List (Item 𝓤)} {C : Calls 𝓤 H} {Λ : Loops 𝓤 H} {E : Env 𝓤 H} {q : Post 𝓤 H} where
-    -- the block's borrow is opened and the block is read whole; the callee is called; the block of its answer is stored, and the borrow closed
+    -- the block's borrow is opened and the block is read whole; the callee is called, for which Q is handed over; the block of its answer is stored,
+    -- and the borrow closed
     pub calls-and-stores : K → (O : Ensures 𝓤 S) {callee : Name} {xs : List Opd} {κ : Lft} {s : Share} {γ : GName} {ρ : Ty} {lr lb lo lc i j k : ℕ} {rest : Body} {Q : SProp 𝓤} (h : L .Block .D) (b o : ℕ)
         → spotOf 𝓤 H E i ≡ (mirOf (L .Returned), lr, zero) → spotOf 𝓤 H E j ≡ (ρ, lb, zero) → spotOf 𝓤 H E 0 ≡ (mirOf (L .Outcome), lo, zero) → spotOf 𝓤 H E k ≡ (mirOf (L .Block), lc, zero)
         → FmC 𝓤 H (W .laws) C → Triple 𝓤 (C callee) (Called 𝓤 H A S O) → (y : Val → Called 𝓤 H A S O .Ghost)
