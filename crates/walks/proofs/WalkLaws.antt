@@ -44,32 +44,45 @@ pub record Walked {S T : Type 0} (k : Walker S T) (s₀ : S) (ts : List T) (l₀
   pub fits : AllFit (walkOf k s (drop i ts) .records) → AllFit (walkOf k s₀ ts .records)
 
 module _ {S T : Type 0} (k : Walker S T) where
-  walk-cons : (s : S) (t : T) (ts : List T) → k .stopped s ≡ false → walkOf k s (t ∷ ts) ≡ join (k .step s t) (walkOf k (k .step s t .state) ts)
+  -- an element, and those behind it
+  pub walk-cons : (s : S) (t : T) (ts : List T) → k .stopped s ≡ false → walkOf k s (t ∷ ts) ≡ join (k .step s t) (walkOf k (k .step s t .state) ts)
   unfolding walk
   walk-cons s t ts e = rw e
 
-  walk-none : (s : S) → walkOf k s [] ≡ silent s
+  -- no element
+  pub walk-none : (s : S) → walkOf k s [] ≡ silent s
   unfolding walk
   walk-none s = refl
 
-  walk-stopped : (s : S) (ts : List T) → k .stopped s ≡ true → walkOf k s ts ≡ silent s
+  -- a state that stops the walk
+  pub walk-stopped : (s : S) (ts : List T) → k .stopped s ≡ true → walkOf k s ts ≡ silent s
   unfolding walk
   walk-stopped s [] e = refl
   walk-stopped s (t ∷ ts) e = rw e
 
-  counts-cons : (s : S) (t : T) (ts : List T) (v : Bool) → k .stopped s ≡ v → k .Good s
-      → k .count (walkOf k (k .step s t .state) ts .state) ≡ k .count (k .step s t .state) + length (walkOf k (k .step s t .state) ts .records)
-      → k .count (walkOf k s (t ∷ ts) .state) ≡ k .count s + length (walkOf k s (t ∷ ts) .records)
-  unfolding walk
-  counts-cons s t ts true e g ih = rw e (sym (add-zero _))
-  counts-cons s t ts false e g ih = rw e
-      (omega (arith, ih, k .fine s t g .counts, length-append (k .step s t .records) (walkOf k (k .step s t .state) ts .records)))
+  fine-cons : (s : S) (t : T) (ts : List T) (v : Bool) → k .stopped s ≡ v → k .Good s
+      → Fine (k .Good) (k .count) (k .most * length ts) (k .step s t .state) (walkOf k (k .step s t .state) ts)
+      → Fine (k .Good) (k .count) (k .most * suc (length ts)) s (walkOf k s (t ∷ ts))
+  fine-cons s t ts true e g ih =
+      rw (walk-stopped s (t ∷ ts) e) (record { good = g; few = omega arith; counts = sym (add-zero _) })
+  fine-cons s t ts false e g ih =
+      let f : Fine (k .Good) (k .count) (k .most) s (k .step s t) = k .fine s t g in
+      let long = length-append (k .step s t .records) (walkOf k (k .step s t .state) ts .records) in
+      rw (walk-cons s t ts e)
+      (record { good = ih .good; few = omega (arith, ih .few, f .few, long, mul-suc (k .most) (length ts)); counts = omega (arith, ih .counts, f .counts, long) })
+
+  -- of a walk holds what holds of its steps
+  walk-fine : (s : S) (ts : List T) → k .Good s → Fine (k .Good) (k .count) (k .most * length ts) s (walkOf k s ts)
+  walk-fine s [] g = rw (walk-none s) (record { good = g; few = omega arith; counts = sym (add-zero _) })
+  walk-fine s (t ∷ ts) g = fine-cons s t ts (k .stopped s) refl g (walk-fine (k .step s t .state) ts (k .fine s t g .good))
 
   -- a walk counts its records
   pub walk-counts : (s : S) (ts : List T) → k .Good s → k .count (walkOf k s ts .state) ≡ k .count s + length (walkOf k s ts .records)
-  unfolding walk
-  walk-counts s [] g = sym (add-zero _)
-  walk-counts s (t ∷ ts) g = counts-cons s t ts (k .stopped s) refl g (walk-counts (k .step s t .state) ts (k .fine s t g .good))
+  walk-counts s ts g = walk-fine s ts g .counts
+
+  -- a walk logs at most so many records for each element
+  pub length-walk : (s : S) (ts : List T) → k .Good s → length (walkOf k s ts .records) ≤ k .most * length ts
+  length-walk s ts g = walk-fine s ts g .few
 
   -- before the first element
   pub walked-none : (s : S) (ts : List T) (l : List ℕ) → k .Good s → Walked k s ts l l s 0
