@@ -1,17 +1,15 @@
 -- What holds of each TRB: it keeps within the device's data, logs at most two records, and counts them. Assumes nothing.
 use Prim.Native.Nat.{ℕ}
-use mathlib.Core.Path.{refl, sym}
+use mathlib.Core.Path.{refl}
 use mathlib.Core.Bool.{Bool, true}
-use native.Mathlib.Nat.{add-zero}
 use native.Mathlib.Omega.{arith}
-use lib.Dec.{lit≤}
 use Rattle.trb.specs.declared.CompletionCode.{CompletionCode}
 use Rattle.trb.specs.declared.EventDataTrb.{EventDataTrb}
 use Rattle.log.specs.declared.Record.{Record}
 use Rattle.log.specs.Calls.{Out, silent}
 use Rattle.log.specs.Records.{transferEvent, when}
 use Rattle.log.proofs.RecordLaws.{length-when}
-use Rattle.walks.proofs.WalkLaws.{Fine}
+use Rattle.walks.proofs.WalkLaws.{Fine, fine-silent}
 use Rattle.td_part.specs.declared.TdInfo.{TdInfo}
 use Rattle.td_part.specs.declared.TdProgress.{TdProgress}
 use Rattle.td_part.specs.declared.TrbDmaInfo.{TrbDmaInfo}
@@ -22,7 +20,7 @@ Kept td w o = Fine (Within td) (λ (w : TdProgress). w .records) 2 w o
 
 module _ (td : TdInfo) (w : TdProgress) (g : Within td w) where
   pub kept-silent : Kept td w (silent w)
-  kept-silent = record { good = g; few = lit≤ tt; counts = sym (add-zero _) }
+  kept-silent = fine-silent 2 w g
 
   -- a TRB that logs one record where it is due, and leaves the place in the device's data
   kept-when : (edtla : ℕ) (due : Bool) (r : Record) → Kept td w (progressed w (w .start) edtla (w .state) (when due r))

@@ -22,6 +22,10 @@ pub record Fine {S : Type 0} (Good : S → Type 0) (count : S → ℕ) (most : �
   pub few : length (o .records) ≤ most
   pub counts : count (o .state) ≡ count s + length (o .records)
 
+-- a step that does nothing
+pub fine-silent : {S : Type 0} {Good : S → Type 0} {count : S → ℕ} (most : ℕ) (s : S) → Good s → Fine Good count most s (silent s)
+fine-silent most s g = record { good = g; few = omega arith; counts = sym (add-zero _) }
+
 -- a kind of walk: its step, what stops it, how a state counts the records, at most how many records an element logs
 pub record Walker (S T : Type 0) : Type 1 where
   pub step : S → T → Out S
@@ -64,7 +68,7 @@ module _ {S T : Type 0} (k : Walker S T) where
       → Fine (k .Good) (k .count) (k .most * length ts) (k .step s t .state) (walkOf k (k .step s t .state) ts)
       → Fine (k .Good) (k .count) (k .most * suc (length ts)) s (walkOf k s (t ∷ ts))
   fine-cons s t ts true e g ih =
-      rw (walk-stopped s (t ∷ ts) e) (record { good = g; few = omega arith; counts = sym (add-zero _) })
+      rw (walk-stopped s (t ∷ ts) e) (fine-silent (k .most * suc (length ts)) s g)
   fine-cons s t ts false e g ih =
       let f : Fine (k .Good) (k .count) (k .most) s (k .step s t) = k .fine s t g in
       let long = length-append (k .step s t .records) (walkOf k (k .step s t .state) ts .records) in
@@ -73,7 +77,7 @@ module _ {S T : Type 0} (k : Walker S T) where
 
   -- of a walk holds what holds of its steps
   walk-fine : (s : S) (ts : List T) → k .Good s → Fine (k .Good) (k .count) (k .most * length ts) s (walkOf k s ts)
-  walk-fine s [] g = rw (walk-none s) (record { good = g; few = omega arith; counts = sym (add-zero _) })
+  walk-fine s [] g = rw (walk-none s) (fine-silent (k .most * 0) s g)
   walk-fine s (t ∷ ts) g = fine-cons s t ts (k .stopped s) refl g (walk-fine (k .step s t .state) ts (k .fine s t g .good))
 
   -- a walk counts its records
@@ -140,3 +144,18 @@ module _ {S T : Type 0} (k : Walker S T) where
     -- where a state stops the walk
     pub walked-stop : (l : List ℕ) (s : S) (i : ℕ) → Walked k s₀ (take n xs) l₀ l s i → k .stopped s ≡ true → Meets (walkOf k s₀ (take n xs)) (k .count s₀) l₀ s l
     walked-stop l s i w h = walked-done s₀ (take n xs) l₀ l s i w (walk-stopped s (drop i (take n xs)) h)
+
+-- what holds of no records, of two lists one behind the other, and of what a step logs, holds of what a walk logs
+module _ {S T : Type 0} (step : S → T → Out S) (stopped : S → Bool) (Good : S → Type 0) (P : List Record → Type 0)
+    (none : P []) (both : (rs ss : List Record) → P rs → P ss → P (rs ++ ss)) (each : (s : S) (t : T) → Good s → P (step s t .records) × Good (step s t .state)) where
+  pub walk-records : (s : S) (ts : List T) → Good s → P (walk step stopped s ts .records)
+  unfolding walk
+  walk-records s [] g = none
+  walk-records s (t ∷ ts) g = by-test (stopped s) (both (step s t .records) _ (each s t g .0) (walk-records (step s t .state) ts (each s t g .1)))
+    where
+      rest : Out S
+      rest = walk step stopped (step s t .state) ts
+
+      by-test : (b : Bool) → P (step s t .records ++ rest .records) → P (cond b (silent s) (join (step s t) rest) .records)
+      by-test true going = none
+      by-test false going = going
