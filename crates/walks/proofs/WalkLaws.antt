@@ -48,13 +48,11 @@ pub record Walked {S T : Type 0} (k : Walker S T) (s₀ : S) (ts : List T) (l₀
   pub fits : AllFit (walkOf k s (drop i ts) .records) → AllFit (walkOf k s₀ ts .records)
 
 module _ {S T : Type 0} (k : Walker S T) where
-  -- an element, and those behind it
-  pub walk-cons : (s : S) (t : T) (ts : List T) → k .stopped s ≡ false → walkOf k s (t ∷ ts) ≡ join (k .step s t) (walkOf k (k .step s t .state) ts)
+  walk-cons : (s : S) (t : T) (ts : List T) → k .stopped s ≡ false → walkOf k s (t ∷ ts) ≡ join (k .step s t) (walkOf k (k .step s t .state) ts)
   unfolding walk
   walk-cons s t ts e = rw e
 
-  -- no element
-  pub walk-none : (s : S) → walkOf k s [] ≡ silent s
+  walk-none : (s : S) → walkOf k s [] ≡ silent s
   unfolding walk
   walk-none s = refl
 
