@@ -20,13 +20,14 @@ use Rattle.trb.specs.declared.NormalTrb.{NormalTrb}
 use Rattle.trb.specs.declared.SlotId.{SlotId}
 use Rattle.trb.specs.declared.TransferTrb.{TransferTrb}
 use Rattle.trb.specs.declared.TransferTrbVariant.the-variants.{Normal}
+use Rattle.trb.proofs.TestLaws.{le-or-lt}
 use Rattle.log.specs.Records.{eventKind}
 use Rattle.log.specs.declared.Record.{Record}
 use Rattle.td_part.specs.Parts.{edtlaAfter}
 use Rattle.in_td.specs.Td.{processTd, inTd}
 use Rattle.in_td.specs.declared.InTd.{InTd}
 use Rattle.account.specs.Guest.{normalOf, normalLength, requested, through, isHeld, range, normalRange, places, Apart, Distinct, IspIfNormal, IspOnNormals, NormalWithIoc, LastNormalWithIoc, isWrite, isEvent, isUnsuccessful, any, relied, sumFor, residualIn, account, namesHeld, countBefore, before, numbered, standsFor, bytes, Account}
-use Rattle.account.proofs.GuestLaws.{le-or-lt, length-range, take-append-range, getD-range, length-normalRange, length-places, take-places-min, apart-isHeld, length-numbered, getD-numbered, numbered-take, bytes-append, any-append, bytes-none, any-at, first-at, beforeFirst-at, beforeLast-at, first-none}
+use Rattle.account.proofs.GuestLaws.{length-range, take-append-range, getD-range, length-normalRange, length-places, take-places-min, apart-isHeld, length-numbered, getD-numbered, numbered-take, bytes-append, any-append, bytes-none, any-at, first-at, beforeFirst-at, beforeLast-at, first-none}
 use Rattle.account.proofs.StepLaws.{normal-or-other, leftFrom, fullWrite, fullEvent, fullRecords, quiet-full, bytes-full, missing, shortWrite, shortEvent, shortDue-isp, isUnsuccessful-shortCode}
 use Rattle.account.proofs.TdLog.{logFrom, log-none, OtherLog, other-log, full-log, ShortLog, short-log}
 

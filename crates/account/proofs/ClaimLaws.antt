@@ -7,8 +7,8 @@ use borrow.Author.Tests.{leb-true, le-leb, eqb-true, eq-eqb}
 use lib.Dec.{eqb, leb}
 use lib.ListN.{take}
 use Rattle.trb.specs.declared.TransferTrb.{TransferTrb}
+use Rattle.trb.proofs.TestLaws.{and-left, and-right}
 use Rattle.log.specs.declared.Record.{Record}
-use Rattle.walks.proofs.AllLaws.{and-left, and-right}
 use Rattle.account.specs.Guest.{requested, places, isWrite, isEvent, any, relied, sumFor, residualIn, account, namesHeld, before, later, numbered, bytes, Account}
 use Rattle.account.specs.Claims.{same, accounts}
 

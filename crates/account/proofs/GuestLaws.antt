@@ -1,27 +1,20 @@
 -- Laws of the guest's reading: of places, of the bytes that writes stand for, and of a log that is split at an event. Assumes nothing.
 use Prim.Native.Nat.{ℕ, zero, suc, _+_, _<_, _≤_, min}
 use mathlib.Core.Path.{_≡_, refl, sym, ap, _∙_}
-use mathlib.Core.Bool.{Bool, true, false, cond, _||_, or-true, true≢false, false≢true}
+use mathlib.Core.Bool.{Bool, true, false, cond, _||_, or-true, or-assoc, false≢true}
 use mathlib.Core.List.{List, [], _∷_, _++_, append-assoc}
-use mathlib.Core.Logic.{_⊎_, inl, inr, ⊎-elim}
+use mathlib.Core.Logic.{⊎-elim}
 use mathlib.Core.Option.{Option, none, some}
 use native.Mathlib.Nat.{add-zero, add-suc, suc-add, min-eq-left, min-eq-right, le-of-lt, le-refl, le-of-suc-le-suc, not-suc-le-zero}
 use native.Mathlib.Omega.{arith}
-use borrow.Author.Tests.{leb-true, leb-false, ne-eqb}
-use lib.Dec.{leb}
+use borrow.Author.Tests.{ne-eqb}
 use lib.ListN.{take, getD, length, length-append}
 use lib.Seq.{take-all, take-append-add, take-append-le}
 use Rattle.trb.specs.declared.NormalTrb.{NormalTrb}
 use Rattle.trb.specs.declared.TransferTrb.{TransferTrb}
+use Rattle.trb.proofs.TestLaws.{or-false-left, or-false-right, le-or-lt}
 use Rattle.log.specs.declared.Record.{Record}
 use Rattle.account.specs.Guest.{normalOf, lengthOf, normalLength, requested, isHeld, range, rangeOf, normalRange, places, Apart, isWrite, any, first, beforeFirst, beforeLast, numbered, standsFor, bytes, writeLengths}
-
-pub le-or-lt : (m n : ℕ) → (m ≤ n) ⊎ (n < m)
-le-or-lt m n = by-test (leb m n) refl
-  where
-    by-test : (b : Bool) → leb m n ≡ b → (m ≤ n) ⊎ (n < m)
-    by-test true e = inl (leb-true m n e)
-    by-test false e = inr (leb-false m n e)
 
 -- ---- Places
 
@@ -99,21 +92,9 @@ writeLengths-append (x ∷ xs) ys = omega (arith, writeLengths-append xs ys)
 
 -- ---- Tests of a log's records
 
-or-false-left : (a b : Bool) → (a || b) ≡ false → a ≡ false
-or-false-left true b e = e
-or-false-left false b e = refl
-
-or-false-right : (a b : Bool) → (a || b) ≡ false → b ≡ false
-or-false-right true b e = absurd (true≢false e)
-or-false-right false b e = e
-
-or-assoc : (a b c : Bool) → (a || (b || c)) ≡ (a || b || c)
-or-assoc true b c = refl
-or-assoc false b c = refl
-
 pub any-append : (test : Record → Bool) (xs ys : List Record) → any test (xs ++ ys) ≡ (any test xs || any test ys)
 any-append test [] ys = refl
-any-append test (x ∷ xs) ys = rw (any-append test xs ys) (or-assoc (test x) (any test xs) (any test ys))
+any-append test (x ∷ xs) ys = rw (any-append test xs ys) (sym (or-assoc (test x) (any test xs) (any test ys)))
 
 -- a log without writes stands for no bytes
 pub bytes-none : (rs : List Record) → any isWrite rs ≡ false → bytes rs ≡ []

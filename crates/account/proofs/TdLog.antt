@@ -1,19 +1,20 @@
 -- The log of an IN TD, TRB by TRB, before any Normal was short. Assumes nothing.
 use Prim.Native.Nat.{ℕ, _+_, _<_, _≤_}
 use mathlib.Core.Path.{_≡_, refl, _∙_}
-use mathlib.Core.Bool.{Bool, true, false, cond}
+use mathlib.Core.Bool.{false}
 use mathlib.Core.List.{List, [], _∷_, _++_}
 use mathlib.Core.Option.{none}
 use lib.ListN.{length}
 use Rattle.trb.specs.declared.NormalTrb.{NormalTrb}
 use Rattle.trb.specs.declared.TransferTrb.{TransferTrb}
 use Rattle.trb.specs.declared.TransferTrbVariant.the-variants.{Normal}
-use Rattle.log.specs.Calls.{Out, silent}
+use Rattle.log.specs.Calls.{Out}
 use Rattle.log.specs.Records.{when}
 use Rattle.log.specs.declared.Record.{Record}
 use Rattle.td_part.specs.Parts.{edtlaAfter}
 use Rattle.td_part.specs.declared.TdProcessingState.the-variants.{Default, ShortTransfer}
-use Rattle.walks.specs.Walk.{join, walk}
+use Rattle.walks.specs.Walk.{walk}
+use Rattle.walks.proofs.WalkLaws.{walk-records}
 use Rattle.in_td.specs.Td.{processTrb, ended}
 use Rattle.in_td.specs.declared.InTd.{InTd}
 use Rattle.in_td.specs.declared.TdProcessed.{TdProcessed}
@@ -31,19 +32,11 @@ logFrom td start edtla count ts = recordsFrom td (reached start edtla Default co
 
 -- after a short Normal nothing is written
 later-writeless : (td : InTd) (short : ℕ) (p : TdProcessed) (ts : List TransferTrb) → p .progress .state ≡ ShortTransfer short → any isWrite (recordsFrom td p ts) ≡ false
-unfolding walk
-later-writeless td short p [] h = refl
-later-writeless td short p (t ∷ ts) h =
-    let l : Later short o = later-step td short p h t in
-    by-test (ended p) (l .writeless) (later-writeless td short (o .state) ts (l .next))
-  where
-    o : Out TdProcessed
-    o = processTrb td p t
-
-    by-test : (b : Bool) → any isWrite (o .records) ≡ false → any isWrite (recordsFrom td (o .state) ts) ≡ false
-        → any isWrite (cond b (silent p) (join o (walk (processTrb td) ended (o .state) ts)) .records) ≡ false
-    by-test true own rest = refl
-    by-test false own rest = any-append isWrite (o .records) (recordsFrom td (o .state) ts) ∙ rw (own, rest)
+later-writeless td short =
+    walk-records (processTrb td) ended (λ (p : TdProcessed). p .progress .state ≡ ShortTransfer short) (λ (rs : List Record). any isWrite rs ≡ false)
+    refl
+    (λ rs ss f g. any-append isWrite rs ss ∙ rw (f, g))
+    (λ p t h. let l : Later short (processTrb td p t) = later-step td short p h t in (l .writeless, l .next))
 
 -- the log of a TRB of another kind, and of those behind it
 pub record OtherLog (td : InTd) (start : ℕ) (ts : List TransferTrb) (rs : List Record) : Type 0 where

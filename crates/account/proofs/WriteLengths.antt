@@ -14,13 +14,14 @@ use Rattle.trb.specs.declared.NormalTrb.{NormalTrb}
 use Rattle.trb.specs.declared.SlotId.{SlotId}
 use Rattle.trb.specs.declared.TransferTrb.{TransferTrb}
 use Rattle.trb.specs.declared.TransferTrbVariant.the-variants.{Normal}
+use Rattle.trb.proofs.TestLaws.{le-or-lt}
 use Rattle.log.specs.Records.{when}
 use Rattle.log.specs.declared.Record.{Record}
 use Rattle.td_part.specs.Parts.{edtlaAfter}
 use Rattle.in_td.specs.Td.{processTd, inTd}
 use Rattle.in_td.specs.declared.InTd.{InTd}
 use Rattle.account.specs.Guest.{normalOf, normalLength, requested, isWrite, writeLengths}
-use Rattle.account.proofs.GuestLaws.{le-or-lt, writeLengths-append, writeLengths-none}
+use Rattle.account.proofs.GuestLaws.{writeLengths-append, writeLengths-none}
 use Rattle.account.proofs.StepLaws.{normal-or-other, any-when, leftFrom, fullRecords, writeLengths-full, shortDue, shortEvent}
 use Rattle.account.proofs.TdLog.{logFrom, log-none, OtherLog, other-log, full-log, ShortLog, short-log}
 

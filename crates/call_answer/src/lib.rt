@@ -18,7 +18,7 @@ fn put_first_records(text: &mut [u8], at: usize, records: usize, log: &[u8]) -> 
     ensures { λ r. ⌜ Written maxRecordLines (now (text .entry)) at (recordLines records (now (log .entry))) r (now (text .exit)) ⌝ }
 {
     let shown = call_text::first_records(log, records);
-    call_text::put_records(text, at, shown)
+    log_text::put_lines(text, at, shown)
 }
 
 // Of creation, submission and cancel.

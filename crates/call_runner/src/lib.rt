@@ -12,13 +12,6 @@ ghost use Rattle.state_text.specs.Widths.{maxAnswer};
 // Characters of the longest line that can be good: a letter, a kind, an address, flags, A and B, and the spaces between them.
 const MAX_CALL_LINE: usize = 48;
 
-// The smaller of two numbers.
-fn least(n: usize, room: usize) -> usize
-    ensures { λ r. ⌜ (r ≤ n) × (r ≤ room) ⌝ }
-{
-    if n < room { n } else { room }
-}
-
 // ---- Lines
 
 // How far a run has come: lines taken, bytes of the text not yet written out, and whether every line was good.
@@ -51,7 +44,7 @@ fn make_room(text: &[u8], end: usize) -> usize
     if end <= text.len() - state_text::MAX_ANSWER {
         return end;
     }
-    let written = least(end, text.len());
+    let written = call_script::least(end, text.len());
     io::write_all(STDOUT_FILENO, &text[..written]);
     0
 }
@@ -283,7 +276,7 @@ fn run_input(
 
 // Writes out what is left of the text and, where the run ended at a bad line, its number.
 fn finish(text: &[u8], progress: Progress) {
-    let written = least(progress.end, text.len());
+    let written = call_script::least(progress.end, text.len());
     io::write_all(STDOUT_FILENO, &text[..written]);
     if !progress.good {
         io::write_all(STDOUT_FILENO, b"bad line ");

@@ -51,6 +51,13 @@ pub fn script_limits() -> ScriptLimits
     }
 }
 
+// Of what a script asks for, as much as there is: the smaller of two numbers.
+pub fn least(n: usize, room: usize) -> usize
+    ensures { λ r. ⌜ (r ≤ n) × (r ≤ room) ⌝ }
+{
+    if n < room { n } else { room }
+}
+
 // Numbers of a line.
 const MAX_NUMBERS: usize = 5;
 

@@ -2,14 +2,13 @@
 use trb::TrbProcessingResult;
 ghost use mathlib.Core.Path.{_≡_};
 ghost use mathlib.Core.Bool.{cond};
-ghost use Prim.Native.Nat.{_+_, _*_, _/_, _≤_, min};
+ghost use Prim.Native.Nat.{_+_, _*_, _≤_, min};
 ghost use lib.ListN.{length, take};
-ghost use Rattle.trb.specs.Limits.{recordLength, minLog};
+ghost use Rattle.trb.specs.Limits.{recordLength};
 ghost use Rattle.numerals.specs.Digits.{decimalOf, hexOf};
 ghost use Rattle.numerals.specs.Written.{Written};
-ghost use Rattle.log_text.specs.Lines.{linesIn};
 ghost use Rattle.call_text.specs.Words.{cycleOn, cycleOff};
-ghost use Rattle.call_text.specs.Widths.{maxDecimal, maxHex, maxResult, maxFirst, maxCarriedOut, maxRecordLines};
+ghost use Rattle.call_text.specs.Widths.{maxDecimal, maxHex, maxResult, maxFirst, maxCarriedOut};
 ghost use Rattle.call_text.specs.Lines.{behind, refusedLine, acceptedLine, addressFields, resultFields, completedLine, carriedOutLine, countOf};
 
 // ---- Words
@@ -141,22 +140,6 @@ pub fn first_records(log: &[u8], records: usize) -> &[u8]
 {
     let end = records_length(records, log.len());
     &log[..end]
-}
-
-// Writes a line for each record of a log.
-pub fn put_records(text: &mut [u8], at: usize, log: &[u8]) -> usize
-    requires { ⌜ at + maxRecordLines ≤ length (now text) ⌝ }
-    requires { ⌜ length (now log) ≤ minLog ⌝ }
-    ensures { λ r. ⌜ Written maxRecordLines (now (text .entry)) at (linesIn (length (now (log .entry)) / recordLength) (now (log .entry))) r (now (text .exit)) ⌝ }
-{
-    let records = log.len() / trb::RECORD_LENGTH;
-    let mut next = at;
-    let mut index = 0;
-    while index < records {
-        next = log_text::put_line(text, next, log, index);
-        index += 1;
-    }
-    next
 }
 
 // A count as a number of 32 bits, which every count of a block or a call is.

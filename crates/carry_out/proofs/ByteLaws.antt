@@ -3,49 +3,16 @@
 use Prim.Native.Nat.{ℕ, _+_, _-_, _≤_, _<_}
 use mathlib.Core.Bool.{true}
 use mathlib.Core.Logic.{_⊎_, ⊎-elim}
-use mathlib.Core.Path.{_≡_, refl, sym, ap, _∙_}
-use mathlib.Core.List.{List, _++_, append-assoc}
+use mathlib.Core.Path.{_≡_, refl, _∙_}
+use mathlib.Core.List.{List}
 use native.Mathlib.Omega.{arith}
-use lib.ListN.{length, take, drop, getD, length-append, length-take, length-drop, List·getD-append}
-use lib.Seq.{length-take-le, getD-append-add, getD-take, getD-drop}
-use Rattle.buffers.specs.Patch.{patch}
+use lib.ListN.{length, take, drop, getD, length-take, length-drop}
+use lib.Seq.{length-take-le, getD-take, getD-drop}
+use Rattle.buffers.proofs.PatchLaws.{getD-patch-in, getD-patch-before, getD-patch-behind}
 use Rattle.log.specs.declared.Record.{Record}
 use Rattle.guest_memory.proofs.PlaceLaws.{placeOf-in}
 use Rattle.carry_out.specs.Writes.{movesBytes, afterRecord}
 use Rattle.carry_out.proofs.WriteLaws.{afterRecord-cases}
-
--- ---- a patch, byte by byte
-
-module _ (l : List ℕ) (at : ℕ) (vs : List ℕ) (fits : at + length vs ≤ length l) where
-  front : length (take at l) ≡ at
-  front = length-take-le at l (omega arith)
-
-  getD-patch-in : (i : ℕ) → i < length vs → getD (patch l at vs) (at + i) 0 ≡ getD vs i 0
-  unfolding patch
-  getD-patch-in i h =
-      rw (append-assoc (take at l) vs (drop (at + length vs) l))
-      (ap (λ (k : ℕ). getD (take at l ++ (vs ++ drop (at + length vs) l)) (k + i) 0) (sym front)
-      ∙ getD-append-add (take at l) (vs ++ drop (at + length vs) l) i 0
-      ∙ List·getD-append vs (drop (at + length vs) l) 0 i h)
-
-  getD-patch-before : (k : ℕ) → k < at → getD (patch l at vs) k 0 ≡ getD l k 0
-  unfolding patch
-  getD-patch-before k h =
-      rw (append-assoc (take at l) vs (drop (at + length vs) l))
-      (List·getD-append (take at l) (vs ++ drop (at + length vs) l) 0 k (omega (arith, front)) ∙ getD-take at l k 0 h)
-
-  getD-patch-behind : (k : ℕ) → at + length vs ≤ k → getD (patch l at vs) k 0 ≡ getD l k 0
-  unfolding patch
-  getD-patch-behind k h =
-      let head : length (take at l ++ vs) ≡ at + length vs = omega (arith, length-append (take at l) vs, front) in
-      let past : k ≡ length (take at l ++ vs) + (k - (at + length vs)) = omega arith in
-      let whole : at + length vs + (k - (at + length vs)) ≡ k = omega arith in
-      ap (λ (j : ℕ). getD (take at l ++ vs ++ drop (at + length vs) l) j 0) past
-      ∙ getD-append-add (take at l ++ vs) (drop (at + length vs) l) (k - (at + length vs)) 0
-      ∙ getD-drop (at + length vs) l (k - (at + length vs)) 0
-      ∙ ap (λ (j : ℕ). getD l j 0) whole
-
--- ---- a record, byte by byte
 
 module _ (bytes : List ℕ) (base : ℕ) (memory : List ℕ) (r : Record) where
   -- a write in the device's data and in the window: the device's byte number start + i stands at address + i

@@ -12,6 +12,7 @@ use Rattle.trb.specs.declared.EventDataTrb.{EventDataTrb}
 use Rattle.trb.specs.declared.NormalTrb.{NormalTrb}
 use Rattle.trb.specs.declared.SlotId.{SlotId}
 use Rattle.trb.specs.declared.TransferTrb.{TransferTrb}
+use Rattle.trb.proofs.TestLaws.{le-or-lt}
 use Rattle.log.specs.Calls.{Out}
 use Rattle.td_part.specs.declared.TdProcessingState.the-variants.{Default, ShortTransfer}
 use Rattle.td_part.specs.declared.TdProgress.{TdProgress}
@@ -26,7 +27,6 @@ use Rattle.standard.proofs.XhciLaws.{fate-complete}
 use Rattle.conformance.specs.Translate.{told, wrote}
 use Rattle.conformance.specs.TranslateControl.{DataTrb, normalAt, eventDataAt, DataTd, noData, dataTd, dataTrbs, dataTdTrbs, dataOf, dataTdOf, finalCode}
 use Rattle.conformance.proofs.PartsConform.{trbOf, Reached, Shortened, Conforms, full-reached, full-conforms, short-shortened, short-conforms, passed-shortened, passed-conforms, event-reached, event-conforms, event-shortened, event-passed}
-use Rattle.conformance.proofs.InConforms.{le-or-lt}
 
 -- the walk from the progress w on
 abbrev pub chainFrom : ControlTd → TdProgress → List TransferTrb → Out TdProgress

@@ -14,7 +14,7 @@ use Rattle.trb.specs.declared.SlotId.{SlotId}
 use Rattle.trb.specs.declared.TransferTrb.{TransferTrb}
 use Rattle.trb.specs.declared.TransferTrbVariant.{TransferTrbVariant}
 use Rattle.trb.specs.declared.TransferTrbVariant.the-variants.{SetupStage, DataStage, StatusStage, Normal, EventData, NoOp, Isoch, Unrecognized}
-use Rattle.log.specs.Calls.{Out, silent}
+use Rattle.log.specs.Calls.{Out}
 use Rattle.log.specs.Records.{transferEvent, when}
 use Rattle.log.specs.declared.Record.{Record}
 use Rattle.td_part.specs.declared.TdInfo.{TdInfo}
@@ -23,7 +23,8 @@ use Rattle.td_part.specs.declared.TdProcessingState.the-variants.{Default, Shor
 use Rattle.td_part.specs.declared.TdProgress.{TdProgress}
 use Rattle.td_part.specs.declared.TrbDmaInfo.{TrbDmaInfo}
 use Rattle.td_part.specs.Parts.{ofNormal, ofDataStage, atStart, residualOf, codeAfter, putDma, realizeDma}
-use Rattle.walks.specs.Walk.{join, walk}
+use Rattle.walks.specs.Walk.{walk}
+use Rattle.walks.proofs.WalkLaws.{walk-records}
 use Rattle.in_td.specs.Td.{goesOn, shortNormal, normalIn, handleNormal, processTrb, processTd, inTd, ended, unprocessed}
 use Rattle.in_td.specs.Td as td
 use Rattle.control_chain.specs.Chain.{edtlaZeroed, realizeDataStage, realizeNormal, realizeTrb, realizeChain, never, inputTd}
@@ -42,14 +43,7 @@ module _ (e : EndpointId) (s : SlotId) where
   -- of any walk whose steps log such records
   walk-ids : {S T : Type 0} (step : S → T → Out S) (stopped : S → Bool) → ((p : S) (t : T) → AllOf e s (step p t .records))
       → (p : S) (ts : List T) → AllOf e s (walk step stopped p ts .records)
-  unfolding walk
-  walk-ids step stopped h p [] = tt
-  walk-ids step stopped h p (t ∷ ts) = by-test (stopped p) (all-append (step p t .records) (walk step stopped (step p t .state) ts .records) (h p t) (walk-ids step stopped h (step p t .state) ts))
-    where
-      by-test : (b : Bool) → AllOf e s (step p t .records ++ walk step stopped (step p t .state) ts .records)
-          → AllOf e s (cond b (silent p) (join (step p t) (walk step stopped (step p t .state) ts)) .records)
-      by-test true k = tt
-      by-test false k = k
+  walk-ids step stopped h p ts = walk-records step stopped (λ p. Unit {0}) (AllOf e s) tt all-append (λ p t g. (h p t, tt)) p ts tt
 
   module _ (n : ℕ) where
     abbrev info : TdInfo

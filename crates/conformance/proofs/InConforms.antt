@@ -5,9 +5,9 @@ use mathlib.Core.Path.{_≡_, refl, sym, ap, _∙_}
 use mathlib.Core.Bool.{Bool, true, false, cond}
 use mathlib.Core.List.{List, [], _∷_, _++_, append-nil}
 use mathlib.Core.Option.{some}
-use mathlib.Core.Logic.{_⊎_, inl, inr, ⊎-elim}
+use mathlib.Core.Logic.{⊎-elim}
 use native.Mathlib.Omega.{arith}
-use borrow.Author.Tests.{leb-true, leb-false, le-leb, lt-leb, ne-eqb}
+use borrow.Author.Tests.{le-leb, lt-leb, ne-eqb}
 use lib.Dec.{leb, eqb}
 use Rattle.trb.specs.Codes.{codeNumber}
 use Rattle.trb.specs.declared.CompletionCode.{CompletionCode}
@@ -22,6 +22,7 @@ use Rattle.trb.specs.declared.TransferTrbVariant.{TransferTrbVariant}
 use Rattle.trb.specs.declared.TransferTrbVariant.the-variants.{SetupStage, DataStage, StatusStage, Normal, EventData, NoOp, Isoch, Unrecognized}
 use Rattle.trb.specs.declared.TrbProcessingResult.{TrbProcessingResult}
 use Rattle.trb.specs.declared.TrbProcessingResult.the-variants as result
+use Rattle.trb.proofs.TestLaws.{le-or-lt}
 use Rattle.log.specs.Calls.{Out, silent}
 use Rattle.td_part.specs.declared.TdProcessingState.the-variants.{ShortTransfer}
 use Rattle.td_part.specs.declared.TdProgress.{TdProgress}
@@ -45,13 +46,6 @@ pub record Agrees (st : InTrbProcessingStatus) (o : Outcome) (n : ℕ) (before t
   pub halt : haltOf (made .state .result) ≡ haltIn st (haltedFrom o n before ts)
 
 -- ---- Outcomes
-
-pub le-or-lt : (m n : ℕ) → (m ≤ n) ⊎ (n < m)
-le-or-lt m n = by-test (leb m n) refl
-  where
-    by-test : (b : Bool) → leb m n ≡ b → (m ≤ n) ⊎ (n < m)
-    by-test true e = inl (leb-true m n e)
-    by-test false e = inr (leb-false m n e)
 
 -- a failure falls where a short packet would
 module _ (n requested : ℕ) (before : List Trb) (b : Trb) (behind : List Trb) (all : requested ≡ asked before + (transferLength b + asked behind)) where

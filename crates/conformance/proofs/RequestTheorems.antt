@@ -14,6 +14,7 @@ use Rattle.trb.specs.declared.SlotId.{SlotId}
 use Rattle.trb.specs.declared.TransferTrb.{TransferTrb}
 use Rattle.trb.specs.declared.TransferTrbVariant.{TransferTrbVariant}
 use Rattle.trb.specs.declared.TransferTrbVariant.the-variants.{SetupStage, DataStage, StatusStage, Normal, EventData, NoOp, Isoch, Unrecognized}
+use Rattle.trb.proofs.TestLaws.{or-false-left, or-false-right, le-or-lt}
 use Rattle.log.specs.Records.{controlRequest, encode}
 use Rattle.phase_table.specs.declared.Outcome.{Outcome}
 use Rattle.phase_table.specs.Outcomes.{holds, phaseAfter}
@@ -24,7 +25,6 @@ use Rattle.control_block.specs.declared.ControlTransfer.{ControlTransfer}
 use Rattle.control_transfer.specs.Transfers.{begun, lengthened, grown, takenBy, heldInto, transferAfter}
 use Rattle.standard.specs.Usb.{Setup, setupBytes}
 use Rattle.conformance.specs.Requests.{setupTrb, Sized, Requests, isSetup, anySetup, transferBehind}
-use Rattle.conformance.proofs.InConforms.{le-or-lt}
 
 -- bit 7 of a byte
 leb-toHost : (x : ℕ) → x < 2 ^ 8 → leb 128 x ≡ eqb (x / 2 ^ 7 % 2) 1
@@ -53,14 +53,6 @@ encode-setupBytes p fits a w q e s =
     rw (q .bmRequestType, q .bRequest, q .wValue, q .wIndex, value, index)
 
 -- ---- A TRB behind the Setup
-
-or-false-left : (b c : Bool) → (b || c) ≡ false → b ≡ false
-or-false-left true c h = h
-or-false-left false c h = refl
-
-or-false-right : (b c : Bool) → (b || c) ≡ false → c ≡ false
-or-false-right true c h = absurd (false≢true (sym h))
-or-false-right false c h = h
 
 module _ (p : Setup) (a : ℕ) where
   grown-requests : (w : ControlTransfer) (n : ℕ) → Requests p a w → Requests p a (grown w n)

@@ -9,7 +9,7 @@ use Rattle.trb.specs.Limits.{maxHeld, maxCollected}
 use Rattle.trb.specs.declared.Answer.{Answer}
 use Rattle.trb.specs.declared.Answer.the-variants.{Accepted}
 use Rattle.trb.specs.declared.Refusal.{Refusal}
-use Rattle.walks.proofs.AllLaws.{and-left, and-right}
+use Rattle.trb.proofs.TestLaws.{and-left, and-right}
 use Rattle.held.specs.Sound.{heldSound}
 use Rattle.held.specs.declared.EndpointKind.the-variants.{Control}
 use Rattle.control_block.specs.declared.ControlBlock.{ControlBlock}

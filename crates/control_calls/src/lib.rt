@@ -47,20 +47,13 @@ fn silent(block: ControlBlock, at: usize) -> ControlRan
     }
 }
 
-// The smaller of two numbers.
-fn least(n: usize, room: usize) -> usize
-    ensures { λ r. ⌜ (r ≤ n) × (r ≤ room) ⌝ }
-{
-    if n < room { n } else { room }
-}
-
 // What the block is at; `collect` is the whole collect buffer.
 fn standing(block: ControlBlock, collect: &[u8]) -> ControlStanding {
     let phase = block.phase;
     let state = block.state;
     let request = block.request;
-    let in_reach = least(collect.len(), trb::MAX_COLLECTED);
-    let collected = least(block.collected, in_reach);
+    let in_reach = call_script::least(collect.len(), trb::MAX_COLLECTED);
+    let collected = call_script::least(block.collected, in_reach);
     ControlStanding {
         phase: phase,
         state: state,
@@ -118,7 +111,7 @@ fn submit(
     requires { ⌜ length (now log) ≤ minLog ⌝ }
     ensures { λ r. ⌜ r .end ≤ at + maxAnswer ⌝ }
 {
-    let end = least(lent, collect.len());
+    let end = call_script::least(lent, collect.len());
     let submitted = control_endpoint::submit_trb(log, &mut collect[..end], block, t, base, window);
     let answer = submitted.answer;
     let after = submitted.block;
@@ -241,7 +234,7 @@ pub fn run(
         Call::CreateControl(_, _) => bad(block, at),
         Call::Submit(t) => submit(text, at, log, collect, lent, block, t, base, window),
         Call::CompleteWithResult(status, n) => {
-            let given = least(n, data.len());
+            let given = call_script::least(n, data.len());
             complete(
                 text,
                 at,
@@ -255,7 +248,7 @@ pub fn run(
             )
         }
         Call::CompleteWithout(n) => {
-            let given = least(n, data.len());
+            let given = call_script::least(n, data.len());
             complete(
                 text,
                 at,

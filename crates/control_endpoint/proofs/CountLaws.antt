@@ -1,9 +1,8 @@
 -- 01, The log: a call writes at most 128 records. Assumes nothing.
-use Prim.Native.Nat.{ℕ, suc, _+_, _*_, _≤_}
+use Prim.Native.Nat.{ℕ, _≤_}
 use mathlib.Core.Path.{_≡_, refl}
 use mathlib.Core.Bool.{Bool, true, false, cond}
-use mathlib.Core.List.{List, [], _∷_, _++_}
-use native.Mathlib.Nat.{mul-suc}
+use mathlib.Core.List.{List, [], _∷_}
 use native.Mathlib.Omega.{arith}
 use lib.Dec.{lit≤}
 use lib.ListN.{length, take, length-append, length-take}
@@ -16,11 +15,10 @@ use Rattle.trb.specs.declared.ControlRequestProcessingResult.the-variants as de
 use Rattle.trb.specs.declared.ControlSubmissionState.{ControlSubmissionState}
 use Rattle.trb.specs.declared.ControlSubmissionState.the-variants.{NoTrbSubmitted, CollectingTd, ParserError, UnexpectedTrb, AwaitingControlRequest}
 use Rattle.trb.specs.declared.TransferTrb.{TransferTrb}
-use Rattle.log.specs.declared.Record.{Record}
 use Rattle.log.specs.Records.{controlRequest, when}
+use Rattle.log.proofs.RecordLaws.{length-when}
 use Rattle.td_part.specs.Parts.{atStart}
-use Rattle.walks.specs.Walk.{walk}
-use Rattle.walks.proofs.WalkLaws.{Walker, walkOf}
+use Rattle.walks.proofs.WalkLaws.{length-walk}
 use Rattle.phase_table.specs.declared.Outcome.{Outcome}
 use Rattle.phase_table.specs.Outcomes.{restarts, requests}
 use Rattle.phase_table.specs.Table.{becomes}
@@ -36,31 +34,12 @@ use Rattle.control_questions.proofs.SubmissionLaws as submitting
 use Rattle.control_submit.specs.Submits.{recordsOf, accepted, submissionBy, submission}
 use Rattle.control_complete.specs.Completes as complete
 
--- a walk logs at most so many records for each element
-module _ {S T : Type 0} (k : Walker S T) where
-  few-cons : (s : S) (t : T) (ts : List T) (v : Bool) → k .stopped s ≡ v → k .Good s
-      → length (walkOf k (k .step s t .state) ts .records) ≤ k .most * length ts
-      → length (walkOf k s (t ∷ ts) .records) ≤ k .most * suc (length ts)
-  unfolding walk
-  few-cons s t ts true e g ih = rw e (omega arith)
-  few-cons s t ts false e g ih = rw e
-      (omega (arith, ih, k .fine s t g .few, mul-suc (k .most) (length ts), length-append (k .step s t .records) (walkOf k (k .step s t .state) ts .records)))
-
-  length-walk : (s : S) (ts : List T) → k .Good s → length (walkOf k s ts .records) ≤ k .most * length ts
-  unfolding walk
-  length-walk s [] g = omega arith
-  length-walk s (t ∷ ts) g = few-cons s t ts (k .stopped s) refl g (length-walk (k .step s t .state) ts (k .fine s t g .good))
-
 module _ (b : ControlBlock) (held : b .held ≤ maxHeld) where
   length-held : length (heldTrbs b) ≤ maxHeld
   length-held = omega (arith, length-take (b .held) (b .trbs))
 
   length-dropped : length (successes (b .«endpoint_id») (b .«slot_id») (heldTrbs b)) ≤ maxHeld
   length-dropped = omega (arith, length-successes (b .«endpoint_id») (b .«slot_id») (heldTrbs b), length-held)
-
-  length-when : (due : Bool) (r : Record) → length (when due r) ≤ maxRecords
-  length-when true r = lit≤ tt
-  length-when false r = lit≤ tt
 
   length-recordsOf : (o : Outcome) → length (recordsOf o b) ≤ maxRecords
   unfolding recordsOf
@@ -69,7 +48,7 @@ module _ (b : ControlBlock) (held : b .held ≤ maxHeld) where
       by : (restart : Bool)
           → length (cond restart (successes (b .«endpoint_id») (b .«slot_id») (heldTrbs b)) (when (requests o) (controlRequest (b .request) (b .«endpoint_id») (b .«slot_id»)))) ≤ maxRecords
       by true = omega (arith, length-dropped)
-      by false = length-when (requests o) (controlRequest (b .request) (b .«endpoint_id») (b .«slot_id»))
+      by false = omega (arith, length-when (requests o) (controlRequest (b .request) (b .«endpoint_id») (b .«slot_id»)))
 
   length-bad : (a : ℕ) → length (complete.badTrb b a .records) ≤ maxRecords
   unfolding complete.badTrb

@@ -13,14 +13,11 @@ use Rattle.trb.specs.declared.SlotId.{SlotId}
 use Rattle.trb.specs.declared.TransferTrb.{TransferTrb}
 use Rattle.log.specs.declared.Record.{Record}
 use Rattle.log.specs.Calls.{Out, counted}
-use Rattle.log.specs.Records.{transferEvent, when}
+use Rattle.log.specs.Records.{transferEvent}
+use Rattle.log.proofs.RecordLaws.{length-when}
 use Rattle.walks.specs.Walk.{walk}
 use Rattle.walks.proofs.WalkLaws.{Walker}
 use Rattle.control_held.specs.Held.{interruptOf, successOf, successes}
-
-length-when : (due : Bool) (r : Record) → length (when due r) ≤ 1
-length-when true r = lit≤ tt
-length-when false r = lit≤ tt
 
 module _ (e : EndpointId) (s : SlotId) where
   pub length-successOf : (t : TransferTrb) → length (successOf e s t) ≤ 1

@@ -10,7 +10,7 @@ use Rattle.trb.specs.Trbs.{transferLength}
 use Rattle.trb.specs.declared.Answer.the-variants.{Accepted}
 use Rattle.trb.specs.declared.Refusal.the-variants.{BufferTooShort, UnsoundBlock, OutOfTurn, TransferTooLong, TooManyHeld, OutsideGuestMemory, TooMuchCollected}
 use Rattle.trb.specs.declared.TransferTrb.{TransferTrb}
-use Rattle.walks.proofs.AllLaws.{and-left, and-right}
+use Rattle.trb.proofs.TestLaws.{and-left, and-right}
 use Rattle.phase_table.specs.declared.Outcome.{Outcome}
 use Rattle.phase_table.specs.Outcomes.{holds, restarts}
 use Rattle.phase_table.specs.Table.{becomes}

@@ -188,13 +188,6 @@ fn make_up(at: usize, block: InBlock, state: TdBasedNormalSubmissionState) -> In
     silent(after, at)
 }
 
-// The first so many bytes of the device's data, or all of it.
-fn bytes_given(n: usize, room: usize) -> usize
-    ensures { λ r. ⌜ r ≤ room ⌝ }
-{
-    if n < room { n } else { room }
-}
-
 // Makes a call on the endpoint. `data` is the device's data, of which the call says how much is given.
 pub fn run(
     text: &mut [u8],
@@ -217,11 +210,11 @@ pub fn run(
         Call::CreateControl(_, _) => bad(block, at),
         Call::Submit(t) => submit(text, at, log, block, t, base, window),
         Call::CompleteWithResult(status, n) => {
-            let given = bytes_given(n, data.len());
+            let given = call_script::least(n, data.len());
             complete_with_result(text, at, log, block, status, &data[..given], base, window)
         }
         Call::CompleteWithout(n) => {
-            let given = bytes_given(n, data.len());
+            let given = call_script::least(n, data.len());
             complete(
                 text,
                 at,

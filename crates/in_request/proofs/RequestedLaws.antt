@@ -15,10 +15,10 @@ use Rattle.trb.specs.Trbs.{transferLength}
 use Rattle.trb.specs.declared.TransferTrb.{TransferTrb}
 use Rattle.trb.specs.declared.TransferTrbVariant.{TransferTrbVariant}
 use Rattle.trb.specs.declared.TransferTrbVariant.the-variants.{SetupStage, DataStage, StatusStage, Normal, EventData, NoOp, Isoch, Unrecognized}
+use Rattle.trb.proofs.TestLaws.{and-left, and-right}
 use Rattle.held.specs.Sound.{supported, soundTrb, heldSound}
 use Rattle.held.specs.declared.EndpointKind.the-variants.{In}
 use Rattle.walks.specs.All.{all}
-use Rattle.walks.proofs.AllLaws.{and-left, and-right}
 use Rattle.account.specs.Guest.{normalOf, lengthOf, requested}
 
 -- after i TRBs of ts, with their sum

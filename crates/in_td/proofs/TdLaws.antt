@@ -1,34 +1,30 @@
 -- Laws of an IN TD: the cases of its definitions as equations, and what holds of each step of the walk. Assumes nothing.
-use Prim.Native.Nat.{ℕ, _+_, _≤_}
-use mathlib.Core.Path.{_≡_, refl, sym, ap, _∙_}
-use mathlib.Core.Bool.{Bool, true, false, cond, _||_}
+use Prim.Native.Nat.{ℕ}
+use mathlib.Core.Path.{_≡_, ap, _∙_}
+use mathlib.Core.Bool.{Bool, true, false, cond}
 use mathlib.Core.List.{List}
-use native.Mathlib.Nat.{add-zero}
-use native.Mathlib.Omega.{arith}
-use lib.Dec.{eqb, lit≤}
-use lib.ListN.{length}
+use lib.Dec.{eqb}
 use borrow.Author.Tests.{eq-eqb, ne-eqb}
 use Rattle.trb.specs.declared.CompletionCode.{CompletionCode}
-use Rattle.trb.specs.declared.CompletionCode.the-variants.{Success, ShortPacket}
+use Rattle.trb.specs.declared.CompletionCode.the-variants.{Success, ShortPacket, StallError, UsbTransactionError}
 use Rattle.trb.specs.declared.InTrbProcessingStatus.{InTrbProcessingStatus}
 use Rattle.trb.specs.declared.InTrbProcessingStatus.the-variants as status
 use Rattle.trb.specs.declared.NormalTrb.{NormalTrb}
 use Rattle.trb.specs.declared.TransferTrb.{TransferTrb}
 use Rattle.trb.specs.declared.TransferTrbVariant.{TransferTrbVariant}
 use Rattle.trb.specs.declared.TransferTrbVariant.the-variants.{SetupStage, DataStage, StatusStage, Normal, EventData, NoOp, Isoch, Unrecognized}
-use Rattle.log.specs.declared.Record.{Record}
+use Rattle.trb.specs.declared.TrbProcessingResult.{TrbProcessingResult}
+use Rattle.trb.specs.declared.TrbProcessingResult.the-variants as result
 use Rattle.log.specs.Calls.{Out, silent, Meets}
-use Rattle.log.specs.Records.{transferEvent, when}
-use Rattle.td_part.specs.declared.TdInfo.{TdInfo}
 use Rattle.td_part.specs.declared.TdProcessingState.{TdProcessingState}
 use Rattle.td_part.specs.declared.TdProcessingState.the-variants.{Default, ShortTransfer}
 use Rattle.td_part.specs.declared.TdProgress.{TdProgress}
-use Rattle.td_part.specs.declared.TrbDmaInfo.{TrbDmaInfo}
-use Rattle.td_part.specs.Parts.{Within, ofNormal, residualOf, codeAfter, progressed, eventAt, putDma, realizeDma}
+use Rattle.td_part.specs.Parts.{Within, ofNormal, residualOf, putDma, realizeDma, reportTrb}
+use Rattle.td_part.proofs.PartLaws as parts
 use Rattle.walks.proofs.WalkLaws.{Walker, Fine}
 use Rattle.in_td.specs.declared.InTd.{InTd}
 use Rattle.in_td.specs.declared.TdProcessed.{TdProcessed}
-use Rattle.in_td.specs.Td.{goingOn, goesOn, shortNormal, normalIn, handleNormal, trbIn, processTrb, ended}
+use Rattle.in_td.specs.Td.{goingOn, goesOn, endsWith, shortNormal, normalIn, handleNormal, trbIn, processTrb, ended}
 
 -- ---- Cases
 
@@ -68,51 +64,42 @@ Good td p = Within (td .info) (p .progress)
 abbrev Kept : InTd → TdProgress → Out TdProcessed → Type 0
 Kept td w o = Fine (Good td) counts 2 (goingOn w) o
 
-length-when : (due : Bool) (r : Record) → length (when due r) ≤ 1
-length-when true r = lit≤ tt
-length-when false r = lit≤ tt
-
 by-test : (P : Out TdProcessed → Type 0) (b : Bool) (x y : Out TdProcessed) → P x → P y → P (cond b x y)
 by-test P true x y p q = p
 by-test P false x y p q = q
 
 module _ (td : InTd) (w : TdProgress) (g : Within (td .info) w) where
+  -- whatever the result
+  kept-result : (r : TrbProcessingResult) {o : Out TdProgress} → parts.Kept (td .info) w o → Kept td w (endsWith r o)
+  kept-result r f = record { good = f .good; few = f .few; counts = f .counts }
+
   kept-silent : Kept td w (goesOn (silent w))
-  kept-silent = record { good = g; few = lit≤ tt; counts = sym (add-zero _) }
-
-  -- a TRB that logs one record where it is due, and leaves the place in the device's data
-  kept-when : (edtla : ℕ) (state : TdProcessingState) (due : Bool) (r : Record) → Kept td w (goesOn (progressed w (w .start) edtla state (when due r)))
-  kept-when edtla state due r = record { good = record { within = g .within }; few = omega (arith, length-when due r); counts = refl }
-
-  kept-dma : (d : TrbDmaInfo) (due : Bool) (code : CompletionCode) → Fine (Within (td .info)) (λ (w : TdProgress). w .records) 2 w (putDma (td .info) w d due code)
-  unfolding putDma
-  kept-dma d due code = record {
-    good = record { within = omega (arith, g .within) };
-    few = omega (arith, length-when due (eventAt (td .info) (d .addr) (residualOf (td .info) w (d .«transfer_length»)) code));
-    counts = refl;
-  }
+  kept-silent = kept-result result.Ok (parts.kept-silent (td .info) w g)
 
   kept-full : (n : NormalTrb) (a : ℕ) → Kept td w (goesOn (realizeDma (td .info) w (ofNormal n a)))
-  unfolding realizeDma
-  kept-full n a = let f = kept-dma (ofNormal n a) _ _ in record { good = f .good; few = f .few; counts = f .counts }
+  kept-full n a = kept-result result.Ok (parts.kept-realized (td .info) w g (ofNormal n a))
+
+  kept-failed : (r : TrbProcessingResult) (n : NormalTrb) (a : ℕ) (code : CompletionCode) → Kept td w (endsWith r (putDma (td .info) w (ofNormal n a) true code))
+  kept-failed r n a code = kept-result r (parts.kept-dma (td .info) w g (ofNormal n a) true code)
 
   kept-short : (st : InTrbProcessingStatus) (n : NormalTrb) (a : ℕ) (cycle : Bool) → Kept td w (shortNormal st (td .info) w n a cycle)
   kept-short status.Success n a cycle = kept-full n a
-  kept-short status.Stall n a cycle = let f = kept-dma (ofNormal n a) true _ in record { good = f .good; few = f .few; counts = f .counts }
-  kept-short status.TransactionError n a cycle = let f = kept-dma (ofNormal n a) true _ in record { good = f .good; few = f .few; counts = f .counts }
-  kept-short status.Disconnect n a cycle = let f = kept-dma (ofNormal n a) true _ in record { good = f .good; few = f .few; counts = f .counts }
+  kept-short status.Stall n a cycle = kept-failed (result.StallAt a cycle) n a StallError
+  kept-short status.TransactionError n a cycle = kept-failed (result.TransactionErrorAt a cycle) n a UsbTransactionError
+  kept-short status.Disconnect n a cycle = kept-failed result.Disconnect n a UsbTransactionError
+
+  kept-report : (due : Bool) (a residual : ℕ) (code : CompletionCode) → Kept td w (goesOn (reportTrb (td .info) w (w .edtla) due a residual code))
+  kept-report due a residual code = kept-result result.Ok (parts.kept-report (td .info) w g (w .edtla) due a residual code)
 
   kept-normal : (s : TdProcessingState) (n : NormalTrb) (a : ℕ) (cycle : Bool) → Kept td w (normalIn s td w n a cycle)
-  kept-normal (ShortTransfer missing) n a cycle = kept-when (w .edtla) (w .state) (n .«interrupt_on_completion») (eventAt (td .info) a missing ShortPacket)
+  kept-normal (ShortTransfer missing) n a cycle = kept-report (n .«interrupt_on_completion») a missing ShortPacket
   kept-normal Default n a cycle = by-test (Kept td w) (eqb (residualOf (td .info) w (n .«transfer_length»)) 0) _ _ (kept-full n a) (kept-short (td .status) n a cycle)
 
   kept-by : (x : TransferTrbVariant) (a : ℕ) (cycle : Bool) → Kept td w (trbIn x td w a cycle)
   unfolding handleNormal
   kept-by (Normal n) a cycle = kept-normal (w .state) n a cycle
-  kept-by (EventData e) a cycle =
-      kept-when 0 (w .state) (e .«interrupt_on_completion»)
-      (transferEvent (e .«event_data») (w .edtla) (codeAfter (w .state)) true (td .info .«endpoint_id») (td .info .«slot_id»))
-  kept-by (NoOp n) a cycle = kept-when (w .edtla) (w .state) (n .«interrupt_on_completion») (eventAt (td .info) a 0 Success)
+  kept-by (EventData e) a cycle = kept-result result.Ok (parts.kept-eventData (td .info) w g e)
+  kept-by (NoOp n) a cycle = kept-report (n .«interrupt_on_completion») a 0 Success
   kept-by (SetupStage t) a cycle = kept-silent
   kept-by (DataStage t) a cycle = kept-silent
   kept-by (StatusStage t) a cycle = kept-silent

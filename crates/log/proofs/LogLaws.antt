@@ -1,9 +1,10 @@
 -- Laws of the log, by which callers reason: none of them needs the bytes of a record. Assumes nothing.
-use Prim.Native.Nat.{ℕ, zero, suc, _+_, _*_, _≤_, _<_}
+use Prim.Native.Nat.{ℕ, suc, _+_, _-_, _*_, _≤_, _<_}
 use mathlib.Core.Path.{_≡_, refl, sym, ap, _∙_}
 use mathlib.Core.List.{List, [], _∷_, _++_, append-assoc}
 use native.Mathlib.Omega.{arith}
 use lib.ListN.{length, drop, length-append}
+use lib.Seq.{drop-drop}
 use Rattle.buffers.specs.Patch.{patch}
 use Rattle.buffers.proofs.PatchLaws.{length-patch, patch-none, patch-append, drop-patch}
 use Rattle.trb.specs.Limits.{recordLength}
@@ -63,3 +64,12 @@ recordAt-logged l k r rs h f = ap (λ (l : List Record). head l) (recordsIn-logg
     head : List Record → Record
     head [] = r
     head (x ∷ xs) = x
+
+-- of n records, those from number i on are record number i and those behind it
+pub recordsIn-next : (n i : ℕ) (l : List ℕ) → i < n
+    → recordsIn (n - i) (drop (recordLength * i) l) ≡ recordAt l i ∷ recordsIn (n - (i + 1)) (drop (recordLength * (i + 1)) l)
+unfolding recordAt
+recordsIn-next n i l h =
+    let left : n - i ≡ suc (n - (i + 1)) = omega arith in
+    let at : recordLength * i + recordLength ≡ recordLength * (i + 1) = omega arith in
+    rw (left, drop-drop recordLength (recordLength * i) l, at)

@@ -1,12 +1,14 @@
--- Laws of a record's bytes. Assumes nothing.
-use Prim.Native.Nat.{ℕ}
+-- Laws of a record: its bytes, and a record that is logged where it is due. Assumes nothing.
+use Prim.Native.Nat.{ℕ, _≤_}
+use mathlib.Core.Bool.{Bool, true, false}
 use mathlib.Core.Path.{_≡_, refl}
 use mathlib.Core.List.{List, _++_}
+use lib.Dec.{lit≤}
 use lib.ListN.{length, drop}
 use Rattle.buffers.proofs.LittleEndianLaws.{leNumber-leBytes}
 use Rattle.trb.specs.Limits.{recordLength}
 use Rattle.log.specs.declared.Record.{Record}
-use Rattle.log.specs.Records.{encode, decode, Fits}
+use Rattle.log.specs.Records.{encode, decode, Fits, when}
 
 pub length-encode : (r : Record) → length (encode r) ≡ recordLength
 length-encode r = refl
@@ -30,3 +32,8 @@ decode-encode r rest h = λ i. record {
   value = leNumber-leBytes 2 (r .value) (h .value) i;
   index = leNumber-leBytes 2 (r .index) (h .index) i;
 }
+
+-- one record at most
+pub length-when : (due : Bool) (r : Record) → length (when due r) ≤ 1
+length-when true r = lit≤ tt
+length-when false r = lit≤ tt

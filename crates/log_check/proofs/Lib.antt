@@ -1,2 +1,1 @@
-pub mod RecordsInLaws
 pub mod WellFormedLaws

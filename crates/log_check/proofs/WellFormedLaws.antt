@@ -9,8 +9,8 @@ use lib.Seq.{getD-drop}
 use Rattle.trb.specs.Limits.{recordLength}
 use Rattle.log.specs.Records.{recordAt}
 use Rattle.log.specs.Logs.{recordsIn}
+use Rattle.log.proofs.LogLaws.{recordsIn-next}
 use Rattle.log_check.specs.WellFormed.{kindKnown, kindsKnown}
-use Rattle.log_check.proofs.RecordsInLaws.{recordsIn-next}
 
 -- of n records, those from number i on are of known kinds where number i and those behind it are
 pub kindsKnown-next : (n i : ℕ) (l : List ℕ) → i < n

@@ -1,22 +1,19 @@
 -- Laws of a log's text. Assumes nothing.
 use Prim.Native.Nat.{ℕ, _/_, _≤_}
-use mathlib.Core.Bool.{Bool, true, false, cond, _&&_}
+use mathlib.Core.Bool.{Bool, true, false, cond}
 use mathlib.Core.Path.{_≡_, refl}
 use mathlib.Core.List.{List}
 use native.Mathlib.Omega.{arith}
 use lib.ListN.{length}
 use borrow.Author.Tests.{leb-true}
 use Rattle.trb.specs.Limits.{recordLength, maxPrintedLog}
+use Rattle.trb.proofs.TestLaws.{and-left}
 use Rattle.log_check.specs.WellFormed.{wellFormed}
 use Rattle.numerals.specs.Digits.{digitChar, digits, trimmed, decimalOf}
 use Rattle.log_text.specs.Widths.{maxText}
 use Rattle.log_text.specs.Lines.{linesIn}
 use Rattle.log_text.specs.LogText.{refusedText, printable, logText}
 use Rattle.log_text.proofs.LineLaws.{length-linesIn}
-
-and-left : (a b : Bool) → (a && b) ≡ true → a ≡ true
-and-left true b e = refl
-and-left false b e = e
 
 length-refusedText : length refusedText ≤ maxText
 unfolding digitChar digits trimmed decimalOf refusedText

@@ -24,9 +24,13 @@ maxFields = maxKinds + maxIds + maxNumbers
 abbrev pub maxLine : ℕ
 maxLine = maxFields + 2 * 8 + 1
 
+-- the lines of a log of n bytes
+abbrev pub linesRoom : ℕ → ℕ
+linesRoom n = n / recordLength * maxLine
+
 -- the text of the longest log that is printed
 abbrev pub maxText : ℕ
-maxText = maxPrintedLog / recordLength * maxLine
+maxText = linesRoom maxPrintedLog
 
 abbrev pub textLimits : TextLimits
 textLimits = record { line = maxLine; text = maxText }

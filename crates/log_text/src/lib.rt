@@ -9,7 +9,7 @@ ghost use Rattle.trb.specs.Limits.{recordLength, maxPrintedLog};
 ghost use Rattle.numerals.specs.Digits.{decimalOf, hexOf};
 ghost use Rattle.numerals.specs.Widths.{decimalPlaces, hexPlaces};
 ghost use Rattle.numerals.specs.Written.{Written};
-ghost use Rattle.log_text.specs.Widths.{maxKinds, maxIds, maxNumbers, maxFields, maxLine, maxText, textLimits};
+ghost use Rattle.log_text.specs.Widths.{maxKinds, maxIds, maxNumbers, maxFields, maxLine, linesRoom, maxText, textLimits};
 ghost use Rattle.log_text.specs.Lines.{field, kindFields, idFields, numberFields, fieldsOf, lineOf, linesIn};
 ghost use Rattle.log_text.specs.LogText.{refusedText, logText, Prints};
 
@@ -114,19 +114,18 @@ pub fn put_line(text: &mut [u8], at: usize, log: &[u8], index: usize) -> usize
 // ---- The text of a log
 
 // Writes a line for each record of a log.
-fn put_lines(text: &mut [u8], log: &[u8]) -> usize
-    requires { ⌜ maxText ≤ length (now text) ⌝ }
-    requires { ⌜ length (now log) ≤ maxPrintedLog ⌝ }
-    ensures { λ r. ⌜ Written maxText (now (text .entry)) 0 (linesIn (length (now (log .entry)) / recordLength) (now (log .entry))) r (now (text .exit)) ⌝ }
+pub fn put_lines(text: &mut [u8], at: usize, log: &[u8]) -> usize
+    requires { ⌜ at + linesRoom (length (now log)) ≤ length (now text) ⌝ }
+    ensures { λ r. ⌜ Written (linesRoom (length (now (log .entry)))) (now (text .entry)) at (linesIn (length (now (log .entry)) / recordLength) (now (log .entry))) r (now (text .exit)) ⌝ }
 {
     let records = log.len() / trb::RECORD_LENGTH;
-    let mut at = 0;
+    let mut next = at;
     let mut index = 0;
     while index < records {
-        at = put_line(text, at, log, index);
+        next = put_line(text, next, log, index);
         index += 1;
     }
-    at
+    next
 }
 
 // Writes what a log that is refused prints.
@@ -150,7 +149,7 @@ fn put_log(text: &mut [u8], log: &[u8]) -> usize
     if !log_check::well_formed(log) {
         return put_refused(text);
     }
-    put_lines(text, log)
+    put_lines(text, 0, log)
 }
 
 // Room for the text of any log.

@@ -1,18 +1,12 @@
 -- Laws of writing text: one writer behind another, and what a loop has left to write. Assumes nothing.
-use Prim.Native.Nat.{ℕ, _+_, _≤_, _<_}
+use Prim.Native.Nat.{ℕ, _+_, _≤_}
 use mathlib.Core.Path.{_≡_, refl, sym, _∙_}
-use mathlib.Core.List.{List, [], _∷_, _++_}
-use native.Mathlib.Numerals.{add-one}
+use mathlib.Core.List.{List, [], _++_}
 use native.Mathlib.Omega.{arith}
-use lib.ListN.{length, set, length-append}
-use lib.Seq.{set-split, append-snoc}
+use lib.ListN.{length, length-append}
 use Rattle.buffers.specs.Patch.{patch}
 use Rattle.buffers.proofs.PatchLaws.{length-patch, patch-none, patch-append}
 use Rattle.numerals.specs.Written.{Written}
-
-pub set-patch : (t : List ℕ) (at v : ℕ) → at < length t → set t at v ≡ patch t at (v ∷ [])
-unfolding patch
-set-patch t at v h = rw (set-split t at v h, add-one, append-snoc)
 
 -- the bytes vs, and then ws behind them
 pub written-append : {a b m r : ℕ} {t t' u vs ws : List ℕ} (at : ℕ) → at + a ≤ length t

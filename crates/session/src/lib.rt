@@ -15,13 +15,6 @@ ghost use Rattle.state_text.specs.Widths.{maxAnswer};
 // The guest window's base at the start.
 pub const FIRST_BASE: u64 = 0x8000;
 
-// The smaller of two numbers.
-fn least(n: usize, room: usize) -> usize
-    ensures { λ r. ⌜ (r ≤ n) × (r ≤ room) ⌝ }
-{
-    if n < room { n } else { room }
-}
-
 // Which endpoint calls are made on.
 pub enum Endpoint {
     Nothing,
@@ -118,7 +111,7 @@ fn after_control(session: Session, ran: ControlRan) -> Ran
 fn move_window(session: Session, at: usize, base: u64, size: usize, window: &mut [u8]) -> Ran
     ensures { λ r. ⌜ r .end ≡ at ⌝ }
 {
-    let end = least(size, window.len());
+    let end = call_script::least(size, window.len());
     script_bytes::fill_guest(&mut window[..end], base);
     let mut next = session;
     next.base = base;
@@ -159,8 +152,8 @@ fn run_in(
     ensures { λ r. ⌜ r .end ≤ at + maxAnswer ⌝ }
 {
     let block = session.in_block;
-    let log_end = least(session.log_length, log.len());
-    let window_end = least(session.window_length, window.len());
+    let log_end = call_script::least(session.log_length, log.len());
+    let window_end = call_script::least(session.window_length, window.len());
     let ran = in_calls::run(
         text,
         at,
@@ -189,8 +182,8 @@ fn run_control(
     ensures { λ r. ⌜ r .end ≤ at + maxAnswer ⌝ }
 {
     let block = session.control_block;
-    let log_end = least(session.log_length, log.len());
-    let window_end = least(session.window_length, window.len());
+    let log_end = call_script::least(session.log_length, log.len());
+    let window_end = call_script::least(session.window_length, window.len());
     let ran = control_calls::run(
         text,
         at,

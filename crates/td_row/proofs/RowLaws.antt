@@ -2,7 +2,7 @@
 use Prim.Native.Nat.{ℕ, suc, _+_, _*_, _-_, _<_, _≤_, _^_}
 use mathlib.Core.Path.{_≡_, refl, sym, ap, _∙_, subst}
 use mathlib.Core.Bool.{Bool, true, false, _&&_}
-use mathlib.Core.List.{List, [], _∷_}
+use mathlib.Core.List.{List}
 use native.Mathlib.Numerals.{add-one}
 use native.Mathlib.Omega.{arith}
 use lib.ListN.{length, take, drop, getD, drop-of-length-le}
@@ -12,7 +12,7 @@ use Rattle.trb.specs.declared.TransferTrb.{TransferTrb}
 use Rattle.log.specs.Calls.{Out, silent, Meets}
 use Rattle.held.specs.Places.{pastEnd}
 use Rattle.walks.specs.Walk.{walk}
-use Rattle.walks.proofs.WalkLaws.{Walked, walkOf, walked-none, walked-turn, walked-end}
+use Rattle.walks.proofs.WalkLaws.{Walked, walkOf, walk-stopped, walked-none, walked-turn, walked-end}
 use Rattle.log.specs.Logs.{logged, AllFit}
 use Rattle.log.proofs.LogLaws.{logged-none}
 use Rattle.log.proofs.CallLaws.{meets}
@@ -57,11 +57,6 @@ nearer i n h = omega arith
 abbrev pub WalkedRow : InTd → ℕ → List TransferTrb → List ℕ → List ℕ → TdProcessed → ℕ → Type 0
 WalkedRow td n ts l₀ l p i = Walked (tdWalker td) unprocessed (take n ts) l₀ l p i
 
-walk-ended : (td : InTd) (p : TdProcessed) (ts : List TransferTrb) → ended p ≡ true → walk (processTrb td) ended p ts ≡ silent p
-unfolding walk
-walk-ended td p [] e = refl
-walk-ended td p (t ∷ ts) e = rw e
-
 module _ (td : InTd) (n : ℕ) (ts : List TransferTrb) (l₀ : List ℕ) where
   pub walkedRow-none : WalkedRow td n ts l₀ l₀ unprocessed 0
   walkedRow-none = walked-none (tdWalker td) unprocessed (take n ts) l₀ (record { within = omega arith })
@@ -71,7 +66,7 @@ module _ (td : InTd) (n : ℕ) (ts : List TransferTrb) (l₀ : List ℕ) where
     ended-turn : (l' : List ℕ) (r : TdProcessed) → ended p ≡ true → Meets (silent p) (p .progress .records) l r l' → WalkedRow td n ts l₀ l' r (i + 1)
     ended-turn l' r e m =
         let same : walk (processTrb td) ended p (drop (i + 1) (take n ts)) ≡ walk (processTrb td) ended p (drop i (take n ts)) =
-        walk-ended td p (drop (i + 1) (take n ts)) e ∙ sym (walk-ended td p (drop i (take n ts)) e) in
+        walk-stopped (tdWalker td) p (drop (i + 1) (take n ts)) e ∙ sym (walk-stopped (tdWalker td) p (drop i (take n ts)) e) in
         rw (m .state, m .log, logged-none l (p .progress .records))
         (record {
           good = w .good;

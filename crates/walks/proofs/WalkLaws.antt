@@ -22,6 +22,10 @@ pub record Fine {S : Type 0} (Good : S → Type 0) (count : S → ℕ) (most : �
   pub few : length (o .records) ≤ most
   pub counts : count (o .state) ≡ count s + length (o .records)
 
+-- a step that does nothing
+pub fine-silent : {S : Type 0} {Good : S → Type 0} {count : S → ℕ} (most : ℕ) (s : S) → Good s → Fine Good count most s (silent s)
+fine-silent most s g = record { good = g; few = omega arith; counts = sym (add-zero _) }
+
 -- a kind of walk: its step, what stops it, how a state counts the records, at most how many records an element logs
 pub record Walker (S T : Type 0) : Type 1 where
   pub step : S → T → Out S
@@ -52,24 +56,35 @@ module _ {S T : Type 0} (k : Walker S T) where
   unfolding walk
   walk-none s = refl
 
-  walk-stopped : (s : S) (ts : List T) → k .stopped s ≡ true → walkOf k s ts ≡ silent s
+  -- a state that stops the walk
+  pub walk-stopped : (s : S) (ts : List T) → k .stopped s ≡ true → walkOf k s ts ≡ silent s
   unfolding walk
   walk-stopped s [] e = refl
   walk-stopped s (t ∷ ts) e = rw e
 
-  counts-cons : (s : S) (t : T) (ts : List T) (v : Bool) → k .stopped s ≡ v → k .Good s
-      → k .count (walkOf k (k .step s t .state) ts .state) ≡ k .count (k .step s t .state) + length (walkOf k (k .step s t .state) ts .records)
-      → k .count (walkOf k s (t ∷ ts) .state) ≡ k .count s + length (walkOf k s (t ∷ ts) .records)
-  unfolding walk
-  counts-cons s t ts true e g ih = rw e (sym (add-zero _))
-  counts-cons s t ts false e g ih = rw e
-      (omega (arith, ih, k .fine s t g .counts, length-append (k .step s t .records) (walkOf k (k .step s t .state) ts .records)))
+  fine-cons : (s : S) (t : T) (ts : List T) (v : Bool) → k .stopped s ≡ v → k .Good s
+      → Fine (k .Good) (k .count) (k .most * length ts) (k .step s t .state) (walkOf k (k .step s t .state) ts)
+      → Fine (k .Good) (k .count) (k .most * suc (length ts)) s (walkOf k s (t ∷ ts))
+  fine-cons s t ts true e g ih =
+      rw (walk-stopped s (t ∷ ts) e) (fine-silent (k .most * suc (length ts)) s g)
+  fine-cons s t ts false e g ih =
+      let f : Fine (k .Good) (k .count) (k .most) s (k .step s t) = k .fine s t g in
+      let long = length-append (k .step s t .records) (walkOf k (k .step s t .state) ts .records) in
+      rw (walk-cons s t ts e)
+      (record { good = ih .good; few = omega (arith, ih .few, f .few, long, mul-suc (k .most) (length ts)); counts = omega (arith, ih .counts, f .counts, long) })
+
+  -- of a walk holds what holds of its steps
+  walk-fine : (s : S) (ts : List T) → k .Good s → Fine (k .Good) (k .count) (k .most * length ts) s (walkOf k s ts)
+  walk-fine s [] g = rw (walk-none s) (fine-silent (k .most * 0) s g)
+  walk-fine s (t ∷ ts) g = fine-cons s t ts (k .stopped s) refl g (walk-fine (k .step s t .state) ts (k .fine s t g .good))
 
   -- a walk counts its records
   pub walk-counts : (s : S) (ts : List T) → k .Good s → k .count (walkOf k s ts .state) ≡ k .count s + length (walkOf k s ts .records)
-  unfolding walk
-  walk-counts s [] g = sym (add-zero _)
-  walk-counts s (t ∷ ts) g = counts-cons s t ts (k .stopped s) refl g (walk-counts (k .step s t .state) ts (k .fine s t g .good))
+  walk-counts s ts g = walk-fine s ts g .counts
+
+  -- a walk logs at most so many records for each element
+  pub length-walk : (s : S) (ts : List T) → k .Good s → length (walkOf k s ts .records) ≤ k .most * length ts
+  length-walk s ts g = walk-fine s ts g .few
 
   -- before the first element
   pub walked-none : (s : S) (ts : List T) (l : List ℕ) → k .Good s → Walked k s ts l l s 0
@@ -127,3 +142,18 @@ module _ {S T : Type 0} (k : Walker S T) where
     -- where a state stops the walk
     pub walked-stop : (l : List ℕ) (s : S) (i : ℕ) → Walked k s₀ (take n xs) l₀ l s i → k .stopped s ≡ true → Meets (walkOf k s₀ (take n xs)) (k .count s₀) l₀ s l
     walked-stop l s i w h = walked-done s₀ (take n xs) l₀ l s i w (walk-stopped s (drop i (take n xs)) h)
+
+-- what holds of no records, of two lists one behind the other, and of what a step logs, holds of what a walk logs
+module _ {S T : Type 0} (step : S → T → Out S) (stopped : S → Bool) (Good : S → Type 0) (P : List Record → Type 0)
+    (none : P []) (both : (rs ss : List Record) → P rs → P ss → P (rs ++ ss)) (each : (s : S) (t : T) → Good s → P (step s t .records) × Good (step s t .state)) where
+  pub walk-records : (s : S) (ts : List T) → Good s → P (walk step stopped s ts .records)
+  unfolding walk
+  walk-records s [] g = none
+  walk-records s (t ∷ ts) g = by-test (stopped s) (both (step s t .records) _ (each s t g .0) (walk-records (step s t .state) ts (each s t g .1)))
+    where
+      rest : Out S
+      rest = walk step stopped (step s t .state) ts
+
+      by-test : (b : Bool) → P (step s t .records ++ rest .records) → P (cond b (silent s) (join (step s t) rest) .records)
+      by-test true going = none
+      by-test false going = going

@@ -3,6 +3,7 @@ use Prim.Native.Nat.{_*_}
 use native.Mathlib.Omega.{arith}
 use lib.ListN.{length-take}
 use Rattle.trb.specs.Limits.{recordLength}
+use Rattle.numerals.proofs.WrittenLaws.{written-within}
 use borrow.Author.Needs.{needs}
 use Rattle.call_answer.proofs.put_first_records.Statement.{statement}
 use Rattle.call_answer.proofs.put_first_records.Tie as tie
@@ -10,17 +11,21 @@ use Rattle.call_answer.proofs.put_first_records.Tie as tie
 first-records-requires : tie.Need-first-records-requires
 first-records-requires c κs = search needs
 
-put-records-requires : tie.Need-put-records-requires
-put-records-requires c κs =
+put-lines-requires : tie.Need-put-lines-requires
+put-lines-requires c κs =
     let s = c .before .before .before .before in
-    (search needs, rw (c .before .first-records .ensures) (omega (arith, s .pre .1, length-take (recordLength * s .args .records) (s .args .log .now))))
+    rw (c .before .first-records .ensures) (omega (arith, s .pre .0, s .pre .1, length-take (recordLength * s .args .records) (s .args .log .now)))
 
 same-length : tie.Need-same-length
 same-length c = search needs
 
 returns : tie.Need-returns
-returns c = rw (c .before .before .before .before .first-records .ensures) at (c .before .before .put-records .ensures)
+returns c =
+    let shown = c .before .before .before .before in
+    let s = shown .before .before .before in
+    written-within (omega (arith, s .pre .1, length-take (recordLength * s .args .records) (s .args .log .now)))
+    (rw (shown .first-records .ensures) at (c .before .before .put-lines .ensures))
 
 pub put-first-records-spec : {M : Type 1} → statement M
 put-first-records-spec =
-    tie.close (tie.spec first-records-requires put-records-requires same-length returns)
+    tie.close (tie.spec first-records-requires put-lines-requires same-length returns)

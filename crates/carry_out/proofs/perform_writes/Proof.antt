@@ -7,7 +7,7 @@ use lib.ListN.{length, drop}
 use borrow.Author.Needs.{needs}
 use Rattle.trb.specs.Limits.{recordLength}
 use Rattle.log.specs.Logs.{recordsIn}
-use Rattle.log_check.proofs.RecordsInLaws.{recordsIn-next}
+use Rattle.log.proofs.LogLaws.{recordsIn-next}
 use Rattle.carry_out.proofs.WriteLaws.{Remaining, remaining-inRange, remaining-next}
 use Rattle.carry_out.proofs.perform_writes.Statement.{statement}
 use Rattle.carry_out.proofs.perform_writes.Tie as tie

@@ -8,7 +8,7 @@ use borrow.Author.Needs.{needs}
 use borrow.Author.Tests.{not-true, not-false}
 use Rattle.trb.specs.Limits.{recordLength}
 use Rattle.log.specs.Logs.{recordsIn}
-use Rattle.log_check.proofs.RecordsInLaws.{recordsIn-next}
+use Rattle.log.proofs.LogLaws.{recordsIn-next}
 use Rattle.carry_out.specs.Writes.{writesInRange}
 use Rattle.carry_out.proofs.writes_in_range.Statement.{statement}
 use Rattle.carry_out.proofs.writes_in_range.Tie as tie

@@ -38,8 +38,8 @@ submit-requires c κs = search needs
 enum-known-call-2 : tie.Need-enum-known-call-2
 enum-known-call-2 c = search needs
 
-bytes-given-requires : tie.Need-bytes-given-requires
-bytes-given-requires c κs = search needs
+least-requires : tie.Need-least-requires
+least-requires c κs = search needs
 
 slice-aggregate-complete-with-result : tie.Need-slice-aggregate-complete-with-result
 slice-aggregate-complete-with-result c = sym (length-take-le _ _ (search needs))
@@ -50,8 +50,8 @@ complete-with-result-requires c κs = search needs
 enum-known-call-3 : tie.Need-enum-known-call-3
 enum-known-call-3 c = search needs
 
-bytes-given-requires-2 : tie.Need-bytes-given-requires-2
-bytes-given-requires-2 c κs = search needs
+least-requires-2 : tie.Need-least-requires-2
+least-requires-2 c κs = search needs
 
 slice-aggregate-complete : tie.Need-slice-aggregate-complete
 slice-aggregate-complete c = sym (length-take-le _ _ (search needs))
@@ -170,11 +170,11 @@ run-spec =
     enum-known-call
     submit-requires
     enum-known-call-2
-    bytes-given-requires
+    least-requires
     slice-aggregate-complete-with-result
     complete-with-result-requires
     enum-known-call-3
-    bytes-given-requires-2
+    least-requires-2
     slice-aggregate-complete
     complete-requires
     enum-told-5

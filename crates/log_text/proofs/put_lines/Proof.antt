@@ -1,6 +1,6 @@
 -- `log_text::put_lines` meets its contract. The loop's invariant: the lines from record number `index` on remain to be written, and those before
 -- took no more than their share of the room. The measure is the number of records left. Assumes nothing.
-use Prim.Native.Nat.{_-_, _*_, _/_, _≤_}
+use Prim.Native.Nat.{_+_, _-_, _*_, _/_, _≤_}
 use mathlib.Core.Path.{_≡_}
 use native.Mathlib.Nat.{sub-zero}
 use native.Mathlib.Omega.{arith}
@@ -15,24 +15,24 @@ use Rattle.log_text.proofs.put_lines.Statement.{statement}
 use Rattle.log_text.proofs.put_lines.Tie as tie
 
 abbrev Inv-loop : tie.InvT-loop
-Inv-loop text₀ log records at₀ index₀ text at index =
-    (index ≤ records) × (at ≤ index * maxLine)
-    × Remaining text₀ 0 (linesIn records log) text at (linesIn (records - index) (drop (recordLength * index) log))
+Inv-loop text₀ at log records next₀ index₀ text next index =
+    (index ≤ records) × (next ≤ at + index * maxLine)
+    × Remaining text₀ at (linesIn records log) text next (linesIn (records - index) (drop (recordLength * index) log))
 
 abbrev μ-loop : tie.MeasureT-loop
-μ-loop text₀ log records at₀ index₀ text at index = records - index
+μ-loop text₀ at log records next₀ index₀ text next index = records - index
 
 loop-holds : tie.Need-loop-holds Inv-loop μ-loop
 loop-holds c =
     let s = c .before .before in
     let l = s .args .log .now in
-    (search needs, search needs, rw sub-zero (remaining-all _ _ _ (omega (arith, length-linesIn (length l / recordLength) l, s .pre .0, s .pre .1))))
+    (search needs, search needs, rw sub-zero (remaining-all _ _ _ (omega (arith, length-linesIn (length l / recordLength) l, s .pre))))
 
 put-line-requires : tie.Need-put-line-requires Inv-loop μ-loop
 put-line-requires c κs =
     let o = c .before .before in
     let s = o .before .before .before in
-    (omega (arith, o .loop .inv .1, o .loop .inv .2 .size, s .pre .0, s .pre .1), search needs)
+    (omega (arith, o .loop .inv .1, o .loop .inv .2 .size, s .pre), search needs)
 
 add-index : tie.Need-add-index Inv-loop μ-loop
 add-index c = search needs
@@ -61,7 +61,7 @@ returns c =
     let s = o .before .before .before in
     let l = s .args .log .now in
     let none : length l / recordLength - o .loop .index ≡ 0 = search needs in
-    remaining-none (omega (arith, length-linesIn (length l / recordLength) l, s .pre .1)) (rw none at (o .loop .inv .2))
+    remaining-none (length-linesIn (length l / recordLength) l) (rw none at (o .loop .inv .2))
 
 pub put-lines-spec : {M : Type 1} → statement M
 put-lines-spec =

@@ -1,4 +1,6 @@
 -- `log_text::put_log` meets its contract: each way out rewrites the definition's tests by those that led there. Assumes nothing.
+use native.Mathlib.Omega.{arith}
+use Rattle.numerals.proofs.WrittenLaws.{written-within}
 use borrow.Author.Tests.{le-leb, lt-leb, not-true, not-false}
 use Rattle.log_text.specs.LogText.{printable, logText}
 use borrow.Author.Needs.{needs}
@@ -46,7 +48,8 @@ returns-3 c =
     let w = c .before .before in
     let t = w .before .before in
     let f = t .before in
-    simp (le-leb _ _ (f .before .if1 .left), ← f .well-formed .ensures, not-false (f .well-formed .result) (t .if2 .left)) (w .put-lines .ensures)
+    simp (le-leb _ _ (f .before .if1 .left), ← f .well-formed .ensures, not-false (f .well-formed .result) (t .if2 .left))
+    (written-within (omega (arith, f .before .if1 .left)) (w .put-lines .ensures))
 
 pub put-log-spec : {M : Type 1} → statement M
 put-log-spec =

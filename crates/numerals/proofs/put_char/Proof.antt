@@ -1,7 +1,7 @@
 -- `numerals::put_char` meets its contract: a byte that is set is a patch of one byte. Assumes nothing.
 use mathlib.Core.Path.{refl}
 use native.Mathlib.Omega.{arith}
-use Rattle.numerals.proofs.WrittenLaws.{set-patch}
+use Rattle.buffers.proofs.PatchLaws.{set-patch}
 use borrow.Author.Needs.{needs}
 use Rattle.numerals.proofs.put_char.Statement.{statement}
 use Rattle.numerals.proofs.put_char.Tie as tie
