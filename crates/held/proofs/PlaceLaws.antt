@@ -1,7 +1,8 @@
 -- Laws of the places. Assumes nothing.
-use Prim.Native.Nat.{ℕ, suc, _+_, _<_, _≤_, min}
+use Prim.Native.Nat.{ℕ, zero, suc, _+_, _<_, _≤_, min}
 use mathlib.Core.Path.{_≡_, refl, sym, ap, _∙_}
 use mathlib.Core.List.{List, [], _∷_, _++_, append-assoc, append-nil}
+use native.Mathlib.Nat.{not-suc-le-zero}
 use native.Mathlib.Numerals.{add-one}
 use native.Mathlib.Omega.{arith}
 use lib.ListN.{length, drop, getD, set, replicate, length-replicate, replicate-append-replicate, drop-of-length-le}
@@ -26,6 +27,13 @@ blanked-more xs i h =
     (sym (append-assoc b (blankTrb ∷ []) (drop (suc i) xs))
     ∙ ap (λ (l : List TransferTrb). l ++ drop (suc i) xs) (replicate-append-replicate i 1 blankTrb)
     ∙ ap (λ (n : ℕ). replicate (i + 1) blankTrb ++ drop n xs) (sym (add-one i)))
+
+-- the next place is as it was
+pub blanked-next : (xs : List TransferTrb) (i : ℕ) (d : TransferTrb) → i < length xs → getD (blanked i xs) i d ≡ getD xs i d
+unfolding blanked
+blanked-next [] i d h = absurd (not-suc-le-zero h)
+blanked-next (x ∷ xs) zero d h = refl
+blanked-next (x ∷ xs) (suc i) d h = blanked-next xs i d (omega arith)
 
 pub cleared-blanked : (n : ℕ) (xs : List TransferTrb) → n ≤ length xs → blanked n xs ≡ cleared n xs
 unfolding blanked cleared

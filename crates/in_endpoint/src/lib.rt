@@ -403,11 +403,18 @@ pub fn next_completion(
         Ending::Collecting => {}
         Ending::Transfer(status, data_length) => {
             let td = in_td::td_of(endpoint_id, slot_id, status, data_length);
-            let processed = in_td::process_td(log, td, trbs, held);
+            let blank = held::blank();
+            let mut processed = in_td::unprocessed();
+            let mut j = 0;
+            while j < held {
+                let one = trbs[j];
+                processed = in_td::next_trb(log, td, processed, one);
+                trbs[j] = blank;
+                j += 1;
+            }
             let progress = processed.progress;
             walked = processed.result;
             records = progress.records;
-            trbs = held::clear(trbs, held);
             held = 0;
         }
         Ending::Unsupported(addr) => {

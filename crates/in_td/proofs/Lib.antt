@@ -1,1 +1,2 @@
 pub mod TdLaws
+pub mod TurnLaws

@@ -82,6 +82,10 @@ isError result.Disconnect = true
 abbrev pub ended : TdProcessed → Bool
 ended p = isError (p .result)
 
+-- a TRB's turn: an error has ended the walk, or the TRB is processed
+unfoldable pub nextTrb : InTd → TdProcessed → TransferTrb → Out TdProcessed
+nextTrb td p t = cond (ended p) (silent p) (processTrb td p t)
+
 -- before the first TRB
 abbrev pub unprocessed : TdProcessed
 unprocessed = goingOn atStart

@@ -17,7 +17,7 @@ ghost use lib.ListN.{length, take};
 ghost use Rattle.trb.specs.Limits.{recordLength, maxHeld, minLog};
 ghost use Rattle.log.specs.Calls.{Meets};
 ghost use Rattle.td_part.specs.Parts.{Within, ofNormal, residualOf, putDma};
-ghost use Rattle.in_td.specs.Td.{goingOn, endsWith, shortNormal, handleNormal, processTrb, processTd, isError, unprocessed, inTd};
+ghost use Rattle.in_td.specs.Td.{goingOn, endsWith, shortNormal, handleNormal, processTrb, isError, nextTrb, unprocessed, inTd};
 
 // What stays the same over an IN TD.
 pub struct InTd {
@@ -150,7 +150,7 @@ pub fn handle_normal_trb(
 }
 
 // One TRB.
-pub fn process_trb(log: &mut [u8], td: InTd, so_far: TdProcessed, t: TransferTrb) -> TdProcessed
+fn process_trb(log: &mut [u8], td: InTd, so_far: TdProcessed, t: TransferTrb) -> TdProcessed
     requires { ⌜ (recordLength * («so_far» .progress .records + 2) ≤ length (now log)) × Within (td .info) («so_far» .progress) ⌝ }
     ensures { λ r. ⌜ Meets (processTrb td «so_far» t) («so_far» .progress .records) (now (log .entry)) r (now (log .exit)) ⌝ }
 {
@@ -188,7 +188,7 @@ pub fn process_trb(log: &mut [u8], td: InTd, so_far: TdProcessed, t: TransferTrb
     }
 }
 
-pub fn is_error(result: TrbProcessingResult) -> bool
+fn is_error(result: TrbProcessingResult) -> bool
     ensures { λ r. ⌜ r ≡ isError result ⌝ }
 {
     match result {
@@ -228,26 +228,14 @@ pub fn unprocessed() -> TdProcessed
     going_on(td_part::at_start_of_td())
 }
 
-// The walk over the first `held` TRBs.
-pub fn process_td(
-    log: &mut [u8],
-    td: InTd,
-    trbs: [TransferTrb; trb::MAX_HELD],
-    held: usize,
-) -> TdProcessed
-    requires { ⌜ (minLog ≤ length (now log)) × (held ≤ maxHeld) ⌝ }
-    ensures { λ r. ⌜ Meets (processTd td (take held trbs)) 0 (now (log .entry)) r (now (log .exit)) ⌝ }
+// One TRB more is processed, unless an error has ended the walk.
+pub fn next_trb(log: &mut [u8], td: InTd, so_far: TdProcessed, t: TransferTrb) -> TdProcessed
+    requires { ⌜ (recordLength * («so_far» .progress .records + 2) ≤ length (now log)) × Within (td .info) («so_far» .progress) ⌝ }
+    ensures { λ r. ⌜ Meets (nextTrb td «so_far» t) («so_far» .progress .records) (now (log .entry)) r (now (log .exit)) ⌝ }
 {
-    let mut processed = unprocessed();
-    let mut i = 0;
-    while i < held {
-        let t = trbs[i];
-        processed = process_trb(log, td, processed, t);
-        let result = processed.result;
-        if is_error(result) {
-            return processed;
-        }
-        i += 1;
+    let result = so_far.result;
+    if is_error(result) {
+        return so_far;
     }
-    processed
+    process_trb(log, td, so_far, t)
 }

@@ -1,4 +1,4 @@
--- What the entry for a lent row does on its way: the questions, and the walk. Assumes nothing.
+-- What the entry for a lent row does on its way: the questions, and the answer. Assumes nothing.
 use Prim.Native.Nat.{ℕ}
 use mathlib.Core.Bool.{Bool, cond}
 use lib.Dec.{leb}
@@ -13,12 +13,9 @@ use Rattle.trb.specs.declared.Refusal.{Refusal}
 use Rattle.trb.specs.declared.Refusal.the-variants.{BufferTooShort, UnsoundBlock, DeviceResultMismatch, DataTooLong}
 use Rattle.trb.specs.declared.SlotId.{SlotId}
 use Rattle.trb.specs.declared.TdBasedNormalSubmissionState.the-variants.{AwaitingRealTransfer}
-use Rattle.trb.specs.declared.TransferTrb.{TransferTrb}
-use Rattle.log.specs.Calls.{Out, silent}
 use Rattle.in_block.specs.Test.{soundAs}
 use Rattle.in_block.specs.declared.HeldTest.{HeldTest}
-use Rattle.in_td.specs.Td.{inTd, processTrb, ended, unprocessed}
-use Rattle.in_td.specs.declared.InTd.{InTd}
+use Rattle.in_td.specs.Td.{inTd, unprocessed}
 use Rattle.in_td.specs.declared.TdProcessed.{TdProcessed}
 use Rattle.row_plan.specs.declared.RowAsked.{RowAsked}
 use Rattle.row_plan.specs.declared.RowAsked.the-variants as asked
@@ -46,12 +43,6 @@ resultPlan e s k (Given st) n = cond (leb n maxData) (acceptedPlan e s k st n) (
 -- with a log of l bytes, a row of k TRBs and n bytes of data: is the log long enough (1), the block sound (2)?
 unfoldable pub rowPlan : ℕ → EndpointId → SlotId → ℕ → HeldTest → InTrbProcessingResult → ℕ → RowPlan
 rowPlan l e s k t r n = cond (leb minLog l) (cond (soundRow e s k t) (resultPlan e s k r n) (refusedPlan e s UnsoundBlock)) (refusedPlan e s BufferTooShort)
-
--- ---- The walk
-
--- a TRB's turn: an error has ended the walk, or the TRB is processed
-unfoldable pub nextTrb : InTd → TdProcessed → TransferTrb → Out TdProcessed
-nextTrb td p t = cond (ended p) (silent p) (processTrb td p t)
 
 -- ---- The answer
 

@@ -16,7 +16,8 @@ ghost use lib.ListN.{length};
 ghost use Rattle.trb.specs.Limits.{recordLength};
 ghost use Rattle.log.specs.Calls.{Meets};
 ghost use Rattle.td_part.specs.Parts.{Within};
-ghost use Rattle.row_plan.specs.Plans.{refusedPlan, resultPlan, rowPlan, nextTrb, rowAnswer};
+ghost use Rattle.in_td.specs.Td.{nextTrb};
+ghost use Rattle.row_plan.specs.Plans.{refusedPlan, resultPlan, rowPlan, rowAnswer};
 
 pub struct RowCompleted {
     pub answer: CompletionAnswer,
@@ -104,17 +105,13 @@ pub fn ask(
     plan(endpoint_id, slot_id, row_length, result, data_length)
 }
 
-// One TRB more is processed, unless an error has ended the walk.
+// One TRB more has its turn.
 pub fn next_trb(log: &mut [u8], plan: RowPlan, so_far: TdProcessed, t: TransferTrb) -> TdProcessed
     requires { ⌜ (recordLength * («so_far» .progress .records + 2) ≤ length (now log)) × Within (plan .td .info) («so_far» .progress) ⌝ }
     ensures { λ r. ⌜ Meets (nextTrb (plan .td) «so_far» t) («so_far» .progress .records) (now (log .entry)) r (now (log .exit)) ⌝ }
 {
-    let result = so_far.result;
     let td = plan.td;
-    if in_td::is_error(result) {
-        return so_far;
-    }
-    in_td::process_trb(log, td, so_far, t)
+    in_td::next_trb(log, td, so_far, t)
 }
 
 // The answer: the refusal, or what the walk came to.

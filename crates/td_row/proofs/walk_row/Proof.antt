@@ -52,7 +52,7 @@ use Rattle.lent_laws.proofs.Again.{lends-to-call, back-from-call}
 use Rattle.log.specs.Calls.{Meets}
 use Rattle.held.specs.Places.{pastEnd}
 use Rattle.in_td.specs.declared.TdProcessed.{TdProcessed}
-use Rattle.row_plan.specs.Plans.{nextTrb}
+use Rattle.in_td.specs.Td.{nextTrb}
 use Rattle.row_plan.specs.declared.RowPlan.{RowPlan}
 use Rattle.trb.specs.declared.TransferTrb.{TransferTrb}
 use Rattle.td_row.specs.Walkable.{Walkable}
@@ -66,7 +66,8 @@ use Rattle.row_plan.proofs.next_trb as callee
 use Rattle.row_plan.proofs.next_trb.Symbol as callee-def
 use Rattle.row_plan.proofs.next_trb.Symbol.{name as #callee}
 use Rattle.row_plan.proofs.next_trb.Met as callee-thm
-use Rattle.td_row.proofs.RowLaws.{WalkedRow, walkedRow-none, walkedRow-turn, walkedRow-room, walkedRow-end, times-fits, next-fits, nearer}
+use Rattle.in_td.proofs.TurnLaws.{WalkedTd, walkedTd-none, walkedTd-turn, walkedTd-room, walkedTd-end}
+use Rattle.td_row.proofs.RowLaws.{times-fits, next-fits, nearer}
 use Rattle.td_row.proofs.walk_row.Key.{name as #loop}
 use Rattle.td_row.proofs.walk_row as stated
 use Rattle.td_row.proofs.walk_row.Statement.{statement}
@@ -114,7 +115,7 @@ record Turn (plan : RowPlan) (xs : List TransferTrb) (ys : List ℕ) : Type 0 wh
   most : i ≤ plan .count
   v-is : Is S.the-row s (v ∷ [])
   same : length zs ≡ length ys
-  walked-so : WalkedRow (plan .td) (plan .count) xs ys zs s i
+  walked-so : WalkedTd (plan .td) (plan .count) xs ys zs s i
 
 next : {plan : RowPlan} {xs : List TransferTrb} {ys : List ℕ} → Walkable plan (length xs) (length ys) → (u : Turn plan xs ys) → u .i < plan .count → (r : TdProcessed) (w : Val) (ws : List ℕ)
     → Meets (nextTrb (plan .td) (u .s) (getD xs (u .i) pastEnd)) (u .s .progress .records) (u .zs) r ws → length ws ≡ length (u .zs) → Is S.the-row r (w ∷ []) → Turn plan xs ys
@@ -126,7 +127,7 @@ next {plan} {xs} {ys} ok u small r w ws e long is = record {
   most = omega arith;
   v-is = is;
   same = long ∙ u .same;
-  walked-so = walkedRow-turn (plan .td) (plan .count) xs ys (u .zs) (u .s) (u .i) (u .walked-so) (ok .few) small (ok .room) ws r e;
+  walked-so = walkedTd-turn (plan .td) (plan .count) xs ys (u .zs) (u .s) (u .i) (u .walked-so) (ok .few) small (ok .room) ws r e;
 }
 
 module _ {M : Type 1} (𝓤 : URA M) (H : Heap 𝓤) (A : Atoms 𝓤) (W : Given 𝓤 H A) (at-mem : Memory → SProp 𝓤) (run : Routine → Fun 𝓤)
@@ -184,7 +185,7 @@ module _ {M : Type 1} (𝓤 : URA M) (H : Heap 𝓤) (A : Atoms 𝓤) (W : Given
 
   hands : (ν : ℕ) (δ : GName) (u : Turn plan xs ys) (tv : Val) → u .i < count → Is I.the-row (trb u) (tv ∷ []) → ent 𝓤 (⋆ 𝓤 H A (Handed ν δ u)) (Callee 𝓤 H A at-mem run .pre (to-callee ν δ u tv))
   hands ν δ u tv small t-is =
-      qed W (Handed ν δ u) ∵ says ! (walkedRow-room (plan .td) count xs ys (u .zs) (u .s) (u .i) (u .walked-so) (ok .few) small (ok .room)) $
+      qed W (Handed ν δ u) ∵ says ! (walkedTd-room (plan .td) count xs ys (u .zs) (u .s) (u .i) (u .walked-so) (ok .few) small (ok .room)) $
       nothing ! $ move ! (1 ∷ 0 ∷ []) $ join ! $ frame ! $ nothing ! $ owned ! I.the-row (Is I.the-row) (LL.makes I.the-type I′.the-plain 𝓤 H A) (trb u) _ t-is $ fjoin ! $
       owned ! S.the-row (Is S.the-row) (LL.makes S.the-type S′.the-plain 𝓤 H A) (u .s) _ (u .v-is) $ fjoin ! $
       owned ! P.the-row (Is P.the-row) (LL.makes P.the-type P′.the-plain 𝓤 H A) plan _ plan-is $ fjoin ! $ move ! (1 ∷ 0 ∷ []) $ fjoin ! $ done !
@@ -195,7 +196,7 @@ module _ {M : Type 1} (𝓤 : URA M) (H : Heap 𝓤) (A : Atoms 𝓤) (W : Given
   leaves : (u : Turn plan xs ys) → count ≤ u .i → ent 𝓤 (⋆ 𝓤 H A (Left u)) (Post (u .v))
   leaves u over =
       qed W (Left u) ∵ suffices ! _ (ends-at 𝓤 H A stated.ended stayed (stated.clauses 𝓤 H A at-mem run) W (((κ, (κ′, tt)), (q, (q′, tt)), tt, args, vals), tt) (u .v) (u .s) (u .zs, (tt, (tt, tt))) (u .same, (tt, (tt, tt)))) $
-      says ! (walkedRow-end (plan .td) count xs ys (u .zs) (u .s) (u .i) (u .walked-so) (ok .few) over) $
+      says ! (walkedTd-end (plan .td) count xs ys (u .zs) (u .s) (u .i) (u .walked-so) (ok .few) over) $
       nothing ! $ move ! (1 ∷ 0 ∷ []) $ join ! $ move ! (3 ∷ 0 ∷ []) $ join ! $ frame ! $
       nothing ! $ owned ! P.the-row (Is P.the-row) (LL.makes P.the-type P′.the-plain 𝓤 H A) plan _ plan-is $ fjoin ! $ move ! (1 ∷ 0 ∷ []) $ fjoin ! $ move ! (1 ∷ 0 ∷ []) $ fjoin ! $
       owned ! S.the-row (Is S.the-row) (LL.makes S.the-type S′.the-plain 𝓤 H A) (u .s) _ (u .v-is) $ move ! (1 ∷ 0 ∷ []) $ done !
@@ -206,8 +207,8 @@ module _ {M : Type 1} (𝓤 : URA M) (H : Heap 𝓤) (A : Atoms 𝓤) (W : Given
   Nearer-wf : WellFounded Nearer
   Nearer-wf = InvImage·wf (λ (u : Turn plan xs ys). count - u .i) (Nat·lt-wfRel .wf)
 
-  begun : WalkedRow (plan .td) count xs ys ys (plan .start) 0
-  begun = subst (λ (p : TdProcessed). WalkedRow (plan .td) count xs ys ys p 0) (sym (ok .start)) (walkedRow-none (plan .td) count xs ys)
+  begun : WalkedTd (plan .td) count xs ys ys (plan .start) 0
+  begun = subst (λ (p : TdProcessed). WalkedTd (plan .td) count xs ys ys p 0) (sym (ok .start)) (walkedTd-none (plan .td) count xs ys)
 
   start : Turn plan xs ys
   start = record { i = 0; s = plan .start; v = start-val; zs = ys; most = omega arith; v-is = start-is; same = refl; walked-so = begun }
