@@ -14,8 +14,8 @@ ghost use Prim.Native.Nat.{_+_, _*_, _≤_, _<_};
 ghost use lib.ListN.{length, take};
 ghost use Rattle.trb.specs.Limits.{recordLength, maxHeld, minLog};
 ghost use Rattle.log.specs.Calls.{Meets};
-ghost use Rattle.td_part.specs.Parts.{Within, ofNormal, residualOf, putDma};
-ghost use Rattle.in_td.specs.Td.{goingOn, endsWith, shortNormal, handleNormal, processTrb, processTd, isError, unprocessed};
+ghost use Rattle.td_part.specs.Parts.{Within, ofNormal, putDma};
+ghost use Rattle.in_td.specs.Td.{goingOn, endsWith, shortNormal, handleNormal, processTrb, processTd, isError};
 
 // What stays the same over an IN TD.
 pub struct InTd {
