@@ -3,7 +3,7 @@ use Prim.Native.Nat.{ℕ, min}
 use mathlib.Core.Path.{_≡_, refl, sym, _∙_}
 use mathlib.Core.Bool.{Bool, true, false, not, _&&_, false≢true}
 use mathlib.Core.List.{List, [], _∷_}
-use borrow.Author.Tests.{leb-true, le-leb, eqb-true, eq-eqb}
+use borrow.Author.Tests.{leb-true, le-leb, eqb-true, eq-eqb, not-true}
 use lib.Dec.{eqb, leb}
 use lib.ListN.{take}
 use Rattle.trb.specs.declared.TransferTrb.{TransferTrb}
@@ -11,10 +11,6 @@ use Rattle.trb.proofs.TestLaws.{and-left, and-right}
 use Rattle.log.specs.declared.Record.{Record}
 use Rattle.account.specs.Guest.{requested, places, isWrite, isEvent, any, relied, sumFor, residualIn, account, namesHeld, before, later, numbered, bytes, Account}
 use Rattle.account.specs.Claims.{same, accounts}
-
-not-true : (b : Bool) → not b ≡ true → b ≡ false
-not-true true h = sym h
-not-true false h = refl
 
 same-refl : (xs : List (ℕ × ℕ)) → same xs xs ≡ true
 unfolding same

@@ -6,9 +6,8 @@ ghost use Prim.Native.Nat.{_+_, _≤_};
 ghost use lib.ListN.{length};
 ghost use Rattle.trb.specs.Limits.{minLog};
 ghost use Rattle.numerals.specs.Written.{Written};
-ghost use Rattle.carry_out.specs.CarryOut.{Carried};
 ghost use Rattle.call_text.specs.Widths.{maxFirst, maxRecordLines, maxCarriedOut};
-ghost use Rattle.call_text.specs.Lines.{carriedOutLine, recordLines};
+ghost use Rattle.call_text.specs.Lines.{recordLines};
 ghost use Rattle.call_answer.specs.Answers.{answerText, answerNumber, Answered, CarriedOut};
 
 // Writes a line for each of the first so many records of a log.

@@ -2,10 +2,12 @@
 use trb::TrbProcessingResult;
 ghost use mathlib.Core.Path.{_≡_};
 ghost use mathlib.Core.Bool.{cond};
+ghost use mathlib.Core.List.{_++_};
 ghost use Prim.Native.Nat.{_+_, _*_, _≤_, min};
 ghost use lib.ListN.{length, take};
 ghost use Rattle.trb.specs.Limits.{recordLength};
 ghost use Rattle.numerals.specs.Digits.{decimalOf, hexOf};
+ghost use Rattle.numerals.specs.Widths.{decimalPlaces};
 ghost use Rattle.numerals.specs.Written.{Written};
 ghost use Rattle.call_text.specs.Words.{cycleOn, cycleOff};
 ghost use Rattle.call_text.specs.Widths.{maxDecimal, maxHex, maxResult, maxFirst, maxCarriedOut};
@@ -20,6 +22,15 @@ pub fn put_word(text: &mut [u8], at: usize, word: &[u8]) -> usize
 {
     buffers::lay(text, at, word);
     at + word.len()
+}
+
+// Writes a word and a number in decimal.
+fn put_numbered(text: &mut [u8], at: usize, word: &[u8], n: u32) -> usize
+    requires { ⌜ at + (length (now word) + decimalPlaces) ≤ length (now text) ⌝ }
+    ensures { λ r. ⌜ Written (length (now (word .entry)) + decimalPlaces) (now (text .entry)) at (now (word .entry) ++ decimalOf n) r (now (text .exit)) ⌝ }
+{
+    let next = put_word(text, at, word);
+    numerals::put_decimal(text, next, n)
 }
 
 // Writes a space and a number in decimal.
@@ -46,8 +57,7 @@ pub fn put_refused(text: &mut [u8], at: usize, number: u8) -> usize
     requires { ⌜ at + maxFirst ≤ length (now text) ⌝ }
     ensures { λ r. ⌜ Written maxFirst (now (text .entry)) at (refusedLine number) r (now (text .exit)) ⌝ }
 {
-    let next = put_word(text, at, b"no ");
-    let end = numerals::put_decimal(text, next, number as u32);
+    let end = put_numbered(text, at, b"no ", number as u32);
     numerals::put_char(text, end, b'\n')
 }
 
@@ -56,8 +66,7 @@ pub fn put_accepted(text: &mut [u8], at: usize, records: u32) -> usize
     requires { ⌜ at + maxFirst ≤ length (now text) ⌝ }
     ensures { λ r. ⌜ Written maxFirst (now (text .entry)) at (acceptedLine records) r (now (text .exit)) ⌝ }
 {
-    let count_at = put_word(text, at, b"ok ");
-    let next = numerals::put_decimal(text, count_at, records);
+    let next = put_numbered(text, at, b"ok ", records);
     put_word(text, next, b" - - -\n")
 }
 
@@ -106,8 +115,7 @@ pub fn put_completed(text: &mut [u8], at: usize, records: u32, result: TrbProces
     requires { ⌜ at + maxFirst ≤ length (now text) ⌝ }
     ensures { λ r. ⌜ Written maxFirst (now (text .entry)) at (completedLine records result) r (now (text .exit)) ⌝ }
 {
-    let count_at = put_word(text, at, b"ok ");
-    let next = numerals::put_decimal(text, count_at, records);
+    let next = put_numbered(text, at, b"ok ", records);
     put_result(text, next, result)
 }
 
@@ -116,8 +124,7 @@ pub fn put_carried_out(text: &mut [u8], at: usize, number: u8) -> usize
     requires { ⌜ at + maxCarriedOut ≤ length (now text) ⌝ }
     ensures { λ r. ⌜ Written maxCarriedOut (now (text .entry)) at (carriedOutLine number) r (now (text .exit)) ⌝ }
 {
-    let next = put_word(text, at, b"out ");
-    let end = numerals::put_decimal(text, next, number as u32);
+    let end = put_numbered(text, at, b"out ", number as u32);
     numerals::put_char(text, end, b'\n')
 }
 

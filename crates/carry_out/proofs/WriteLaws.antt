@@ -1,12 +1,13 @@
 -- Laws of a log's writes: what a write in range tells, what a record leaves of guest memory, and one record after the other. Assumes nothing.
 use Prim.Native.Nat.{ℕ, _+_, _≤_}
-use mathlib.Core.Bool.{Bool, true, false, _&&_, cond}
+use mathlib.Core.Bool.{Bool, true, false, cond}
 use mathlib.Core.Path.{_≡_, refl, _∙_}
 use mathlib.Core.List.{List, [], _∷_, _++_}
 use native.Mathlib.Omega.{arith}
 use lib.Dec.{leb}
 use lib.ListN.{length, take, drop, length-take}
 use borrow.Author.Tests.{leb-true}
+use Rattle.trb.proofs.TestLaws.{and-left, and-right}
 use Rattle.buffers.specs.Patch.{patch}
 use Rattle.buffers.proofs.PatchLaws.{length-patch}
 use Rattle.log.specs.declared.Record.{Record}
@@ -16,22 +17,18 @@ use Rattle.guest_memory.specs.Places.{placeOf, isInside}
 use Rattle.guest_memory.proofs.PlaceLaws.{Placed, placed}
 use Rattle.carry_out.specs.Writes.{movesBytes, writeInRange, writesInRange, laidAt, afterRecord, written}
 
-both : (s t : Bool) → (s && t) ≡ true → (s ≡ true) × (t ≡ true)
-both true t e = (refl, e)
-both false true e = (e, refl)
-both false false e = (e, e)
-
 -- each of the writes lies in range where all do
 pub writesInRange-cons : (n base size : ℕ) (r : Record) (rs : List Record) → writesInRange n base size (r ∷ rs) ≡ true
     → (writeInRange n base size r ≡ true) × (writesInRange n base size rs ≡ true)
-writesInRange-cons n base size r rs e = both (writeInRange n base size r) (writesInRange n base size rs) e
+writesInRange-cons n base size r rs e =
+    (and-left (writeInRange n base size r) (writesInRange n base size rs) e, and-right (writeInRange n base size r) (writesInRange n base size rs) e)
 
 -- a write in range lies in the device's data
 pub writeInRange-end : (n base size : ℕ) (r : Record) → movesBytes r ≡ true → writeInRange n base size r ≡ true → r .start + r .length ≤ n
 unfolding writeInRange
 writeInRange-end n base size r moves e =
     leb-true (r .start + r .length) n
-    (both (leb (r .start + r .length) n) (isInside (placeOf base size (r .address) (r .length))) (rw moves at e) .0)
+    (and-left (leb (r .start + r .length) n) (isInside (placeOf base size (r .address) (r .length))) (rw moves at e))
 
 module _ (bytes : List ℕ) (base : ℕ) (memory : List ℕ) (r : Record) where
   -- what holds of the memory, and of the memory with a placed write's bytes laid over it, holds of it after a record

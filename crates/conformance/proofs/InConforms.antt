@@ -34,7 +34,7 @@ use Rattle.in_td.specs.Td.{goingOn, goesOn, endsWith, shortNormal, handleNormal
 use Rattle.in_td.specs.Td as td
 use Rattle.in_td.specs.declared.InTd.{InTd}
 use Rattle.in_td.specs.declared.TdProcessed.{TdProcessed}
-use Rattle.standard.specs.Xhci.{Trb, normal, stage, transferLength, shortResidual, eventData, noOp, Outcome, ended, failed, complete, cut, fate, asked, repeatedResidual, eventsAt, eventsFrom, events, deliveriesFrom, haltedFrom, outcome}
+use Rattle.standard.specs.Xhci.{Trb, normal, stage, transferLength, shortResidual, eventData, noOp, Outcome, ended, failed, complete, cut, fate, asked, repeatedResidual, eventsAt, eventsFrom, events, deliveriesFrom, haltedFrom}
 use Rattle.standard.proofs.XhciLaws.{fate-complete, fate-cut, fate-beyond, fate-failed-ended}
 use Rattle.conformance.specs.Translate.{trbIn, tdOf, told, wrote, outcomeIn, haltOf, haltIn}
 use Rattle.conformance.proofs.PartsConform.{trbOf, Reached, Shortened, Conforms, full-reached, full-conforms, short-shortened, short-conforms, failed-events, failed-writes, passed-shortened, passed-conforms, event-reached, event-conforms, event-shortened, event-passed, noOp-reached, noOp-conforms, noOp-shortened, noOp-passed}

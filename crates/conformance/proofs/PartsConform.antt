@@ -19,7 +19,7 @@ use Rattle.td_part.specs.declared.TdProgress.{TdProgress}
 use Rattle.td_part.specs.declared.TdProcessingState.the-variants.{Default, ShortTransfer}
 use Rattle.td_part.specs.declared.TrbDmaInfo.{TrbDmaInfo}
 use Rattle.td_part.specs.Parts.{edtlaAfter, putDma, realizeDma, repeatShort, reportSuccess, handleEventData, codeAfter, eventAt}
-use Rattle.standard.specs.Xhci.{Trb, normal, eventData, noOp, Outcome, ended, failed, complete, cut, fate, transferEvent, asked, moved, shortResidual, edtla, repeatedResidual, accumulated, report, eventsAt, eventOf, eventIf, success, iocOf, deliveryAt, delivery, halts}
+use Rattle.standard.specs.Xhci.{Trb, normal, eventData, noOp, Outcome, ended, failed, complete, cut, fate, transferEvent, asked, moved, shortResidual, edtla, repeatedResidual, accumulated, report, eventsAt, eventOf, eventIf, success, iocOf, deliveryAt, halts}
 use Rattle.standard.proofs.XhciLaws.{fate-cut, fate-beyond}
 use Rattle.conformance.specs.Translate.{told, wrote}
 use Rattle.conformance.proofs.TranslateLaws.{told-when, wrote-when}

@@ -13,7 +13,7 @@ use Rattle.trb.specs.declared.InTrbProcessingStatus.the-variants as status
 use Rattle.trb.specs.declared.TransferTrb.{TransferTrb}
 use Rattle.trb.proofs.TestLaws.{le-or-lt}
 use Rattle.in_td.specs.Td.{processTd, inTd}
-use Rattle.standard.specs.Xhci.{Trb, normal, stage, eventData, noOp, TransferEvent, transferEvent, ended, failed, Fate, complete, cut, beyond, fate, asked, residual, shortResidual, ownResidual, repeatedResidual, accumulated, report, iocOf, ispOf, eventIf, eventOf, passedEvent, success, shortPacket, eventsAt, eventsFrom, events}
+use Rattle.standard.specs.Xhci.{Trb, normal, stage, eventData, noOp, TransferEvent, transferEvent, ended, failed, Fate, complete, cut, beyond, fate, asked, shortResidual, ownResidual, repeatedResidual, accumulated, report, iocOf, ispOf, eventIf, eventOf, passedEvent, success, shortPacket, eventsAt, eventsFrom, events}
 use Rattle.standard.proofs.XhciLaws.{fate-complete, fate-cut, fate-beyond}
 use Rattle.conformance.specs.Translate.{tdOf, told, outcomeIn, SamePassed}
 use Rattle.conformance.proofs.InTheorems.{told-outcomeIn}

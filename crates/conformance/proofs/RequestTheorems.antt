@@ -1,7 +1,7 @@
 -- A request has the fields of its setup packet (USB 2.0, 9.3), whatever TRBs follow its Setup Stage TRB. Assumes nothing.
 use Prim.Native.Nat.{ℕ, _+_, _<_, _≤_, _/_, _%_, _^_}
 use mathlib.Core.Path.{_≡_, refl, sym}
-use mathlib.Core.Bool.{Bool, true, false, cond, _||_, false≢true}
+use mathlib.Core.Bool.{Bool, true, false, cond, false≢true}
 use mathlib.Core.List.{List, [], _∷_}
 use mathlib.Core.Logic.{⊎-elim}
 use native.Mathlib.Omega.{arith}

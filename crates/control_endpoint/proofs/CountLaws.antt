@@ -5,7 +5,7 @@ use mathlib.Core.Bool.{Bool, true, false, cond}
 use mathlib.Core.List.{List, [], _∷_}
 use native.Mathlib.Omega.{arith}
 use lib.Dec.{lit≤}
-use lib.ListN.{length, take, length-append, length-take}
+use lib.ListN.{length, length-append, length-take}
 use Rattle.trb.specs.Limits.{maxHeld, maxRecords}
 use Rattle.trb.specs.declared.Answer.{Answer}
 use Rattle.trb.specs.declared.Answer.the-variants.{Accepted, Refused}

@@ -1,7 +1,7 @@
 -- Laws of the events of a dropped chain: they are a walk, and one record for each TRB at most. Assumes nothing.
 use Prim.Native.Nat.{ℕ, _+_, _≤_}
-use mathlib.Core.Path.{_≡_, refl, ap}
-use mathlib.Core.Bool.{Bool, true, false}
+use mathlib.Core.Path.{_≡_, refl}
+use mathlib.Core.Bool.{Bool, false}
 use mathlib.Core.List.{List, [], _∷_}
 use native.Mathlib.Nat.{add-zero, add-assoc}
 use native.Mathlib.Omega.{arith}
@@ -11,7 +11,6 @@ use Rattle.trb.specs.declared.CompletionCode.the-variants.{Success}
 use Rattle.trb.specs.declared.EndpointId.{EndpointId}
 use Rattle.trb.specs.declared.SlotId.{SlotId}
 use Rattle.trb.specs.declared.TransferTrb.{TransferTrb}
-use Rattle.log.specs.declared.Record.{Record}
 use Rattle.log.specs.Calls.{Out, counted}
 use Rattle.log.specs.Records.{transferEvent}
 use Rattle.log.proofs.RecordLaws.{length-when}

@@ -1,6 +1,6 @@
 -- 01, Examples from the bench: those marked †, as one computed test on a list that holds them all. Assumes nothing.
 use Prim.Native.Nat.{ℕ}
-use mathlib.Core.Bool.{Bool, true, false}
+use mathlib.Core.Bool.{true, false}
 use mathlib.Core.List.{List, [], _∷_, map}
 use mathlib.Core.Path.{_≡_, refl}
 use Rattle.trb.specs.Ids.{idsInRange}

@@ -1,9 +1,8 @@
 -- 01, IN endpoint: what a completion makes of the TRBs of a TD, sentence by sentence, over lists of any length. Assumes nothing.
-use Prim.Native.Nat.{ℕ, _+_}
+use Prim.Native.Nat.{ℕ}
 use mathlib.Core.Bool.{Bool, true, false, cond}
-use mathlib.Core.List.{List, [], _∷_}
+use mathlib.Core.List.{List}
 use lib.Dec.{eqb}
-use Rattle.trb.specs.declared.CompletionCode.{CompletionCode}
 use Rattle.trb.specs.declared.CompletionCode.the-variants.{UsbTransactionError, StallError}
 use Rattle.trb.specs.declared.EndpointId.{EndpointId}
 use Rattle.trb.specs.declared.SlotId.{SlotId}

@@ -13,10 +13,10 @@ use trb::TrbProcessingResult;
 ghost use mathlib.Core.Path.{_≡_};
 ghost use mathlib.Core.Bool.{true};
 ghost use Prim.Native.Nat.{_+_, _*_, _≤_, _<_};
-ghost use lib.ListN.{length, take};
-ghost use Rattle.trb.specs.Limits.{recordLength, maxHeld, minLog};
+ghost use lib.ListN.{length};
+ghost use Rattle.trb.specs.Limits.{recordLength};
 ghost use Rattle.log.specs.Calls.{Meets};
-ghost use Rattle.td_part.specs.Parts.{Within, ofNormal, residualOf, putDma};
+ghost use Rattle.td_part.specs.Parts.{Within, ofNormal, putDma};
 ghost use Rattle.in_td.specs.Td.{goingOn, endsWith, shortNormal, handleNormal, processTrb, isError, nextTrb, unprocessed, inTd};
 
 // What stays the same over an IN TD.

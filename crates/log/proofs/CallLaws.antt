@@ -1,11 +1,7 @@
 -- Laws of calls: a contract carried over an equation, and one call behind another. Assumes nothing.
-use Prim.Native.Nat.{ℕ, _+_, _*_, _≤_}
-use mathlib.Core.Path.{_≡_, refl, sym, ap, _∙_, subst}
-use mathlib.Core.List.{List, [], _∷_, _++_}
-use lib.ListN.{length}
-use Rattle.trb.specs.Limits.{recordLength}
-use Rattle.log.specs.declared.Record.{Record}
-use Rattle.log.specs.Logs.{logged, AllFit}
+use Prim.Native.Nat.{ℕ}
+use mathlib.Core.Path.{_≡_, sym, subst}
+use mathlib.Core.List.{List}
 use Rattle.log.specs.Calls.{Out, silent, Meets}
 use Rattle.log.proofs.LogLaws.{logged-none}
 

@@ -5,11 +5,10 @@ use mathlib.Core.List.{List, [], _∷_, _++_, append-assoc}
 use native.Mathlib.Omega.{arith}
 use lib.ListN.{length, drop, length-append}
 use lib.Seq.{drop-drop}
-use Rattle.buffers.specs.Patch.{patch}
 use Rattle.buffers.proofs.PatchLaws.{length-patch, patch-none, patch-append, drop-patch}
 use Rattle.trb.specs.Limits.{recordLength}
 use Rattle.log.specs.declared.Record.{Record}
-use Rattle.log.specs.Records.{encode, decode, recordAt}
+use Rattle.log.specs.Records.{encode, recordAt}
 use Rattle.log.specs.Logs.{encodeAll, logged, recordsIn, AllFit}
 use Rattle.log.proofs.RecordLaws.{decode-encode}
 

@@ -5,7 +5,7 @@ use trb::Refusal;
 ghost use mathlib.Core.Path.{_≡_};
 ghost use Prim.Native.Nat.{_+_, _*_, _/_, _≤_};
 ghost use lib.ListN.{length, drop};
-ghost use Rattle.trb.specs.Limits.{recordLength, maxPrintedLog};
+ghost use Rattle.trb.specs.Limits.{recordLength};
 ghost use Rattle.numerals.specs.Digits.{decimalOf, hexOf};
 ghost use Rattle.numerals.specs.Widths.{decimalPlaces, hexPlaces};
 ghost use Rattle.numerals.specs.Written.{Written};

@@ -1,5 +1,5 @@
 -- 01, Control endpoint: the phase table, a definition for each kind of TRB. Assumes nothing.
-use mathlib.Core.Bool.{Bool, false, cond}
+use mathlib.Core.Bool.{Bool, cond}
 use Rattle.trb.specs.declared.ControlTransferState.{ControlTransferState}
 use Rattle.trb.specs.declared.ControlTransferState.the-variants.{ExpectSetupStageTrb, MaybeDataStageTrb, MoreData, ExpectStatusStageTrb, ExpectFinalEventDataTrb}
 use Rattle.trb.specs.declared.TransferTrbVariant.{TransferTrbVariant}

@@ -1,23 +1,36 @@
 -- Laws of filling a buffer by a rule, and of the weighted sum. Assumes nothing.
 use Prim.Native.Nat.{ℕ, _+_, _*_, _%_, _<_, _≤_, _^_}
-use mathlib.Core.Path.{_≡_, sym, _∙_}
+use mathlib.Core.Path.{_≡_, refl, _∙_}
 use mathlib.Core.List.{List}
 use native.Mathlib.Nat.{mul-le-mul, lt-of-le-of-lt, add-mul-mod-self-left}
 use native.Mathlib.Numerals.{add-one}
 use native.Mathlib.Omega.{arith}
 use lib.Dec.{lit<}
-use lib.ListN.{length, drop, getD, set}
+use lib.ListN.{length, drop, getD, set, length-set}
 use lib.Seq.{getD-set-same, getD-set-other, drop-cons}
 use borrow.Author.Count.{below-more}
 use Rattle.script_bytes.specs.Bytes.{weightedSum}
 
--- the bytes below index k follow the rule, and now the one at k does too
-pub filled-more : (rule : ℕ → ℕ) (l : List ℕ) (k v : ℕ) → k < length l → v ≡ rule k
-    → ((j : ℕ) → j < k → getD l j 0 ≡ rule j) → (j : ℕ) → j < k + 1 → getD (set l k v) j 0 ≡ rule j
-filled-more rule l k v h e below =
-    below-more (λ (j : ℕ). getD (set l k v) j 0 ≡ rule j) k
-    (λ j m. getD-set-other l k j v 0 (λ same. omega (arith, same, m)) ∙ below j m)
-    (getD-set-same l k v 0 h ∙ e)
+-- of a loop that fills the buffer l₀ by a rule, and has come to index k of the buffer l: the bytes below k follow the rule
+pub record Filled (rule : ℕ → ℕ) (l₀ l : List ℕ) (k : ℕ) : Type 0 where
+  pub within : k ≤ length l
+  pub long : length l ≡ length l₀
+  pub below : (j : ℕ) → j < k → getD l j 0 ≡ rule j
+
+pub filled-none : (rule : ℕ → ℕ) (l : List ℕ) → Filled rule l l 0
+filled-none rule l = record { within = omega arith; long = refl; below = λ j h. absurd (omega (arith, h)) }
+
+pub filled-more : {rule : ℕ → ℕ} {l₀ l : List ℕ} {k : ℕ} (v : ℕ) → Filled rule l₀ l k → k < length l → v ≡ rule k → Filled rule l₀ (set l k v) (k + 1)
+filled-more {rule} {l = l} {k = k} v f h e = record {
+  within = simp length-set (omega arith);
+  long = simp length-set (f .long);
+  below = below-more (λ (j : ℕ). getD (set l k v) j 0 ≡ rule j) k
+      (λ j m. getD-set-other l k j v 0 (λ same. omega (arith, same, m)) ∙ f .below j m)
+      (getD-set-same l k v 0 h ∙ e);
+}
+
+pub filled-all : {rule : ℕ → ℕ} {l₀ l : List ℕ} {k : ℕ} → Filled rule l₀ l k → length l ≤ k → (j : ℕ) → j < length l₀ → getD l j 0 ≡ rule j
+filled-all f h j m = f .below j (omega (arith, f .long))
 
 -- whole multiples of 256 do not matter modulo 256
 pub mod-multiple : (x y q : ℕ) → y ≡ x + 256 * q → x % 256 ≡ y % 256

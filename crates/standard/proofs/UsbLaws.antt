@@ -2,7 +2,7 @@
 -- just where a short packet ends it. Assumes nothing.
 use Prim.Native.Nat.{ℕ, _+_, _*_, _/_, _%_, _≤_, _<_}
 use mathlib.Core.Path.{_≡_, refl}
-use mathlib.Core.Bool.{true, false, false≢true}
+use mathlib.Core.Bool.{true, false≢true}
 use mathlib.Core.List.{List}
 use native.Mathlib.Omega.{arith}
 use Rattle.standard.specs.Usb.{Setup, setupOf, setupBytes, Packets, filled, full, rest, short, total, endsShort}

@@ -1,7 +1,7 @@
 -- What one TRB of a TD does, for IN and control alike. Assumes nothing.
 use Prim.Native.Nat.{ℕ, _+_, _-_, _≤_, _%_, _^_, min}
 use mathlib.Core.Bool.{Bool, true, false, cond, _||_}
-use mathlib.Core.List.{List, [], _∷_}
+use mathlib.Core.List.{List, _∷_}
 use lib.Dec.{eqb}
 use lib.ListN.{length}
 use Rattle.trb.specs.declared.CompletionCode.{CompletionCode}

@@ -7,20 +7,17 @@ use borrow.Author.Needs.{needs}
 use Rattle.call_text.proofs.put_accepted.Statement.{statement}
 use Rattle.call_text.proofs.put_accepted.Tie as tie
 
+slice-aggregate-put-numbered : tie.Need-slice-aggregate-put-numbered
+slice-aggregate-put-numbered c = search needs
+
+put-numbered-requires : tie.Need-put-numbered-requires
+put-numbered-requires c κs = search needs
+
 slice-aggregate-put-word : tie.Need-slice-aggregate-put-word
 slice-aggregate-put-word c = search needs
 
 put-word-requires : tie.Need-put-word-requires
 put-word-requires c κs = search needs
-
-put-decimal-requires : tie.Need-put-decimal-requires
-put-decimal-requires c κs = search needs
-
-slice-aggregate-put-word-2 : tie.Need-slice-aggregate-put-word-2
-slice-aggregate-put-word-2 c = search needs
-
-put-word-requires-2 : tie.Need-put-word-requires-2
-put-word-requires-2 c κs = search needs
 
 same-length : tie.Need-same-length
 same-length c = search needs
@@ -29,24 +26,17 @@ returns : tie.Need-returns
 unfolding acceptedLine
 returns c =
     let end = c .before .before in
-    let number = end .before .before .before .before .before in
-    let word = number .before .before .before .before in
-    let s = word .before .before .before .before in
-    written-within (lit≤ tt)
-    (written-append (s .args .at) (omega (arith, s .pre))
-    (written-append (s .args .at) (omega (arith, s .pre))
-    (word .put-word .ensures)
-    (number .put-decimal .ensures))
-    (end .put-word2 .ensures))
+    let numbered = end .before .before .before .before .before in
+    let s = numbered .before .before .before .before in
+    written-within (lit≤ tt) (written-append (s .args .at) (omega (arith, s .pre)) (numbered .put-numbered .ensures) (end .put-word .ensures))
 
 pub put-accepted-spec : {M : Type 1} → statement M
 put-accepted-spec =
     tie.close
     (tie.spec
+    slice-aggregate-put-numbered
+    put-numbered-requires
     slice-aggregate-put-word
     put-word-requires
-    put-decimal-requires
-    slice-aggregate-put-word-2
-    put-word-requires-2
     same-length
     returns)

@@ -1,5 +1,4 @@
 -- `call_text::put_cycle_bit` meets its contract: each arm writes its word. Assumes nothing.
-use native.Mathlib.Omega.{arith}
 use lib.Dec.{lit≤}
 use Rattle.numerals.proofs.WrittenLaws.{written-within}
 use borrow.Author.Needs.{needs}

@@ -1,8 +1,21 @@
 -- `control_complete::block_after` meets its contract, by whether the TRBs held are kept. Assumes nothing.
+use mathlib.Core.Path.{_≡_}
+use mathlib.Core.Bool.{cond}
+use Rattle.trb.specs.declared.ControlSubmissionState.the-variants.{NoTrbSubmitted}
+use Rattle.control_block.specs.Blocks.{advanced, emptied}
 use Rattle.control_complete.specs.Completes.{blockAfter}
 use borrow.Author.Needs.{needs}
 use Rattle.control_complete.proofs.block_after.Statement.{statement}
 use Rattle.control_complete.proofs.block_after.Tie as tie
+
+-- the definition, with what the calls before the test returned
+advances : (c : tie.After-is-held-kept)
+    → let b = c .before .before .before .before .args .block in blockAfter b ≡ advanced (cond (c .is-held-kept .result) b (emptied b)) (c .before .at-phase .result) NoTrbSubmitted
+unfolding blockAfter
+advances c =
+    let phased = c .before in
+    let transfer = phased .before in
+    rw (← c .is-held-kept .ensures, phased .at-phase .ensures, transfer .transfer-of .ensures, transfer .before .phase-after .ensures)
 
 phase-after-requires : tie.Need-phase-after-requires
 phase-after-requires c κs = search needs
@@ -20,21 +33,7 @@ advance-requires : tie.Need-advance-requires
 advance-requires c κs = search needs
 
 returns : tie.Need-returns
-unfolding blockAfter
-returns c =
-    let if1 = c .before in
-    let kept = if1 .before in
-    let phased = kept .before in
-    let transfer = phased .before in
-    let phase = transfer .before in
-    rw (
-      ← kept .is-held-kept .ensures,
-      if1 .if1 .taken,
-      c .advance .ensures,
-      phased .at-phase .ensures,
-      transfer .transfer-of .ensures,
-      phase .phase-after .ensures,
-    )
+returns c = rw (advances (c .before .before), c .before .if1 .taken) (c .advance .ensures)
 
 clear-requires : tie.Need-clear-requires
 clear-requires c κs = search needs
@@ -43,23 +42,9 @@ advance-requires-2 : tie.Need-advance-requires-2
 advance-requires-2 c κs = search needs
 
 returns-2 : tie.Need-returns-2
-unfolding blockAfter
 returns-2 c =
     let cleared = c .before in
-    let if1 = cleared .before in
-    let kept = if1 .before in
-    let phased = kept .before in
-    let transfer = phased .before in
-    let phase = transfer .before in
-    rw (
-      ← kept .is-held-kept .ensures,
-      if1 .if1 .left,
-      c .advance2 .ensures,
-      cleared .clear .ensures,
-      phased .at-phase .ensures,
-      transfer .transfer-of .ensures,
-      phase .phase-after .ensures,
-    )
+    rw (advances (cleared .before .before), cleared .before .if1 .left, c .advance2 .ensures, cleared .clear .ensures)
 
 pub block-after-spec : {M : Type 1} → statement M
 block-after-spec =

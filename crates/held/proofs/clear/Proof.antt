@@ -1,5 +1,5 @@
 -- `held::clear` meets its contract: as many places as are held become blank, or all. Assumes nothing.
-use mathlib.Core.Path.{_≡_, sym, _∙_}
+use mathlib.Core.Path.{_≡_}
 use native.Mathlib.Omega.{arith}
 use lib.ListN.{length}
 use Rattle.trb.specs.Limits.{maxHeld}

@@ -1,10 +1,9 @@
 -- `in_request::requested_length` meets its contract. The loop's invariant: the sum so far and what the rest requests are what all request.
 -- Assumes nothing.
 use Prim.Native.Nat.{_+_, _≤_, _-_}
-use mathlib.Core.Path.{_≡_, refl}
-use native.Mathlib.Nat.{zero-add}
+use mathlib.Core.Path.{_≡_}
 use native.Mathlib.Omega.{arith}
-use lib.ListN.{length, take, drop}
+use lib.ListN.{take, drop}
 use Rattle.account.specs.Guest.{requested}
 use Rattle.held.specs.Places.{pastEnd}
 use Rattle.in_request.proofs.RequestedLaws.{Summed, requested-turn, summed-end}

@@ -1,5 +1,4 @@
 -- `in_td::fail` meets its contract: what `td_part::put_dma` ensures, with the result that ends processing. Assumes nothing.
-use mathlib.Core.Path.{ap}
 use borrow.Author.Needs.{needs}
 use Rattle.in_td.proofs.fail.Statement.{statement}
 use Rattle.in_td.proofs.fail.Tie as tie

@@ -1,7 +1,5 @@
 -- `log::put_record` meets its contract: the bytes laid over the log are the encoded record's, and a record that is a value of its type fits its bytes.
 -- Assumes nothing.
-use mathlib.Core.Path.{ap, _∙_}
-use mathlib.Core.List.{append-nil}
 use Rattle.log.specs.Logs.{logged, encodeAll}
 use native.Mathlib.Omega.{arith}
 use borrow.Author.Needs.{needs}
