@@ -11,7 +11,7 @@ use Rattle.trb.specs.declared.TransferTrb.{TransferTrb}
 use Rattle.held.specs.Sound.{heldSound}
 use Rattle.held.specs.declared.EndpointKind.the-variants.{In}
 use Rattle.walks.specs.All.{all}
-use Rattle.walks.proofs.AllLaws.{and-left, and-right}
+use Rattle.trb.proofs.TestLaws.{and-left, and-right}
 use Rattle.in_block.specs.declared.InBlock.{InBlock}
 use Rattle.in_block.specs.Blocks.{heldOf}
 use Rattle.in_block.specs.Sound.{isNormal, hasNormal, awaitsDevice, soundBlock}

@@ -1,7 +1,7 @@
 -- How a loop over the places keeps to the test of those held, and that question 2 is asked of a block by that test. Assumes nothing.
 use Prim.Native.Nat.{ℕ, zero, suc, _+_, _<_, _≤_, min}
 use mathlib.Core.Path.{_≡_, refl, sym, ap, _∙_}
-use mathlib.Core.Bool.{Bool, true, false, not, _&&_, _||_}
+use mathlib.Core.Bool.{Bool, true, not, _&&_, _||_}
 use mathlib.Core.List.{List, [], _∷_}
 use native.Mathlib.Numerals.{add-one, unary-clauses}
 use native.Mathlib.Omega.{arith}

@@ -1,7 +1,7 @@
 -- Laws of completion: its cases as equations, and demand 3 of what the guest reads off the log. Assumes nothing.
 use Prim.Native.Nat.{ℕ, _<_, _≤_}
 use mathlib.Core.Path.{_≡_, refl, sym, ap, _∙_, subst}
-use mathlib.Core.Bool.{Bool, true, false, not, cond}
+use mathlib.Core.Bool.{Bool, true, false, cond}
 use mathlib.Core.List.{List}
 use native.Mathlib.Nat.{zero-add}
 use native.Mathlib.Omega.{arith}
@@ -19,10 +19,9 @@ use Rattle.trb.specs.declared.TdBasedNormalSubmissionState.the-variants.{Submis
 use Rattle.trb.specs.declared.TransferTrb.{TransferTrb}
 use Rattle.log.specs.Calls.{Out, Meets}
 use Rattle.log.specs.Logs.{recordsIn}
-use Rattle.log.specs.declared.Record.{Record}
 use Rattle.log.proofs.LogLaws.{recordsIn-logged}
 use Rattle.walks.proofs.WalkLaws.{walk-counts}
-use Rattle.in_td.specs.Td.{inTd, processTd, unprocessed}
+use Rattle.in_td.specs.Td.{processTd, unprocessed}
 use Rattle.in_td.specs.declared.InTd.{InTd}
 use Rattle.in_td.proofs.TdLaws.{tdWalker}
 use Rattle.account.specs.Guest.{Account}

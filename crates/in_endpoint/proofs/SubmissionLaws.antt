@@ -1,12 +1,12 @@
 -- Laws of submission: its cases as equations, the first TRB of a TD, and that S fits a request's length. Assumes nothing.
-use Prim.Native.Nat.{ℕ, zero, suc, _+_, _*_, _<_, _≤_, _^_}
+use Prim.Native.Nat.{ℕ, zero, suc, _+_, _<_, _≤_, _^_}
 use mathlib.Core.Path.{_≡_, refl, ap}
 use mathlib.Core.Bool.{true, false}
 use mathlib.Core.List.{List, [], _∷_}
 use native.Mathlib.Nat.{not-suc-le-zero}
 use native.Mathlib.Numerals.{add-one}
 use native.Mathlib.Omega.{arith}
-use lib.ListN.{length, take, set, getD, length-take}
+use lib.ListN.{take, set, getD, length-take}
 use borrow.Author.Tests.{le-leb, lt-leb}
 use Rattle.trb.specs.Limits.{maxHeld, maxTransferLength, minLog}
 use Rattle.trb.specs.Trbs.{transferLength, chainOf}

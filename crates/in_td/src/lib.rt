@@ -12,7 +12,7 @@ use trb::TransferTrbVariant;
 use trb::TrbProcessingResult;
 ghost use mathlib.Core.Path.{_≡_};
 ghost use mathlib.Core.Bool.{true};
-ghost use Prim.Native.Nat.{_+_, _*_, _≤_, _<_};
+ghost use Prim.Native.Nat.{_+_, _*_, _≤_};
 ghost use lib.ListN.{length};
 ghost use Rattle.trb.specs.Limits.{recordLength};
 ghost use Rattle.log.specs.Calls.{Meets};

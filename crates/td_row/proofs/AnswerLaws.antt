@@ -1,15 +1,14 @@
 -- The entry for a lent row answers as completion does for a block that holds the row and awaits the device. Assumes nothing.
-use Prim.Native.Nat.{ℕ, _*_, _<_, _≤_}
+use Prim.Native.Nat.{ℕ, _≤_}
 use mathlib.Core.Path.{_≡_, refl, sym, ap, _∙_, subst}
-use mathlib.Core.Bool.{Bool, true, false, not, _&&_}
-use mathlib.Core.List.{List, [], _∷_, _++_}
+use mathlib.Core.Bool.{Bool, true, false}
+use mathlib.Core.List.{List, _++_}
 use native.Mathlib.Omega.{arith}
 use lib.Dec.{leb}
 use lib.ListN.{length, take, replicate}
 use lib.Seq.{take-length, take-take, take-append-seam}
 use borrow.Author.Tests.{leb-true, leb-false}
-use Rattle.trb.specs.Ids.{idsInRange}
-use Rattle.trb.specs.Limits.{maxHeld, minLog, maxData, recordLength}
+use Rattle.trb.specs.Limits.{maxHeld, minLog, maxData}
 use Rattle.trb.specs.declared.EndpointId.{EndpointId}
 use Rattle.trb.specs.declared.InTrbProcessingResult.{InTrbProcessingResult}
 use Rattle.trb.specs.declared.InTrbProcessingResult.the-variants.{NoneGiven, Given}
@@ -18,18 +17,16 @@ use Rattle.trb.specs.declared.Refusal.{Refusal}
 use Rattle.trb.specs.declared.Refusal.the-variants.{BufferTooShort, UnsoundBlock, DeviceResultMismatch, DataTooLong}
 use Rattle.trb.specs.declared.SlotId.{SlotId}
 use Rattle.trb.specs.declared.TransferTrb.{TransferTrb}
-use Rattle.log.specs.Calls.{Out, silent, Meets}
+use Rattle.log.specs.Calls.{Out, Meets}
 use Rattle.log.specs.Logs.{recordsIn}
 use Rattle.held.specs.Places.{blankTrb}
-use Rattle.held.specs.Sound.{heldSound}
-use Rattle.held.specs.declared.EndpointKind.the-variants.{In}
 use Rattle.walks.specs.Walk.{walk}
 use Rattle.account.specs.Guest.{Distinct, IspOnNormals, LastNormalWithIoc, Account}
 use Rattle.in_td.specs.Td.{inTd, processTd}
 use Rattle.in_td.specs.declared.InTd.{InTd}
 use Rattle.in_td.specs.declared.TdProcessed.{TdProcessed}
 use Rattle.in_block.specs.Blocks.{heldOf}
-use Rattle.in_block.specs.Sound.{hasNormal, soundBlock}
+use Rattle.in_block.specs.Sound.{soundBlock}
 use Rattle.in_block.specs.declared.InBlock.{InBlock}
 use Rattle.in_block.proofs.SoundLaws.{sound-held, hasNormal-all}
 use Rattle.in_endpoint.specs.Completion.{refused, transferred, completion, isAccepted, Accounted}

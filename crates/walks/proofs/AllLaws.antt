@@ -10,7 +10,6 @@ use native.Mathlib.Omega.{arith}
 use lib.ListN.{length, take, drop, set, getD, drop-of-length-le}
 use lib.Seq.{drop-cons, getD-take, length-take-le}
 use Rattle.walks.specs.All.{all}
-pub use Rattle.trb.proofs.TestLaws.{and-left, and-right}
 
 module _ {T : Type 0} (ok : T → Bool) where
   -- the first n elements of xs and then t

@@ -1,6 +1,6 @@
 -- `bench_calls_carry_out` is safe: `k` stays at most `repeats`, and no call changes the length of guest memory. Assumes nothing.
 use borrow.Author.Needs.{needs}
-use Prim.Native.Nat.{_≤_, _<_, _-_}
+use Prim.Native.Nat.{_≤_, _-_}
 use mathlib.Core.Path.{_≡_}
 use lib.ListN.{length}
 use Rattle.bench_calls.proofs.bench_calls_carry_out.Statement.{statement}

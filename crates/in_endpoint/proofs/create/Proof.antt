@@ -1,5 +1,5 @@
 -- `in_endpoint::create` meets its contract, by question 12. Assumes nothing.
-use mathlib.Core.Path.{refl, sym, ap, _∙_}
+use mathlib.Core.Path.{sym, _∙_}
 use Rattle.in_endpoint.specs.Creation.{creation}
 use borrow.Author.Needs.{needs}
 use Rattle.in_endpoint.proofs.create.Statement.{statement}
