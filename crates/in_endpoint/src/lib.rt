@@ -360,7 +360,8 @@ fn state_behind(ending: Ending, state: TdBasedNormalSubmissionState) -> TdBasedN
     }
 }
 
-// Ports `next_completion`. Of the device's data only the length is read. The places are copied once, and there is one way out.
+// Ports `next_completion` and the loop of `process_td`. Of the device's data only the length is read. The places are copied once, and
+// there is one way out.
 pub fn next_completion(
     log: &mut [u8],
     block: InBlock,

@@ -1,4 +1,4 @@
-// The walk over the TRBs of an IN TD; ports `process_td` and `TdProcessingInfoIn`.
+// A TRB's turn in the walk over an IN TD; ports `TdProcessingInfoIn` and the body of the loop of `process_td`.
 use td_part::TdInfo;
 use td_part::TdProcessingState;
 use td_part::TdProgress;
