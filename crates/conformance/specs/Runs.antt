@@ -6,6 +6,7 @@ use mathlib.Core.List.{List, [], _∷_, _++_}
 use mathlib.Core.Option.{Option, none, some}
 use lib.ListN.{replicate, length}
 use Rattle.trb.specs.Limits.{minLog, maxCollected}
+use Rattle.trb.specs.Questions.{firstNo}
 use Rattle.trb.specs.declared.CompletionAnswer.{CompletionAnswer}
 use Rattle.trb.specs.declared.CompletionAnswer.the-variants.{Completed, Refused}
 use Rattle.trb.specs.declared.ControlRequestProcessingResult.{ControlRequestProcessingResult}
@@ -16,9 +17,11 @@ use Rattle.trb.specs.declared.TransferTrbVariant.the-variants.{SetupStage, Data
 use Rattle.log.specs.declared.Record.{Record}
 use Rattle.in_block.specs.Blocks.{freshBlock}
 use Rattle.in_block.specs.declared.InBlock.{InBlock}
-use Rattle.in_block.specs.Sound.{hasNormal, soundBlock as soundIn}
+use Rattle.in_block.specs.Facts.{soundBlock as soundIn}
+use Rattle.in_block.specs.Outcomes.{outcomeOf}
 use Rattle.in_endpoint.specs.Completion.{transferred, completion as completionIn}
-use Rattle.in_endpoint.specs.Submission.{tdEnded, holding, taken, submission as submissionIn}
+use Rattle.in_endpoint.specs.Submission.{submission as submissionIn}
+use Rattle.in_questions.specs.Questions.{submissionQuestions, completionQuestions}
 use Rattle.in_request.specs.Requests.{rangeInside}
 use Rattle.in_td.specs.Td.{handleNormal, processTrb}
 use Rattle.guest_memory.specs.Places.{placeOf}
@@ -90,7 +93,7 @@ inFrom b rs h (inCall t r n ∷ calls) =
     inFrom (p .state .block) (rs ++ (o .records ++ p .records)) (haltAnswered (p .state .answer)) calls
 
 unfoldable pub inRun : List InCall → Seen
-unfolding inFrom submissionIn taken holding tdEnded completionIn transferred idsInRange soundIn hasNormal soundTrb all rangeInside placeOf cleared walk processTrb handleNormal putDma realizeDma
+unfolding inFrom submissionIn submissionQuestions outcomeOf completionIn completionQuestions firstNo transferred idsInRange soundIn soundTrb all rangeInside placeOf cleared walk processTrb handleNormal putDma realizeDma
 inRun calls = inFrom (freshBlock (record { 0 = 3 }) (record { 0 = 2 })) [] runsOn calls
 
 -- ---- Control

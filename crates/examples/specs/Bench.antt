@@ -23,11 +23,14 @@ use Rattle.walks.specs.Walk.{walk}
 use Rattle.td_part.specs.Parts.{putDma, realizeDma}
 use Rattle.in_td.specs.Td.{handleNormal, processTrb}
 use Rattle.guest_memory.specs.Places.{placeOf}
-use Rattle.in_block.specs.Sound.{hasNormal, soundBlock}
+use Rattle.in_block.specs.Facts.{soundBlock}
+use Rattle.in_block.specs.Outcomes.{outcomeOf}
+use Rattle.trb.specs.Questions.{firstNo}
 use Rattle.in_request.specs.Requests.{rangeInside}
 use Rattle.in_endpoint.specs.Completion.{transferred, completion}
 use Rattle.in_endpoint.specs.Creation.{creation}
-use Rattle.in_endpoint.specs.Submission.{tdEnded, holding, taken, submission}
+use Rattle.in_endpoint.specs.Submission.{submission}
+use Rattle.in_questions.specs.Questions as inQuestions
 use Rattle.control_block.specs.Sound as controlBlock
 use Rattle.control_chain.specs.Chain.{moveOut, realizeDataStage, realizeNormal, realizeTrb}
 use Rattle.control_complete.specs.Completes as completes
@@ -143,5 +146,5 @@ examples =
 
 -- the definitions say of every example what document 01 says
 bench : map (λ (e : Example). e .found) examples ≡ map (λ (e : Example). e .expected) examples
-unfolding examples tdT wrote event eventDataOf requested asked collects ends normal eventData noOp setup dataStage status walk cleared all soundTrb placeOf idsInRange putDma realizeDma onIn play creation submission taken holding tdEnded completion transferred soundBlock hasNormal rangeInside processTrb handleNormal onControl onControlEndpoint.play becomes transferAfter controlBlock.soundBlock submissionAnswer trbAnswer hasRoom reaches questions.collects collectable inReach windowBytes bytesOf submits.submission submits.accepted submits.recordsOf submits.blockAfter completionAnswer agrees completes.completion completes.accepted completes.blockAfter completes.badTrb completes.failed completes.realized successes moveOut realizeDataStage realizeNormal realizeTrb
+unfolding examples tdT wrote event eventDataOf requested asked collects ends normal eventData noOp setup dataStage status walk cleared all soundTrb placeOf idsInRange putDma realizeDma onIn play creation submission inQuestions.submissionQuestions outcomeOf completion inQuestions.completionQuestions firstNo transferred soundBlock rangeInside processTrb handleNormal onControl onControlEndpoint.play becomes transferAfter controlBlock.soundBlock submissionAnswer trbAnswer hasRoom reaches questions.collects collectable inReach windowBytes bytesOf submits.submission submits.accepted submits.recordsOf submits.blockAfter completionAnswer agrees completes.completion completes.accepted completes.blockAfter completes.badTrb completes.failed completes.realized successes moveOut realizeDataStage realizeNormal realizeTrb
 bench = refl

@@ -4,9 +4,7 @@ use mathlib.Core.Bool.{Bool, true, false}
 use mathlib.Core.List.{List, _∷_}
 use mathlib.Core.Path.{_≡_, refl}
 use native.Mathlib.Omega.{arith}
-use lib.Dec.{eqb}
-use borrow.Author.Tests.{eq-eqb, ne-eqb}
-use Rattle.trb.specs.Questions.{firstNo, afterQuestions}
+use Rattle.trb.specs.Questions.{firstNo}
 
 -- where every answer is yes, so is the first, and so are those behind it
 module _ (answer : Bool) (n : ℕ) (qs : List (Bool × ℕ)) (none : firstNo ((answer, suc n) ∷ qs) ≡ 0) where
@@ -25,11 +23,3 @@ module _ (answer : Bool) (n : ℕ) (qs : List (Bool × ℕ)) (none : firstNo ((a
       by-answer : (a : Bool) → firstNo ((a, suc n) ∷ qs) ≡ 0 → firstNo qs ≡ 0
       by-answer true e = e
       by-answer false e = absurd (omega arith)
-
--- what a call comes to, by the number of its answer
-module _ {A : Type 0} (qs : List (Bool × ℕ)) (refused : ℕ → A) (accepted : A) where
-  pub after-accepted : firstNo qs ≡ 0 → afterQuestions qs refused accepted ≡ accepted
-  after-accepted e = rw (eq-eqb (firstNo qs) 0 e)
-
-  pub after-refused : (n : ℕ) → firstNo qs ≡ suc n → afterQuestions qs refused accepted ≡ refused (suc n)
-  after-refused n e = rw (e, ne-eqb (suc n) 0 (λ z. omega arith))

@@ -1,6 +1,6 @@
 -- The number and the values that document 01 gives to each case of an answer. Assumes nothing.
 use Prim.Native.Nat.{ℕ}
-use mathlib.Core.Bool.{Bool, cond}
+use mathlib.Core.Bool.{Bool, true, false, cond}
 use mathlib.Core.List.{List, [], _∷_}
 use lib.Dec.{eqb}
 use Rattle.trb.specs.Codes.{codeNumber}
@@ -21,6 +21,11 @@ use Rattle.trb.specs.declared.TrbProcessingResult.the-variants as result
 abbrev pub numberOf : Answer → ℕ
 numberOf answer.Accepted = 0
 numberOf (answer.Refused r) = refusalNumber r
+
+-- every question was answered yes
+abbrev pub isAccepted : Answer → Bool
+isAccepted answer.Accepted = true
+isAccepted (answer.Refused r) = false
 
 -- of a completion
 abbrev pub completionNumber : CompletionAnswer → ℕ
