@@ -1,14 +1,15 @@
 -- Laws of completion: demand 3 of what the guest reads off the log. Assumes nothing.
 use Prim.Native.Nat.{ℕ}
 use mathlib.Core.Path.{_≡_, refl, sym, ap, _∙_, subst}
-use mathlib.Core.Bool.{Bool, true, false, cond, true≢false}
-use mathlib.Core.List.{List}
+use mathlib.Core.Bool.{Bool, true, false, not, cond, true≢false}
+use mathlib.Core.List.{List, [], _∷_}
 use native.Mathlib.Nat.{zero-add}
 use native.Mathlib.Omega.{arith}
-use lib.Dec.{eqb}
+use lib.Dec.{leb, eqb}
 use borrow.Author.Tests.{eqb-true}
 use lib.ListN.{length}
 use Rattle.trb.specs.Answers.{numberOf, completionNumber, refusalOf, isAccepted as passed}
+use Rattle.trb.specs.Limits.{minLog, maxData}
 use Rattle.trb.specs.Questions.{firstNo, agree}
 use Rattle.trb.specs.declared.Answer.{Answer}
 use Rattle.trb.specs.declared.Answer.the-variants.{Accepted, Refused}
@@ -31,9 +32,10 @@ use Rattle.in_td.proofs.TdLaws.{tdWalker}
 use Rattle.account.specs.Guest.{Account}
 use Rattle.account.proofs.Accounted.{accounted}
 use Rattle.in_block.specs.Blocks.{heldOf}
-use Rattle.in_block.specs.Facts.{awaitsDevice, factsOf}
+use Rattle.in_block.specs.Facts.{submissionDue, awaitsDevice, factsOf, soundBlock}
 use Rattle.in_block.specs.Outcomes.{endingOf}
 use Rattle.in_block.specs.declared.Ending.{Ending}
+use Rattle.in_block.specs.declared.Ending.the-variants.{KeepCollecting, Transfer, ReportUnsupported}
 use Rattle.in_block.specs.declared.InBlock.{InBlock}
 use Rattle.in_questions.specs.Questions.{isGiven, completionQuestions}
 use Rattle.in_questions.proofs.PassedLaws.{PassedCompletion, passed-completion}
@@ -63,6 +65,35 @@ module _ (a : Answer) (r : TrbProcessingResult) where
   pub answerTo-refused : passed a ≡ false → answerTo a r ≡ RefusedCompletion (refusalOf (numberOf a))
   answerTo-refused e = ap (λ (x : Answer). answerTo x r) (sym (refused-is a e))
 
+completedAs-number : (x : Ending) (b : InBlock) → completionNumber (completedAs x b .state .answer) ≡ 0
+unfolding transferred
+completedAs-number KeepCollecting b = refl
+completedAs-number (Transfer st n) b = refl
+completedAs-number (ReportUnsupported a) b = refl
+
+-- the number of a completion's answer is that of the first no
+module _ (l : ℕ) (b : InBlock) (r : InTrbProcessingResult) (n : ℕ) where
+  abbrev number-by : (long sound due agreed short : Bool) → ℕ
+  number-by long sound due agreed short = firstNo ((long, 1) ∷ (sound, 2) ∷ (due, 3) ∷ (agreed, 8) ∷ (short, 9) ∷ [])
+
+  abbrev done : Out call.Completed
+  done = completedAs (endingOf (b .state) r n) b
+
+  by-answers : (long sound due agreed short : Bool)
+      → completionNumber (cond (eqb (number-by long sound due agreed short) 0) done (refused b (number-by long sound due agreed short)) .state .answer) ≡ number-by long sound due agreed short
+  unfolding firstNo refusalOf
+  by-answers true true true true true = completedAs-number (endingOf (b .state) r n) b
+  by-answers true true true true false = refl
+  by-answers true true true false short = refl
+  by-answers true true false agreed short = refl
+  by-answers true false due agreed short = refl
+  by-answers false sound due agreed short = refl
+
+  pub completion-number : completionNumber (completion l b r n .state .answer) ≡ firstNo (completionQuestions l (factsOf b) r n)
+  unfolding completion completionQuestions
+  completion-number =
+      by-answers (leb minLog l) (soundBlock (factsOf b)) (not (submissionDue (b .state))) (agree (isGiven r) (awaitsDevice (b .state))) (leb n maxData)
+
 -- ---- Demand 3
 
 abbrev Passed : Out call.Completed → Bool
@@ -76,10 +107,14 @@ accepted-all b n o e = by-number (eqb n 0) refl e
     by-number true k p = eqb-true n 0 k
     by-number false k p = absurd (true≢false (sym p))
 
+pub accepted-none : (l : ℕ) (b : InBlock) (r : InTrbProcessingResult) (n : ℕ) → Passed (completion l b r n) ≡ true → firstNo (completionQuestions l (factsOf b) r n) ≡ 0
+unfolding completion
+accepted-none l b r n e = accepted-all b (firstNo (completionQuestions l (factsOf b) r n)) (completedAs (endingOf (b .state) r n) b) e
+
 -- an accepted completion is what is done once every question was answered with yes
 pub accepted-completion : (l : ℕ) (b : InBlock) (r : InTrbProcessingResult) (n : ℕ) → Passed (completion l b r n) ≡ true → completion l b r n ≡ completedAs (endingOf (b .state) r n) b
 unfolding completion
-accepted-completion l b r n e = rw (accepted-all b (firstNo (completionQuestions l (factsOf b) r n)) (completedAs (endingOf (b .state) r n) b) e)
+accepted-completion l b r n e = rw (accepted-none l b r n e)
 
 -- a block that awaits the device has walked its TRBs
 real-walk : (b : InBlock) (x : TdBasedNormalSubmissionState) (r : InTrbProcessingResult) (n : ℕ) → awaitsDevice x ≡ true → agree (isGiven r) (awaitsDevice x) ≡ true
@@ -101,10 +136,9 @@ pub accounted-completion : (l l' : List ℕ) (b : InBlock) (res : InTrbProcessin
 unfolding completion transferred
 accounted-completion l l' b res n r m waits accepts distinct isp last =
     let qs = completionQuestions (length l) (factsOf b) res n in
-    let done = completedAs (endingOf (b .state) res n) b in
     let o = completion (length l) b res n in
     let e : Passed o ≡ true = ap (λ (c : call.Completed). isAccepted (c .answer)) (sym (m .state)) ∙ accepts in
-    let none : firstNo qs ≡ 0 = accepted-all b (firstNo qs) done e in
+    let none : firstNo qs ≡ 0 = accepted-none (length l) b res n e in
     let known : PassedCompletion (length l) (factsOf b) res n = passed-completion (length l) (factsOf b) res n none in
     let told : Told b n o = rw none
     (real-walk b (b .state) res n waits (known .agreed) (Told b n)
