@@ -56,7 +56,6 @@ module _ (e : EndpointId) (s : SlotId) (ts : List TransferTrb) where
   soundBlock-rowBlock = by-length (leb (length ts) maxHeld) refl
     where
       by-length : (b : Bool) → leb (length ts) maxHeld ≡ b → soundBlock (factsOf block) ≡ soundBlock (rowFacts e s (length ts) (heldTest ts))
-      unfolding soundBlock
       by-length true few = rw (heldOf-rowBlock (leb-true _ _ few))
       by-length false many = rw many
 
@@ -106,7 +105,6 @@ module _ (e : EndpointId) (s : SlotId) (ts : List TransferTrb) where
     by-plan Q refuses accepts = by-number (eqb asked 0) refl
       where
         by-number : (b : Bool) → eqb asked 0 ≡ b → Q (rowPlan (length l) e s (length ts) (heldTest ts) res n)
-        unfolding rowPlan
         by-number true none = rw none (accepts (eqb-true asked 0 none))
         by-number false some = rw some (refuses some)
 
