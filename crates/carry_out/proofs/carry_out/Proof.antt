@@ -18,18 +18,18 @@ use Rattle.carry_out.proofs.carry_out.Tie as tie
 abbrev first : tie.Start → ℕ
 first s = firstNo (carryOutQuestions (s .args .log .now) (length (s .args .data .now)) (s .args .base) (length (s .args .memory .now)))
 
-malformed : (c : tie.Then1) → first (c .before .before) ≡ 10
+malformed : (c : tie.Then1) → first (c .before .before .before .before .before) ≡ 10
 unfolding firstNo
 malformed c = rw (← c .before .well-formed .ensures, not-true (c .before .well-formed .result) (c .if1 .taken))
 
-formed : (c : tie.Else1) → wellFormed (c .before .before .args .log .now) ≡ true
+formed : (c : tie.Else1) → wellFormed (c .before .before .before .before .before .args .log .now) ≡ true
 formed c = sym (c .before .well-formed .ensures) ∙ not-false (c .before .well-formed .result) (c .if1 .left)
 
-out-of-range : (c : tie.Then2) → first (c .before .before .before .before) ≡ 11
+out-of-range : (c : tie.Then2) → first (c .before .before .before .before .before .before .before) ≡ 11
 unfolding firstNo
 out-of-range c = rw (formed (c .before .before), ← c .before .writes-in-range .ensures, not-true (c .before .writes-in-range .result) (c .if2 .taken))
 
-none : (c : tie.Else2) → first (c .before .before .before .before) ≡ 0
+none : (c : tie.Else2) → first (c .before .before .before .before .before .before .before) ≡ 0
 unfolding firstNo
 none c = rw (formed (c .before .before), ← c .before .writes-in-range .ensures, not-false (c .before .writes-in-range .result) (c .if2 .left))
 

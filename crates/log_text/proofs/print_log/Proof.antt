@@ -10,11 +10,11 @@ use Rattle.log_text.proofs.print_log.Statement.{statement}
 use Rattle.log_text.proofs.print_log.Tie as tie
 
 -- question 1
-short : (c : tie.Then1) → firstNo (printQuestions (c .before .args .text .now)) ≡ 1
+short : (c : tie.Then1) → firstNo (printQuestions (c .before .before .before .args .text .now)) ≡ 1
 unfolding firstNo
 short c = rw (lt-leb _ _ (c .if1 .taken))
 
-long : (c : tie.Else1) → firstNo (printQuestions (c .before .args .text .now)) ≡ 0
+long : (c : tie.Else1) → firstNo (printQuestions (c .before .before .before .args .text .now)) ≡ 0
 unfolding firstNo
 long c = rw (le-leb _ _ (c .if1 .left))
 
