@@ -1,2 +1,5 @@
-pub mod EndpointLaws
-pub mod CountLaws
+pub mod CreationLaws
+pub mod RefusedLaws
+pub mod FreeingLaws
+pub mod SubmissionLaws
+pub mod CompletionLaws

@@ -79,11 +79,11 @@ pub fn submit_trb(
 {
     let endpoint_id = block.endpoint_id;
     let slot_id = block.slot_id;
-    let phase = block.phase;
+    let mut phase = block.phase;
     let mut state = block.state;
-    let direction = block.direction;
-    let request = block.request;
-    let collected = block.collected;
+    let mut direction = block.direction;
+    let mut request = block.request;
+    let mut collected = block.collected;
     let mut held = block.held;
     let mut trbs = block.trbs;
     let variant = t.variant;
@@ -115,12 +115,6 @@ pub fn submit_trb(
         window_base,
         window.len(),
     );
-    let mut transfer = ControlTransfer {
-        phase: phase,
-        direction: direction,
-        request: request,
-        collected: collected,
-    };
     let mut records = 0;
     match answer {
         Answer::Refused(_) => {}
@@ -162,20 +156,28 @@ pub fn submit_trb(
                 trbs[held] = t;
                 held += 1;
             }
-            transfer = control_transfer::transfer_after(outcome, transfer, variant, t.addr);
+            let before = ControlTransfer {
+                phase: phase,
+                direction: direction,
+                request: request,
+                collected: collected,
+            };
+            let transfer = control_transfer::transfer_after(outcome, before, variant, t.addr);
+            phase = transfer.phase;
             state = phase_table::state_after(outcome, t.addr);
+            direction = transfer.direction;
+            request = transfer.request;
+            collected = transfer.collected;
         }
     }
-    let next_phase = transfer.phase;
-    let next_request = transfer.request;
     let next = ControlBlock {
         endpoint_id: endpoint_id,
         slot_id: slot_id,
-        phase: next_phase,
+        phase: phase,
         state: state,
-        direction: transfer.direction,
-        request: next_request,
-        collected: transfer.collected,
+        direction: direction,
+        request: request,
+        collected: collected,
         held: held,
         trbs: trbs,
     };
