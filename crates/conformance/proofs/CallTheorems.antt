@@ -5,7 +5,6 @@ use mathlib.Core.Path.{_≡_, refl, ap, _∙_}
 use mathlib.Core.Bool.{Bool, true, false, cond, false≢true}
 use lib.Dec.{leb}
 use Rattle.trb.specs.Limits.{minLog, maxData}
-use Rattle.trb.specs.declared.Answer.the-variants.{Accepted}
 use Rattle.trb.specs.declared.ControlRequestProcessingResult.the-variants.{SuccessfulControlIn}
 use Rattle.trb.specs.declared.ControlSubmissionState.{ControlSubmissionState}
 use Rattle.trb.specs.declared.ControlSubmissionState.the-variants.{AwaitingControlRequest}
@@ -22,10 +21,15 @@ use Rattle.in_block.specs.declared.InBlock.{InBlock}
 use Rattle.in_endpoint.specs.Completion.{refused, agree, transferred, completedIn, isAccepted, completion as completionIn}
 use Rattle.in_endpoint.specs.declared.Completed.{Completed}
 use Rattle.control_block.specs.declared.ControlBlock.{ControlBlock}
-use Rattle.control_block.specs.Sound.{heldTrbs}
+use Rattle.control_block.specs.Blocks.{heldOf as heldControl}
+use Rattle.control_block.specs.Endings.{endingOf}
+use Rattle.control_block.specs.Facts.{factsOf as factsControl}
 use Rattle.control_chain.specs.Chain.{realizeChain, inputTd}
-use Rattle.control_complete.specs.Completes.{processed, realized, accepted, completionBy, completion as completionControl}
-use Rattle.control_questions.specs.Completion.{completionAnswer}
+use Rattle.control_chain.specs.Endings.{endingRecords}
+use Rattle.control_endpoint.specs.Completion.{refused as refusedControl, accepted, completion as completionControl}
+use Rattle.control_questions.specs.Completion.{completionQuestions}
+use Rattle.trb.specs.Questions.{firstNo}
+use Rattle.trb.proofs.QuestionLaws.{after-accepted}
 
 -- ---- IN
 
@@ -63,9 +67,10 @@ module _ (b : InBlock) (st : InTrbProcessingStatus) (n : ℕ) where
 
 -- ---- Control
 
-pub completion-realizeChain : (log : ℕ) (b : ControlBlock) (n : ℕ) → b .state ≡ AwaitingControlRequest → completionAnswer log b SuccessfulControlIn n ≡ Accepted
-    → completionControl log b SuccessfulControlIn n .records ≡ realizeChain (inputTd (b .«endpoint_id») (b .«slot_id») n) (heldTrbs b) .records
-unfolding completionControl accepted realized
-completion-realizeChain log b n awaits h =
-    ap (λ answer. completionBy answer b SuccessfulControlIn n .records) h
-    ∙ ap (λ (state : ControlSubmissionState). processed state b SuccessfulControlIn n .records) awaits
+pub completion-realizeChain : (log : ℕ) (b : ControlBlock) (n : ℕ) → b .state ≡ AwaitingControlRequest → firstNo (completionQuestions log (factsControl b) SuccessfulControlIn n) ≡ 0
+    → completionControl log b SuccessfulControlIn n .records ≡ realizeChain (inputTd (b .«endpoint_id») (b .«slot_id») n) (heldControl b) .records
+unfolding completionControl accepted endingRecords
+completion-realizeChain log b n awaits none =
+    ap (λ o. o .records)
+    (after-accepted (completionQuestions log (factsControl b) SuccessfulControlIn n) (refusedControl b) (accepted (endingOf (b .state) SuccessfulControlIn n) b) none)
+    ∙ ap (λ (state : ControlSubmissionState). accepted (endingOf state SuccessfulControlIn n) b .records) awaits

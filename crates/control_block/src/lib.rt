@@ -265,7 +265,10 @@ pub fn places_freed(ending: Ending, held: usize) -> usize
 }
 
 // The phase behind a completion.
-pub fn phase_behind(state: ControlSubmissionState, phase: ControlTransferState) -> ControlTransferState
+pub fn phase_behind(
+    state: ControlSubmissionState,
+    phase: ControlTransferState,
+) -> ControlTransferState
     ensures { λ r. ⌜ r ≡ phaseBehind state phase ⌝ }
 {
     match state {

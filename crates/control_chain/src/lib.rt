@@ -133,12 +133,7 @@ fn realize_normal(
 }
 
 // One TRB; ports a turn of `realize_control_chain`.
-fn realize_trb(
-    log: &mut [u8],
-    td: ControlTd,
-    progress: TdProgress,
-    t: TransferTrb,
-) -> TdProgress
+fn realize_trb(log: &mut [u8], td: ControlTd, progress: TdProgress, t: TransferTrb) -> TdProgress
     requires { ⌜ (recordLength * (progress .records + 2) ≤ length (now log)) × Within (td .info) progress ⌝ }
     ensures { λ r. ⌜ Meets (realizeTrb td progress t) (progress .records) (now (log .entry)) r (now (log .exit)) ⌝ }
 {
@@ -295,14 +290,7 @@ pub fn log_ending(
             endpoint_id,
             slot_id,
         ),
-        Ending::Fail(code, _) => put_event(
-            log,
-            count,
-            setup_address,
-            code,
-            endpoint_id,
-            slot_id,
-        ),
+        Ending::Fail(code, _) => put_event(log, count, setup_address, code, endpoint_id, slot_id),
         Ending::Realize(_, _) => count,
     }
 }

@@ -80,7 +80,7 @@ module _ (b : ControlBlock) where
       → n ≡ length (endingRecords x (b .request .address) (b .«endpoint_id») (b .«slot_id») (heldOf b)) → phase ≡ phaseBehind (b .state) (b .phase) → freed ≡ placesFreed x (b .held)
       → ts ≡ cleared freed (b .trbs)
       → _≡_ {A = Completed} (record { answer = answer.Completed result; records = n; block = blockOf (b .«endpoint_id») (b .«slot_id») (atPhase phase (transferOf b)) NoTrbSubmitted (b .held - freed) ts })
-        (accepted x b .state)
+      (accepted x b .state)
   unfolding accepted blockBehind
   completed-by x result n phase freed ts end count at frees blank =
       rw (end, count, at, blank, frees)
