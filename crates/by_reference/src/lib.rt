@@ -12,8 +12,8 @@ ghost use Rattle.log.specs.Calls.{Meets};
 ghost use Rattle.in_endpoint.specs.Creation.{cancelled};
 ghost use Rattle.in_endpoint.specs.Submission.{Submits as SubmitsIn};
 ghost use Rattle.in_endpoint.specs.Completion.{Completes as CompletesIn};
-ghost use Rattle.control_submit.specs.Submits.{submission as submissionControl, Submits};
-ghost use Rattle.control_complete.specs.Completes.{completion as completionControl};
+ghost use Rattle.control_endpoint.specs.Submission.{Submits as SubmitsControl};
+ghost use Rattle.control_endpoint.specs.Completion.{Completes as CompletesControl};
 ghost use Rattle.by_reference.specs.Outcomes.{submittedIn, completedIn, submittedControl, completedControl};
 
 pub struct SubmissionOutcome {
@@ -77,7 +77,7 @@ pub fn control_submit_trb(
     window_base: u64,
     window: &[u8],
 ) -> SubmissionOutcome
-    ensures { λ r. ⌜ Submits (submissionControl (length (now (log .entry))) (length (now (collect .entry))) (now (block .entry)) t «window_base» (now (window .entry))) (now (log .entry)) (now (collect .entry)) (submittedControl r (now (block .exit))) (now (log .exit)) (now (collect .exit)) ⌝ }
+    ensures { λ r. ⌜ SubmitsControl (now (block .entry)) t «window_base» (now (window .entry)) (now (log .entry)) (now (collect .entry)) (submittedControl r (now (block .exit))) (now (log .exit)) (now (collect .exit)) ⌝ }
 {
     let r = control_endpoint::submit_trb(log, collect, *block, t, window_base, window);
     *block = r.block;
@@ -93,7 +93,7 @@ pub fn control_next_completion(
     result: ControlRequestProcessingResult,
     data: &[u8],
 ) -> CompletionOutcome
-    ensures { λ r. ⌜ Meets (completionControl (length (now (log .entry))) (now (block .entry)) result (length (now («data» .entry)))) 0 (now (log .entry)) (completedControl r (now (block .exit))) (now (log .exit)) ⌝ }
+    ensures { λ r. ⌜ CompletesControl (now (block .entry)) result (length (now («data» .entry))) (now (log .entry)) (completedControl r (now (block .exit))) (now (log .exit)) ⌝ }
 {
     let r = control_endpoint::next_completion(log, *block, result, data);
     *block = r.block;

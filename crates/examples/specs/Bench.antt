@@ -31,16 +31,17 @@ use Rattle.in_endpoint.specs.Completion.{transferred, completion}
 use Rattle.in_endpoint.specs.Creation.{creation}
 use Rattle.in_endpoint.specs.Submission.{submission}
 use Rattle.in_questions.specs.Questions as inQuestions
-use Rattle.control_block.specs.Sound as controlBlock
+use Rattle.control_block.specs.Facts as controlBlock
 use Rattle.control_chain.specs.Chain.{moveOut, realizeDataStage, realizeNormal, realizeTrb}
-use Rattle.control_complete.specs.Completes as completes
-use Rattle.control_data.specs.Data.{inReach, windowBytes, bytesOf}
-use Rattle.control_held.specs.Held.{successes}
-use Rattle.control_questions.specs.Completion.{agrees, completionAnswer}
-use Rattle.control_questions.specs.Submission.{hasRoom, reaches, collectable, trbAnswer, submissionAnswer}
-use Rattle.control_questions.specs.Submission as questions
-use Rattle.control_submit.specs.Submits as submits
+use Rattle.control_chain.specs.Dropped.{successes}
+use Rattle.control_chain.specs.Endings.{endingRecords}
+use Rattle.control_endpoint.specs.Completion as completes
+use Rattle.control_endpoint.specs.Submission as submits
+use Rattle.control_questions.specs.Completion.{completionQuestions}
+use Rattle.control_questions.specs.Submission.{hasRoom, reaches, submissionQuestions}
+use Rattle.control_transfer.specs.Data.{inReach, windowBytes, bytesOf}
 use Rattle.control_transfer.specs.Transfers.{transferAfter}
+use Rattle.control_transfer.specs.Transfers as transfers
 use Rattle.phase_table.specs.Table.{becomes}
 use Rattle.examples.specs.Control as onControlEndpoint
 use Rattle.examples.specs.Control.{onControl, setup, dataStage, status}
@@ -146,5 +147,5 @@ examples =
 
 -- the definitions say of every example what document 01 says
 bench : map (λ (e : Example). e .found) examples ≡ map (λ (e : Example). e .expected) examples
-unfolding examples tdT wrote event eventDataOf requested asked collects ends normal eventData noOp setup dataStage status walk cleared all soundTrb placeOf idsInRange putDma realizeDma onIn play creation submission inQuestions.submissionQuestions outcomeOf completion inQuestions.completionQuestions firstNo transferred soundBlock rangeInside processTrb handleNormal onControl onControlEndpoint.play becomes transferAfter controlBlock.soundBlock submissionAnswer trbAnswer hasRoom reaches questions.collects collectable inReach windowBytes bytesOf submits.submission submits.accepted submits.recordsOf submits.blockAfter completionAnswer agrees completes.completion completes.accepted completes.blockAfter completes.badTrb completes.failed completes.realized successes moveOut realizeDataStage realizeNormal realizeTrb
+unfolding examples tdT wrote event eventDataOf requested asked collects ends normal eventData noOp setup dataStage status walk cleared all soundTrb placeOf idsInRange putDma realizeDma onIn play creation submission inQuestions.submissionQuestions outcomeOf completion inQuestions.completionQuestions transferred soundBlock rangeInside processTrb handleNormal onControl onControlEndpoint.play becomes transferAfter controlBlock.soundBlock firstNo submissionQuestions hasRoom reaches transfers.collects inReach windowBytes bytesOf submits.submission submits.bytesCollected submits.accepted submits.recordsOf submits.blockAfter completionQuestions completes.completion completes.accepted completes.blockBehind endingRecords successes moveOut realizeDataStage realizeNormal realizeTrb
 bench = refl

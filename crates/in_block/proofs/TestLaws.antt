@@ -1,18 +1,17 @@
 -- How a loop over the places keeps to what is found of those held. Assumes nothing.
-use Prim.Native.Nat.{ℕ, zero, suc, _+_, _<_, _≤_, min}
-use mathlib.Core.Path.{_≡_, refl, sym, ap, _∙_}
-use mathlib.Core.Bool.{Bool, true, not, _&&_, _||_}
-use mathlib.Core.List.{List, [], _∷_}
-use native.Mathlib.Numerals.{add-one, unary-clauses}
-use native.Mathlib.Omega.{arith}
-use lib.ListN.{length, take, set, getD}
+use Prim.Native.Nat.{ℕ, _+_, _<_, _≤_, min}
+use mathlib.Core.Path.{_≡_, ap, _∙_}
+use mathlib.Core.Bool.{true}
+use mathlib.Core.List.{List}
+use lib.ListN.{length, take, getD}
 use Rattle.trb.specs.Limits.{maxHeld}
 use Rattle.trb.specs.declared.TransferTrb.{TransferTrb}
 use Rattle.held.specs.Places.{pastEnd}
-use Rattle.held.specs.Sound.{soundTrb, heldSound}
+use Rattle.held.specs.Sound.{soundTrb}
 use Rattle.held.specs.declared.EndpointKind.the-variants.{In}
+use Rattle.held.proofs.TestedLaws.{places-few, places-held}
 use Rattle.walks.specs.All.{all}
-use Rattle.walks.proofs.AllLaws.{all-set, Tested, tested-none, tested-turn, tested-end}
+use Rattle.walks.proofs.AllLaws.{Tested, tested-none, tested-turn, tested-end}
 use Rattle.in_block.specs.Blocks.{heldOf}
 use Rattle.in_block.specs.Facts.{noNormal, trbTest, heldTest, factsOf}
 use Rattle.in_block.specs.declared.BlockFacts.{BlockFacts}
@@ -43,21 +42,11 @@ module _ (xs : List TransferTrb) (n : ℕ) (long : n ≤ length xs) where
       let other : s .«no_normal» ≡ all noNormal (take n xs) = tested-end noNormal xs n long (s .«no_normal») i (k .other) h in
       λ j. record { sound = sound j; «no_normal» = other j }
 
-take-least : (xs : List TransferTrb) (n : ℕ) → take (min n (length xs)) xs ≡ take n xs
-take-least [] zero = refl
-take-least [] (suc n) = simp unary-clauses refl
-take-least (x ∷ xs) zero = simp unary-clauses refl
-take-least (x ∷ xs) (suc n) = simp unary-clauses (ap (λ (ts : List TransferTrb). x ∷ ts) (take-least xs n))
-
 -- over the places xs of a block that says n are held, of which p are tested
-module _ (xs : List TransferTrb) (n p : ℕ) (all-places : length xs ≡ maxHeld) (tested : p ≡ min n maxHeld) where
-  pub places-few : p ≤ length xs
-  places-few = omega (arith, all-places, tested)
-
-  pub held-tested : (s : HeldTest) (i : ℕ) → Testing (take p xs) s i → p ≤ i → s ≡ heldTest (take n xs)
-  held-tested s i k h =
-      testing-end xs p places-few s i k h
-      ∙ ap (λ (ts : List TransferTrb). heldTest ts) (ap (λ (k : ℕ). take k xs) (tested ∙ ap (λ (k : ℕ). min n k) (sym all-places)) ∙ take-least xs n)
+pub held-tested : (xs : List TransferTrb) (n p : ℕ) (all-places : length xs ≡ maxHeld) (tested : p ≡ min n maxHeld) (s : HeldTest) (i : ℕ) → Testing (take p xs) s i → p ≤ i
+    → s ≡ heldTest (take n xs)
+held-tested xs n p all-places tested s i k h =
+    testing-end xs p (places-few xs n p all-places tested) s i k h ∙ ap (λ (ts : List TransferTrb). heldTest ts) (places-held xs n p all-places tested)
 
 -- the facts of a block, once the loop has found this of the TRBs held
 pub facts-known : (b : InBlock) (found : HeldTest) → found ≡ heldTest (heldOf b)

@@ -10,7 +10,7 @@ use trb::TransferTrb;
 use trb::TransferTrbVariant;
 ghost use mathlib.Core.Path.{_≡_};
 ghost use mathlib.Core.Bool.{_&&_};
-ghost use Prim.Native.Nat.{_<_, min};
+ghost use Prim.Native.Nat.{_<_};
 ghost use Rattle.trb.specs.Limits.{maxHeld};
 ghost use Rattle.in_block.specs.Blocks.{freshBlock, withState, stored, emptied};
 ghost use Rattle.in_block.specs.Facts.{isNormal, soundIn, trbTest, submissionDue, awaitsDevice, soundBlock};
@@ -153,17 +153,6 @@ pub fn test_trb(so_far: HeldTest, t: TransferTrb) -> HeldTest
     HeldTest {
         sound: sound,
         no_normal: no_normal,
-    }
-}
-
-// How many places are tested: those that are held, and no more than there are.
-pub fn places_held(held: usize) -> usize
-    ensures { λ r. ⌜ r ≡ min held maxHeld ⌝ }
-{
-    if held < trb::MAX_HELD {
-        held
-    } else {
-        trb::MAX_HELD
     }
 }
 

@@ -8,7 +8,7 @@ use native.Mathlib.Omega.{arith}
 use lib.Dec.{leb, eqb}
 use borrow.Author.Tests.{eqb-true}
 use lib.ListN.{length}
-use Rattle.trb.specs.Answers.{numberOf, completionNumber, refusalOf, isAccepted as passed}
+use Rattle.trb.specs.Answers.{numberOf, completionNumber, refusalOf, isAccepted as passed, said}
 use Rattle.trb.specs.Limits.{minLog, maxData}
 use Rattle.trb.specs.Questions.{firstNo, agree}
 use Rattle.trb.specs.declared.Answer.{Answer}
@@ -148,4 +148,4 @@ accounted-completion l l' b res n r m waits accepts distinct isp last =
 -- the promise of a completion, by its number and what it came to
 pub completes : (l l' : List ℕ) (b : InBlock) (res : InTrbProcessingResult) (n : ℕ) (r : call.Completed) → completionNumber (r .answer) ≡ firstNo (completionQuestions (length l) (factsOf b) res n)
     → Meets (completion (length l) b res n) 0 l r l' → Completes b res n l r l'
-completes l l' b res n r e m = record { number = e; met = m; account = accounted-completion l l' b res n r m }
+completes l l' b res n r e m = record { number = e; met = m; result = ap (λ (x : call.Completed). said (x .answer)) (m .state); account = accounted-completion l l' b res n r m }

@@ -5,7 +5,7 @@ use mathlib.Core.Path.{_≡_}
 use mathlib.Core.Bool.{Bool, true, false}
 use mathlib.Core.List.{List, [], _∷_}
 use lib.ListN.{length}
-use Rattle.trb.specs.Answers.{completionNumber, refusalOf}
+use Rattle.trb.specs.Answers.{completionNumber, refusalOf, said}
 use Rattle.trb.specs.Questions.{firstNo, afterQuestions}
 use Rattle.trb.specs.declared.Answer.{Answer}
 use Rattle.trb.specs.declared.Answer.the-variants as asked
@@ -94,4 +94,5 @@ Accounted b n a rs =
 pub record Completes (b : InBlock) (s : InTrbProcessingResult) (n : ℕ) (l : List ℕ) (r : Completed) (l' : List ℕ) : Type 0 where
   pub number : completionNumber (r .answer) ≡ firstNo (completionQuestions (length l) (factsOf b) s n)
   pub met : Meets (completion (length l) b s n) 0 l r l'
+  pub result : said (r .answer) ≡ said (completion (length l) b s n .state .answer)
   pub account : Accounted b n (r .answer) (recordsIn (r .records) l')

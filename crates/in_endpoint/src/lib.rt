@@ -98,7 +98,7 @@ pub fn submit_trb(
     let state = block.state;
     let mut held = block.held;
     let mut trbs = block.trbs;
-    let places = in_block::places_held(held);
+    let places = held::places_held(held);
     let mut found = HeldTest {
         sound: true,
         no_normal: true,
@@ -204,7 +204,7 @@ pub fn next_completion(
     let state = block.state;
     let mut held = block.held;
     let mut trbs = block.trbs;
-    let places = in_block::places_held(held);
+    let places = held::places_held(held);
     let mut found = HeldTest {
         sound: true,
         no_normal: true,

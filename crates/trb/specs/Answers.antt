@@ -72,3 +72,12 @@ carriedBy result.TrbError = []
 carriedBy result.TransactionError = []
 carriedBy (result.TransactionErrorAt a c) = record { address = a; cycle = c } ∷ []
 carriedBy result.Disconnect = []
+
+-- what an answer's result says: its code, and what it carries; of a refusal nothing
+pub record Said : Type 0 where
+  pub code : ℕ
+  pub carried : List Carried
+
+abbrev pub said : CompletionAnswer → List Said
+said (completion.Completed r) = record { code = resultCode r; carried = carriedBy r } ∷ []
+said (completion.Refused q) = []

@@ -24,7 +24,8 @@ use Rattle.in_block.specs.Facts.{heldTest, factsOf}
 use Rattle.in_block.specs.Outcomes.{endingOf}
 use Rattle.in_block.specs.declared.BlockFacts.{BlockFacts}
 use Rattle.in_block.proofs.SoundLaws.{sound-held}
-use Rattle.in_block.proofs.TestLaws.{Testing, testing-none, testing-turn, places-few, held-tested, facts-known}
+use Rattle.held.proofs.TestedLaws.{places-few}
+use Rattle.in_block.proofs.TestLaws.{Testing, testing-none, testing-turn, held-tested, facts-known}
 use Rattle.in_questions.specs.Questions.{completionQuestions}
 use Rattle.in_questions.proofs.PassedLaws.{PassedCompletion, passed-completion}
 use Rattle.in_endpoint.specs.Completion.{refused, transferred, completedAs, completion}

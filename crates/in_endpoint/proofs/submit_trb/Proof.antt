@@ -20,7 +20,8 @@ use Rattle.in_block.specs.declared.BlockFacts.{BlockFacts}
 use Rattle.in_block.specs.declared.HeldTest.{HeldTest}
 use Rattle.in_block.specs.declared.Outcome.{Outcome}
 use Rattle.in_block.specs.declared.Outcome.the-variants.{Drop, Collect, CompleteLocally, Request}
-use Rattle.in_block.proofs.TestLaws.{Testing, testing-none, testing-turn, places-few, held-tested, facts-known}
+use Rattle.held.proofs.TestedLaws.{places-few}
+use Rattle.in_block.proofs.TestLaws.{Testing, testing-none, testing-turn, held-tested, facts-known}
 use Rattle.in_questions.specs.Questions.{submissionQuestions}
 use Rattle.in_questions.proofs.PassedLaws.{PassedSubmission, passed-submission}
 use Rattle.in_endpoint.specs.Submission.{refused, submittedAs, submission}
