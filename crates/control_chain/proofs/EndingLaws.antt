@@ -1,7 +1,7 @@
 -- Laws of what a completion logs: it is a walk over the TRBs that are freed, and one event more at most; 128 records at most.
 -- Assumes nothing.
 use Prim.Native.Nat.{ℕ, _+_, _*_, _≤_}
-use mathlib.Core.Path.{_≡_, refl, sym, ap, _∙_}
+use mathlib.Core.Path.{_≡_, refl, ap}
 use mathlib.Core.List.{List, [], _∷_, _++_, append-nil}
 use native.Mathlib.Omega.{arith}
 use lib.Dec.{lit≤}
@@ -12,7 +12,7 @@ use Rattle.trb.specs.declared.EndpointId.{EndpointId}
 use Rattle.trb.specs.declared.SlotId.{SlotId}
 use Rattle.trb.specs.declared.TransferTrb.{TransferTrb}
 use Rattle.log.specs.declared.Record.{Record}
-use Rattle.log.specs.Calls.{Out, silent, Put}
+use Rattle.log.specs.Calls.{silent, Put}
 use Rattle.log.proofs.LogLaws.{logged-append, AllFit-append}
 use Rattle.td_part.specs.declared.TdInfo.{TdInfo}
 use Rattle.td_part.specs.declared.TdProgress.{TdProgress}

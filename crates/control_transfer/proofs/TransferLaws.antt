@@ -2,7 +2,6 @@
 use Prim.Native.Nat.{ℕ, _+_, _≤_}
 use mathlib.Core.Path.{_≡_}
 use mathlib.Core.Bool.{Bool, true}
-use lib.Dec.{leb}
 use borrow.Author.Tests.{leb-true}
 use Rattle.trb.specs.Limits.{maxCollected}
 use Rattle.phase_table.specs.declared.Outcome.{Outcome}

@@ -1,7 +1,7 @@
 -- `control_endpoint::next_completion` meets its contract: the first loop keeps to the test of the TRBs held, by which the questions are
 -- asked; the second to the walk over those that the completion frees, with the places behind it blank; one event may follow.
 -- Assumes nothing.
-use Prim.Native.Nat.{ℕ, _+_, _*_, _-_, _≤_}
+use Prim.Native.Nat.{_+_, _*_, _-_, _≤_}
 use mathlib.Core.Path.{_≡_, sym, ap, _∙_, subst}
 use mathlib.Core.List.{List}
 use native.Mathlib.Omega.{arith}
