@@ -22,9 +22,8 @@ use Rattle.in_block.specs.Outcomes.{outcomeOf}
 use Rattle.in_endpoint.specs.Completion.{transferred, completion as completionIn}
 use Rattle.in_endpoint.specs.Submission.{submission as submissionIn}
 use Rattle.in_questions.specs.Questions.{submissionQuestions as submissionQuestionsIn, completionQuestions as completionQuestionsIn}
-use Rattle.in_request.specs.Requests.{rangeInside}
 use Rattle.in_td.specs.Td.{handleNormal, processTrb}
-use Rattle.guest_memory.specs.Places.{placeOf}
+use Rattle.guest_memory.specs.Places.{placeOf, rangeInside}
 use Rattle.held.specs.Places.{cleared}
 use Rattle.held.specs.Sound.{soundTrb}
 use Rattle.td_part.specs.Parts.{putDma, realizeDma}
@@ -122,7 +121,7 @@ controlFrom ran (controlCall t r n ∷ calls) =
     }) calls
 
 unfoldable pub controlRun : List ControlCall → ControlRan
-unfolding controlFrom submissionControl firstNo submissionQuestions hasRoom reaches collects inReach windowBytes bytesOf bytesCollected acceptedSubmission blockAfter recordsOf transferAfter becomes successes completionControl completionQuestions acceptedCompletion blockBehind endingRecords realizeTrb realizeDataStage realizeNormal moveOut idsInRange soundControl soundTrb all placeOf cleared walk putDma realizeDma
+unfolding controlFrom submissionControl firstNo submissionQuestions hasRoom reaches collects inReach rangeInside windowBytes bytesOf bytesCollected acceptedSubmission blockAfter recordsOf transferAfter becomes successes completionControl completionQuestions acceptedCompletion blockBehind endingRecords realizeTrb realizeDataStage realizeNormal moveOut idsInRange soundControl soundTrb all placeOf cleared walk putDma realizeDma
 controlRun calls = controlFrom (record { block = freshControl (record { 0 = 3 }) (record { 0 = 2 }); records = []; collected = []; halt = runsOn }) calls
 
 -- ---- TRBs: address, then what the kind has; cycle bit on

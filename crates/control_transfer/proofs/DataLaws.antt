@@ -12,7 +12,7 @@ use Rattle.buffers.specs.LittleEndian.{leBytes}
 use Rattle.buffers.proofs.LittleEndianLaws.{length-leBytes}
 use Rattle.guest_memory.specs.declared.Place.{Place}
 use Rattle.guest_memory.specs.declared.Place.the-variants.{Outside, At}
-use Rattle.guest_memory.specs.Places.{placeOf, isInside}
+use Rattle.guest_memory.specs.Places.{placeOf, isInside, rangeInside}
 use Rattle.guest_memory.proofs.PlaceLaws.{placed}
 use Rattle.control_transfer.specs.declared.TrbData.{TrbData}
 use Rattle.control_transfer.specs.Data.{sizeOf, inReach, bytesAt, windowBytes, bytesOf}
@@ -35,7 +35,7 @@ module _ (base : ℕ) (w : List ℕ) where
 
   -- where question 6 is answered yes, OUT data has as many bytes as it counts for
   pub length-bytesOf : (d : TrbData) → inReach false d base (length w) ≡ true → length (bytesOf base w d) ≡ sizeOf d
-  unfolding inReach bytesOf windowBytes
+  unfolding inReach rangeInside bytesOf windowBytes
   length-bytesOf d reach = by (d .«immediate_data») (eqb (d .«transfer_length») 0) refl refl
     where
       by : (immediate none : Bool) → d .«immediate_data» ≡ immediate → eqb (d .«transfer_length») 0 ≡ none → length (bytesOf base w d) ≡ sizeOf d

@@ -1,13 +1,13 @@
 -- 01, Control endpoint: what a DataStage or Normal TRB counts and collects. Assumes nothing.
 use Prim.Native.Nat.{ℕ, min}
-use mathlib.Core.Bool.{Bool, true, false, not, cond, _&&_, _||_}
+use mathlib.Core.Bool.{Bool, false, not, cond, _||_}
 use mathlib.Core.List.{List, []}
-use lib.Dec.{eqb}
 use lib.ListN.{length, take, drop}
 use Rattle.buffers.specs.LittleEndian.{leBytes}
 use Rattle.guest_memory.specs.declared.Place.{Place}
 use Rattle.guest_memory.specs.declared.Place.the-variants.{Outside, At}
-use Rattle.guest_memory.specs.Places.{placeOf, isInside}
+use Rattle.guest_memory.specs.Places.{placeOf, rangeInside}
+use Rattle.trb.specs.Questions.{askedIf}
 use Rattle.trb.specs.declared.TransferTrbVariant.{TransferTrbVariant}
 use Rattle.trb.specs.declared.TransferTrbVariant.the-variants.{SetupStage, DataStage, StatusStage, Normal, EventData, NoOp, Isoch, Unrecognized}
 use Rattle.control_transfer.specs.declared.TrbData.{TrbData}
@@ -34,13 +34,9 @@ immediateLength n = min 8 n
 abbrev pub sizeOf : TrbData → ℕ
 sizeOf d = cond (d .«immediate_data») (immediateLength (d .«transfer_length»)) (d .«transfer_length»)
 
--- 01, Submission: of nonzero length. Not asked of immediate data in a control OUT transfer
-abbrev pub reachAsked : Bool → TrbData → Bool
-reachAsked input d = not (eqb (d .«transfer_length») 0) && (input || not (d .«immediate_data»))
-
--- 01, Submission: does pointer to pointer + length lie in the guest window, in whole numbers?
+-- 01, Submission: does pointer to pointer + length lie in the guest window? Not asked of immediate data in a control OUT transfer
 unfoldable pub inReach : Bool → TrbData → ℕ → ℕ → Bool
-inReach input d base size = cond (reachAsked input d) (isInside (placeOf base size (d .«data_pointer») (d .«transfer_length»))) true
+inReach input d base size = askedIf (input || not (d .«immediate_data»)) (rangeInside base size (d .«data_pointer») (d .«transfer_length»))
 
 abbrev pub bytesAt : Place → ℕ → List ℕ → List ℕ
 bytesAt Outside n w = []

@@ -9,7 +9,7 @@ use trb::SetupStageTrb;
 use trb::SlotId;
 use trb::TransferTrbVariant;
 use trb::UsbRequest;
-ghost use mathlib.Core.Bool.{true};
+ghost use mathlib.Core.Bool.{true, not, _||_};
 ghost use mathlib.Core.Path.{_≡_};
 ghost use Prim.Native.Nat.{_+_, _*_, _≤_};
 ghost use lib.ListN.{length};
@@ -17,7 +17,7 @@ ghost use Rattle.buffers.specs.LittleEndian.{leBytes};
 ghost use Rattle.buffers.specs.Patch.{patch};
 ghost use Rattle.trb.specs.Limits.{recordLength, maxCollected};
 ghost use Rattle.log.specs.Calls.{Meets, counted};
-ghost use Rattle.control_transfer.specs.Data.{noData, dataOf, immediateLength, sizeOf, reachAsked, inReach, windowBytes, bytesOf};
+ghost use Rattle.control_transfer.specs.Data.{noData, dataOf, immediateLength, sizeOf, inReach, windowBytes, bytesOf};
 ghost use Rattle.control_transfer.specs.Transfers.{requestOf, begun, lengthened, grown, takenBy, heldInto, transferAfter, requestsOf, collects, collectable, bytesTaken};
 
 // ---- The data of a TRB
@@ -86,27 +86,21 @@ pub fn size_of(data: TrbData) -> u32
     }
 }
 
-// Is it asked whether the data lies in the window? `input`: the transfer is IN.
-fn is_reach_asked(input: bool, data: TrbData) -> bool
-    ensures { λ r. ⌜ r ≡ reachAsked input «data» ⌝ }
+// Question 6 is not asked of immediate data in an OUT transfer.
+fn is_range_asked(input: bool, immediate: bool) -> bool
+    ensures { λ r. ⌜ r ≡ (input || not immediate) ⌝ }
 {
-    if data.transfer_length == 0 {
-        return false;
-    }
-    if input {
-        return true;
-    }
-    !data.immediate_data
+    if input { true } else { !immediate }
 }
 
-// Does the data lie in the window of `size` bytes at `base`, where that is asked?
+// Question 6, of the data of a TRB that is held; `input`: the transfer is IN.
 pub fn is_in_reach(input: bool, data: TrbData, base: u64, size: usize) -> bool
     ensures { λ r. ⌜ r ≡ inReach input «data» base size ⌝ }
 {
-    if !is_reach_asked(input, data) {
+    if !is_range_asked(input, data.immediate_data) {
         return true;
     }
-    guest_memory::check_range(base, size, data.data_pointer, data.transfer_length)
+    guest_memory::range_inside(base, size, data.data_pointer, data.transfer_length)
 }
 
 fn le_bytes(x: u64) -> [u8; 8]

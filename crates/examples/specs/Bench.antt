@@ -22,11 +22,11 @@ use Rattle.walks.specs.All.{all}
 use Rattle.walks.specs.Walk.{walk}
 use Rattle.td_part.specs.Parts.{putDma, realizeDma}
 use Rattle.in_td.specs.Td.{handleNormal, processTrb}
-use Rattle.guest_memory.specs.Places.{placeOf}
+use Rattle.guest_memory.specs.Places.{placeOf, rangeInside}
 use Rattle.in_block.specs.Facts.{soundBlock}
 use Rattle.in_block.specs.Outcomes.{outcomeOf}
 use Rattle.trb.specs.Questions.{firstNo}
-use Rattle.in_request.specs.Requests.{rangeInside}
+use Rattle.account.specs.Claims.{tdT}
 use Rattle.in_endpoint.specs.Completion.{transferred, completion}
 use Rattle.in_endpoint.specs.Creation.{creation}
 use Rattle.in_endpoint.specs.Submission.{submission}
@@ -71,15 +71,6 @@ collects bytes s = record { records = s .records; answer = s .answer; collected 
 
 ends : TrbProcessingResult → List Record → Seen
 ends r rs = record { records = rs; answer = Completed r; collected = [] }
-
--- ---- TD T: Normals of 512, ISP on all, IOC on the last, chain on the first two
-
-tdT : List TransferTrb
-tdT =
-    normal 0x1000 0x8000 512 true false true
-    ∷ normal 0x1010 0x8200 512 true false true
-    ∷ normal 0x1020 0x8400 512 true true false
-    ∷ []
 
 record Example : Type 0 where
   found : Seen
@@ -147,5 +138,5 @@ examples =
 
 -- the definitions say of every example what document 01 says
 bench : map (λ (e : Example). e .found) examples ≡ map (λ (e : Example). e .expected) examples
-unfolding examples tdT wrote event eventDataOf requested asked collects ends normal eventData noOp setup dataStage status walk cleared all soundTrb placeOf idsInRange putDma realizeDma onIn play creation submission inQuestions.submissionQuestions outcomeOf completion inQuestions.completionQuestions transferred soundBlock rangeInside processTrb handleNormal onControl onControlEndpoint.play becomes transferAfter controlBlock.soundBlock firstNo submissionQuestions hasRoom reaches transfers.collects inReach windowBytes bytesOf submits.submission submits.bytesCollected submits.accepted submits.recordsOf submits.blockAfter completionQuestions completes.completion completes.accepted completes.blockBehind endingRecords successes moveOut realizeDataStage realizeNormal realizeTrb
+unfolding examples wrote event eventDataOf requested asked collects ends normal eventData noOp setup dataStage status walk cleared all soundTrb placeOf idsInRange putDma realizeDma onIn play creation submission inQuestions.submissionQuestions outcomeOf completion inQuestions.completionQuestions transferred soundBlock rangeInside processTrb handleNormal onControl onControlEndpoint.play becomes transferAfter controlBlock.soundBlock firstNo submissionQuestions hasRoom reaches transfers.collects inReach windowBytes bytesOf submits.submission submits.bytesCollected submits.accepted submits.recordsOf submits.blockAfter completionQuestions completes.completion completes.accepted completes.blockBehind endingRecords successes moveOut realizeDataStage realizeNormal realizeTrb
 bench = refl

@@ -5,22 +5,22 @@ use borrow.Author.Needs.{needs}
 use Rattle.control_transfer.proofs.is_in_reach.Statement.{statement}
 use Rattle.control_transfer.proofs.is_in_reach.Tie as tie
 
-is-reach-asked-requires : tie.Need-is-reach-asked-requires
-is-reach-asked-requires c κs = search needs
+is-range-asked-requires : tie.Need-is-range-asked-requires
+is-range-asked-requires c κs = search needs
 
 returns : tie.Need-returns
 unfolding inReach
-returns c = rw (← c .before .is-reach-asked .ensures, not-true (c .before .is-reach-asked .result) (c .if1 .taken))
+returns c = rw (← c .before .is-range-asked .ensures, not-true (c .before .is-range-asked .result) (c .if1 .taken))
 
-check-range-requires : tie.Need-check-range-requires
-check-range-requires c κs = search needs
+range-inside-requires : tie.Need-range-inside-requires
+range-inside-requires c κs = search needs
 
 returns-2 : tie.Need-returns-2
 unfolding inReach
 returns-2 c =
-    let a = c .before .before .is-reach-asked in
-    rw (← a .ensures, not-false (a .result) (c .before .if1 .left)) (c .check-range .ensures)
+    let a = c .before .before .is-range-asked in
+    rw (← a .ensures, not-false (a .result) (c .before .if1 .left)) (c .range-inside .ensures)
 
 pub is-in-reach-spec : {M : Type 1} → statement M
 is-in-reach-spec =
-    tie.close (tie.spec is-reach-asked-requires returns check-range-requires returns-2)
+    tie.close (tie.spec is-range-asked-requires returns range-inside-requires returns-2)

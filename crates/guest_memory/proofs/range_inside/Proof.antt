@@ -1,9 +1,9 @@
--- `in_request::range_inside` meets its contract, by the length and by `guest_memory::check_range`. Assumes nothing.
+-- `guest_memory::range_inside` meets its contract, by the length and by `check_range`. Assumes nothing.
 use borrow.Author.Tests.{eq-eqb, ne-eqb}
-use Rattle.in_request.specs.Requests.{rangeInside}
+use Rattle.guest_memory.specs.Places.{rangeInside}
 use borrow.Author.Needs.{needs}
-use Rattle.in_request.proofs.range_inside.Statement.{statement}
-use Rattle.in_request.proofs.range_inside.Tie as tie
+use Rattle.guest_memory.proofs.range_inside.Statement.{statement}
+use Rattle.guest_memory.proofs.range_inside.Tie as tie
 
 returns : tie.Need-returns
 unfolding rangeInside
