@@ -1,5 +1,5 @@
 -- Laws of digits. Assumes nothing.
-use Prim.Native.Nat.{ℕ, zero, suc, _+_, _*_, _/_, _<_, _≤_, _^_}
+use Prim.Native.Nat.{ℕ, zero, suc, _+_, _*_, _/_, _%_, _<_, _≤_, _^_}
 use mathlib.Core.Bool.{Bool, true, false, cond}
 use mathlib.Core.Path.{_≡_, refl, sym, ap, _∙_}
 use mathlib.Core.List.{List, [], _∷_, _++_, map}
@@ -18,14 +18,15 @@ unfolding digits
 length-digits base zero n = refl
 length-digits base (suc k) n = ap suc (length-digits base k n)
 
+-- the highest place, and those below it
+pub digits-next : (base k n : ℕ) → digits base (suc k) n ≡ n / base ^ k % base ∷ digits base k n
+unfolding digits
+digits-next base k n = refl
+
 pub AllBelow-digits : (base k n : ℕ) → 0 < base → AllBelow base (digits base k n)
 unfolding digits
 AllBelow-digits base zero n h = tt
 AllBelow-digits base (suc k) n h = (mod-lt (n / base ^ k) h, AllBelow-digits base k n h)
-
-pub AllBelow-le : {b c : ℕ} (ds : List ℕ) → b ≤ c → AllBelow b ds → AllBelow c ds
-AllBelow-le [] h a = tt
-AllBelow-le (d ∷ ds) h a = (omega (arith, a .0), AllBelow-le ds h (a .1))
 
 pub AllBelow-drop : (b k : ℕ) (ds : List ℕ) → AllBelow b ds → AllBelow b (drop k ds)
 AllBelow-drop b zero ds a = a

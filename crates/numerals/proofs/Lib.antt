@@ -1,4 +1,5 @@
 pub mod ListLaws
 pub mod DigitLaws
+pub mod PlaceLaws
 pub mod NumberLaws
 pub mod WrittenLaws

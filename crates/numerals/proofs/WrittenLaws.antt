@@ -1,5 +1,5 @@
 -- Laws of writing text: one writer behind another, and what a loop has left to write. Assumes nothing.
-use Prim.Native.Nat.{ℕ, _+_, _≤_}
+use Prim.Native.Nat.{ℕ, _+_, _<_, _≤_}
 use mathlib.Core.Path.{_≡_, refl, sym, _∙_}
 use mathlib.Core.List.{List, [], _++_}
 use native.Mathlib.Omega.{arith}
@@ -40,6 +40,10 @@ remaining-less {next = next} {t = t} ws rest p w =
       size = rw (w .text, length-patch t next ws fits) (p .size);
       room = p .room;
     }
+
+-- where a byte is left, there is room for it
+pub remaining-room : {at next : ℕ} {t₀ vs t rest : List ℕ} → Remaining t₀ at vs t next rest → 0 < length rest → next < length t
+remaining-room p h = omega (arith, p .end, p .size, p .room)
 
 pub remaining-none : {at next most : ℕ} {t₀ vs t : List ℕ} → length vs ≤ most → Remaining t₀ at vs t next [] → Written most t₀ at vs next t
 remaining-none {next = next} {t = t} h p = record {

@@ -1,6 +1,7 @@
 -- Numbers in decimal and in hex, as the bytes of their characters. Assumes nothing.
 use Prim.Native.Nat.{ℕ, zero, suc, _+_, _-_, _*_, _/_, _%_, _<_, _^_}
 use mathlib.Core.Bool.{cond}
+use mathlib.Core.Path.{_≡_}
 use mathlib.Core.List.{List, [], _∷_, _++_, map}
 use lib.Dec.{eqb, ltb}
 use lib.ListN.{length}
@@ -34,6 +35,12 @@ AllBelow base (d ∷ ds) = (d < base) × AllBelow base ds
 -- a 32-bit number in decimal
 unfoldable pub decimalOf : ℕ → List ℕ
 decimalOf n = map digitChar (trimmed (digits 10 decimalPlaces n))
+
+-- the place of the first digit of n, where places are counted from the lowest: the digits above it are the leading zeros
+pub record FirstPlace (n place : ℕ) : Type 0 where
+  pub within : place < decimalPlaces
+  pub below : n < 10 ^ suc place
+  pub digits : trimmed (digits 10 decimalPlaces n) ≡ digits 10 (suc place) n
 
 -- a 64-bit number in hex, in lower case
 unfoldable pub hexOf : ℕ → List ℕ

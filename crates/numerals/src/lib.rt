@@ -1,9 +1,9 @@
 // Numbers as text: characters in decimal and in hex, written into a lent buffer.
 ghost use mathlib.Core.Path.{_≡_};
 ghost use mathlib.Core.List.{[], _∷_, map};
-ghost use Prim.Native.Nat.{_+_, _*_, _<_, _≤_};
+ghost use Prim.Native.Nat.{_+_, _*_, _/_, _%_, _<_, _≤_, _^_};
 ghost use lib.ListN.{length, drop};
-ghost use Rattle.numerals.specs.Digits.{digitChar, digits, trimmed, AllBelow, decimalOf, hexOf, byteHex, bytesHex};
+ghost use Rattle.numerals.specs.Digits.{digitChar, digits, trimmed, AllBelow, FirstPlace, decimalOf, hexOf, byteHex, bytesHex};
 ghost use Rattle.numerals.specs.Widths.{decimalPlaces, hexPlaces, widthTable};
 ghost use Rattle.numerals.specs.Written.{Written};
 
@@ -92,23 +92,93 @@ fn put_trimmed(text: &mut [u8], at: usize, digits: &[u8]) -> usize
     put_digits(text, at, &digits[skipped..])
 }
 
-// The decimal digits of a number, the highest place first.
-fn decimal_digits(n: u32) -> [u8; DECIMAL_PLACES]
-    ensures { λ r. ⌜ r ≡ digits 10 decimalPlaces n ⌝ }
+// ---- Decimal. 02, R-3: the digit at a place is how often its power of ten can be subtracted; nothing is divided.
+
+// The powers of ten, by place, the lowest first.
+const POWERS_OF_TEN: [u32; DECIMAL_PLACES] = [
+    1,
+    10,
+    100,
+    1000,
+    10000,
+    100000,
+    1000000,
+    10000000,
+    100000000,
+    1000000000,
+];
+
+// The power of ten that a place counts.
+fn power_of_ten(place: usize) -> u32
+    requires { ⌜ place < decimalPlaces ⌝ }
+    ensures { λ r. ⌜ r ≡ 10 ^ place ⌝ }
 {
-    [
-        (n / 1000000000 % 10) as u8,
-        (n / 100000000 % 10) as u8,
-        (n / 10000000 % 10) as u8,
-        (n / 1000000 % 10) as u8,
-        (n / 100000 % 10) as u8,
-        (n / 10000 % 10) as u8,
-        (n / 1000 % 10) as u8,
-        (n / 100 % 10) as u8,
-        (n / 10 % 10) as u8,
-        (n % 10) as u8,
-    ]
+    POWERS_OF_TEN[place]
 }
+
+// The place of a number's first digit, leading zeros left out.
+fn first_place(n: u32) -> usize
+    ensures { λ r. ⌜ FirstPlace n r ⌝ }
+{
+    let mut place = 0;
+    while place + 1 < DECIMAL_PLACES {
+        if n < power_of_ten(place + 1) {
+            return place;
+        }
+        place += 1;
+    }
+    place
+}
+
+// The digit that a number has at a place, and what is left of the number below that place.
+struct Place {
+    digit: u8,
+    rest: u32,
+}
+
+// Subtracts a power of ten as often as it goes into a number.
+fn subtract_power(n: u32, power: u32) -> Place
+    requires { ⌜ n < 10 * power ⌝ }
+    ensures { λ r. ⌜ (r .digit ≡ n / power) × (r .rest ≡ n % power) ⌝ }
+{
+    let mut digit = 0u8;
+    let mut rest = n;
+    while power <= rest {
+        rest -= power;
+        digit += 1;
+    }
+    Place {
+        digit: digit,
+        rest: rest,
+    }
+}
+
+// The character of a decimal digit.
+fn decimal_char(digit: u8) -> u8
+    requires { ⌜ digit < 10 ⌝ }
+    ensures { λ r. ⌜ r ≡ digitChar digit ⌝ }
+{
+    b'0' + digit
+}
+
+// Writes a number in decimal.
+pub fn put_decimal(text: &mut [u8], at: usize, n: u32) -> usize
+    requires { ⌜ at + decimalPlaces ≤ length (now text) ⌝ }
+    ensures { λ r. ⌜ Written decimalPlaces (now (text .entry)) at (decimalOf n) r (now (text .exit)) ⌝ }
+{
+    let mut next = at;
+    let mut rest = n;
+    let mut place = first_place(n);
+    while 0 < place {
+        let high = subtract_power(rest, power_of_ten(place));
+        next = put_char(text, next, decimal_char(high.digit));
+        rest = high.rest;
+        place -= 1;
+    }
+    put_char(text, next, decimal_char(rest as u8))
+}
+
+// ---- Hex
 
 // The hex digits of a number, the highest place first.
 fn hex_digits(n: u64) -> [u8; HEX_PLACES]
@@ -132,15 +202,6 @@ fn hex_digits(n: u64) -> [u8; HEX_PLACES]
         (n / 0x10 % 16) as u8,
         (n % 16) as u8,
     ]
-}
-
-// Writes a number in decimal.
-pub fn put_decimal(text: &mut [u8], at: usize, n: u32) -> usize
-    requires { ⌜ at + decimalPlaces ≤ length (now text) ⌝ }
-    ensures { λ r. ⌜ Written decimalPlaces (now (text .entry)) at (decimalOf n) r (now (text .exit)) ⌝ }
-{
-    let digits = decimal_digits(n);
-    put_trimmed(text, at, &digits)
 }
 
 // Writes a number in hex.
