@@ -3,8 +3,8 @@ use Rattle.in_block.specs.declared.InBlock.{InBlock}
 use Rattle.in_endpoint.specs.declared.Submitted.{Submitted as SubmittedIn}
 use Rattle.in_endpoint.specs.declared.Completed.{Completed as CompletedIn}
 use Rattle.control_block.specs.declared.ControlBlock.{ControlBlock}
-use Rattle.control_submit.specs.declared.Submitted.{Submitted as SubmittedControl}
-use Rattle.control_complete.specs.declared.Completed.{Completed as CompletedControl}
+use Rattle.control_endpoint.specs.declared.Submitted.{Submitted as SubmittedControl}
+use Rattle.control_endpoint.specs.declared.Completed.{Completed as CompletedControl}
 use Rattle.by_reference.specs.declared.SubmissionOutcome.{SubmissionOutcome}
 use Rattle.by_reference.specs.declared.CompletionOutcome.{CompletionOutcome}
 

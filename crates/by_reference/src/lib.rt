@@ -9,12 +9,11 @@ use trb::TransferTrb;
 ghost use mathlib.Core.Path.{_≡_};
 ghost use lib.ListN.{length};
 ghost use Rattle.log.specs.Calls.{Meets};
-ghost use Rattle.log.specs.Logs.{recordsIn};
 ghost use Rattle.in_endpoint.specs.Creation.{cancelled};
-ghost use Rattle.in_endpoint.specs.Submission.{submission as submissionIn};
-ghost use Rattle.in_endpoint.specs.Completion.{completion as completionIn, Accounted};
-ghost use Rattle.control_submit.specs.Submits.{submission as submissionControl, Submits};
-ghost use Rattle.control_complete.specs.Completes.{completion as completionControl};
+ghost use Rattle.in_endpoint.specs.Submission.{Submits as SubmitsIn};
+ghost use Rattle.in_endpoint.specs.Completion.{Completes as CompletesIn};
+ghost use Rattle.control_endpoint.specs.Submission.{Submits as SubmitsControl};
+ghost use Rattle.control_endpoint.specs.Completion.{Completes as CompletesControl};
 ghost use Rattle.by_reference.specs.Outcomes.{submittedIn, completedIn, submittedControl, completedControl};
 
 pub struct SubmissionOutcome {
@@ -36,7 +35,7 @@ pub fn in_submit_trb(
     window_base: u64,
     window: &[u8],
 ) -> SubmissionOutcome
-    ensures { λ r. ⌜ Meets (submissionIn (length (now (log .entry))) (now (block .entry)) t «window_base» (length (now (window .entry)))) 0 (now (log .entry)) (submittedIn r (now (block .exit))) (now (log .exit)) ⌝ }
+    ensures { λ r. ⌜ SubmitsIn (now (block .entry)) t «window_base» (length (now (window .entry))) (now (log .entry)) (submittedIn r (now (block .exit))) (now (log .exit)) ⌝ }
 {
     let r = in_endpoint::submit_trb(log, *block, t, window_base, window);
     *block = r.block;
@@ -52,8 +51,7 @@ pub fn in_next_completion(
     result: InTrbProcessingResult,
     data: &[u8],
 ) -> CompletionOutcome
-    ensures met { λ r. ⌜ Meets (completionIn (length (now (log .entry))) (now (block .entry)) result (length (now («data» .entry)))) 0 (now (log .entry)) (completedIn r (now (block .exit))) (now (log .exit)) ⌝ }
-    ensures account { λ r. ⌜ Accounted (now (block .entry)) (length (now («data» .entry))) (r .answer) (recordsIn (r .records) (now (log .exit))) ⌝ }
+    ensures { λ r. ⌜ CompletesIn (now (block .entry)) result (length (now («data» .entry))) (now (log .entry)) (completedIn r (now (block .exit))) (now (log .exit)) ⌝ }
 {
     let r = in_endpoint::next_completion(log, *block, result, data);
     *block = r.block;
@@ -79,7 +77,7 @@ pub fn control_submit_trb(
     window_base: u64,
     window: &[u8],
 ) -> SubmissionOutcome
-    ensures { λ r. ⌜ Submits (submissionControl (length (now (log .entry))) (length (now (collect .entry))) (now (block .entry)) t «window_base» (now (window .entry))) (now (log .entry)) (now (collect .entry)) (submittedControl r (now (block .exit))) (now (log .exit)) (now (collect .exit)) ⌝ }
+    ensures { λ r. ⌜ SubmitsControl (now (block .entry)) t «window_base» (now (window .entry)) (now (log .entry)) (now (collect .entry)) (submittedControl r (now (block .exit))) (now (log .exit)) (now (collect .exit)) ⌝ }
 {
     let r = control_endpoint::submit_trb(log, collect, *block, t, window_base, window);
     *block = r.block;
@@ -95,7 +93,7 @@ pub fn control_next_completion(
     result: ControlRequestProcessingResult,
     data: &[u8],
 ) -> CompletionOutcome
-    ensures { λ r. ⌜ Meets (completionControl (length (now (log .entry))) (now (block .entry)) result (length (now («data» .entry)))) 0 (now (log .entry)) (completedControl r (now (block .exit))) (now (log .exit)) ⌝ }
+    ensures { λ r. ⌜ CompletesControl (now (block .entry)) result (length (now («data» .entry))) (now (log .entry)) (completedControl r (now (block .exit))) (now (log .exit)) ⌝ }
 {
     let r = control_endpoint::next_completion(log, *block, result, data);
     *block = r.block;

@@ -3,6 +3,7 @@ use Prim.Native.Nat.{ℕ, _+_, _*_}
 use mathlib.Core.Path.{_≡_}
 use mathlib.Core.List.{List, _++_}
 use lib.ListN.{length, take}
+use Rattle.trb.specs.Answers.{numberOf}
 use Rattle.trb.specs.Limits.{recordLength}
 use Rattle.trb.specs.Refusals.{refusalNumber}
 use Rattle.trb.specs.declared.Answer.{Answer}
@@ -19,18 +20,13 @@ unfoldable pub answerText : Answer → ℕ → List ℕ → List ℕ
 answerText Accepted n log = acceptedLine (countOf n) ++ recordLines n log
 answerText (RefusedCall q) n log = refusedLine (refusalNumber q)
 
--- 0, or the number of the refusal
-abbrev pub answerNumber : Answer → ℕ
-answerNumber Accepted = 0
-answerNumber (RefusedCall q) = refusalNumber q
-
 -- what carry-out answers of the first n records of the log
 abbrev pub carriedOut : ℕ → List ℕ → List ℕ → ℕ → List ℕ → Answer
 carriedOut n log bytes base memory = answerOf (take (recordLength * n) log) (length bytes) base (length memory)
 
 -- a completion, with n records in the log and carry-out's answer
 unfoldable pub completionText : CompletionAnswer → ℕ → List ℕ → Answer → List ℕ
-completionText (Completed r) n log carried = completedLine (countOf n) r ++ recordLines n log ++ carriedOutLine (answerNumber carried)
+completionText (Completed r) n log carried = completedLine (countOf n) r ++ recordLines n log ++ carriedOutLine (numberOf carried)
 completionText (Refused q) n log carried = refusedLine (refusalNumber q)
 
 -- guest memory afterwards: a completion that is accepted is carried out
@@ -40,7 +36,7 @@ completionMemory (Refused q) n log bytes base memory = memory
 
 -- of carrying out the first n records, with carry-out's line written into the text t at index at
 pub record CarriedOut (n : ℕ) (log bytes : List ℕ) (base : ℕ) (memory t : List ℕ) (at r : ℕ) (t' memory' : List ℕ) : Type 0 where
-  pub text : Written maxCarriedOut t at (carriedOutLine (answerNumber (carriedOut n log bytes base memory))) r t'
+  pub text : Written maxCarriedOut t at (carriedOutLine (numberOf (carriedOut n log bytes base memory))) r t'
   pub after : memory' ≡ memoryAfter (carriedOut n log bytes base memory) (take (recordLength * n) log) bytes base memory
 
 -- of a completion's answer that was written into the text t at index at: the text became t', r is the index behind, guest memory became memory'

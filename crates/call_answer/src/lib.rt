@@ -4,11 +4,12 @@ use trb::CompletionAnswer;
 ghost use mathlib.Core.Path.{_≡_};
 ghost use Prim.Native.Nat.{_+_, _≤_};
 ghost use lib.ListN.{length};
+ghost use Rattle.trb.specs.Answers.{numberOf};
 ghost use Rattle.trb.specs.Limits.{minLog};
 ghost use Rattle.numerals.specs.Written.{Written};
 ghost use Rattle.call_text.specs.Widths.{maxFirst, maxRecordLines, maxCarriedOut};
 ghost use Rattle.call_text.specs.Lines.{recordLines};
-ghost use Rattle.call_answer.specs.Answers.{answerText, answerNumber, Answered, CarriedOut};
+ghost use Rattle.call_answer.specs.Answers.{answerText, Answered, CarriedOut};
 
 // Writes a line for each of the first so many records of a log.
 fn put_first_records(text: &mut [u8], at: usize, records: usize, log: &[u8]) -> usize
@@ -37,7 +38,7 @@ pub fn put_answer(text: &mut [u8], at: usize, answer: Answer, records: usize, lo
 
 // 0, or the number of the refusal.
 fn answer_number(answer: Answer) -> u8
-    ensures { λ r. ⌜ r ≡ answerNumber answer ⌝ }
+    ensures { λ r. ⌜ r ≡ numberOf answer ⌝ }
 {
     match answer {
         Answer::Accepted => 0,

@@ -1,12 +1,14 @@
 -- Carrying out the log of a call: its records are what is carried out. Assumes nothing.
 use Prim.Native.Nat.{ℕ, _*_, _/_, _%_, _≤_}
-use mathlib.Core.Bool.{true, cond}
-use mathlib.Core.Path.{_≡_, sym, ap, _∙_}
-use mathlib.Core.List.{List, [], append-nil}
+use mathlib.Core.Bool.{true, cond, Bool, false}
+use mathlib.Core.Path.{_≡_, sym, ap, _∙_, refl}
+use mathlib.Core.List.{List, [], append-nil, _∷_}
 use native.Mathlib.Omega.{arith}
 use lib.ListN.{length, take}
 use lib.Seq.{take-at}
 use borrow.Author.Tests.{eq-eqb}
+use Rattle.trb.specs.Answers.{refusalOf}
+use Rattle.trb.specs.Questions.{firstNo, afterQuestions}
 use Rattle.buffers.specs.Patch.{patch}
 use Rattle.trb.specs.Limits.{recordLength}
 use Rattle.trb.specs.declared.Answer.the-variants.{Accepted, Refused}
@@ -40,7 +42,12 @@ module _ (rs : List Record) (fits : AllFit rs) where
   -- of known kinds: only question 11 is left
   pub answerOf-encodeAll : (n base size : ℕ) → kindsKnown rs ≡ true
       → answerOf (encodeAll rs) n base size ≡ cond (writesInRange n base size rs) Accepted (Refused WriteOutOfRange)
-  answerOf-encodeAll n base size known = rw (wellFormed-encodeAll, known, recordsOf-encodeAll)
+  unfolding firstNo refusalOf
+  answerOf-encodeAll n base size known = rw (wellFormed-encodeAll, known, recordsOf-encodeAll) (by-range (writesInRange n base size rs))
+    where
+      by-range : (b : Bool) → afterQuestions ((true, 10) ∷ (b, 11) ∷ []) (λ k. Refused (refusalOf k)) Accepted ≡ cond b Accepted (Refused WriteOutOfRange)
+      by-range true = refl
+      by-range false = refl
 
   -- accepted: the records are carried out
   pub memoryAfter-encodeAll : (bytes : List ℕ) (base : ℕ) (memory : List ℕ) → memoryAfter Accepted (encodeAll rs) bytes base memory ≡ written bytes base memory rs

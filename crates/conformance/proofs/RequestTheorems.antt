@@ -20,7 +20,7 @@ use Rattle.phase_table.specs.declared.Outcome.{Outcome}
 use Rattle.phase_table.specs.Outcomes.{holds, phaseAfter}
 use Rattle.phase_table.specs.Table.{becomes}
 use Rattle.control_block.specs.Blocks.{atPhase}
-use Rattle.control_data.specs.Data.{dataOf, sizeOf}
+use Rattle.control_transfer.specs.Data.{dataOf, sizeOf}
 use Rattle.control_block.specs.declared.ControlTransfer.{ControlTransfer}
 use Rattle.control_transfer.specs.Transfers.{begun, lengthened, grown, takenBy, heldInto, transferAfter}
 use Rattle.standard.specs.Usb.{Setup, setupBytes}

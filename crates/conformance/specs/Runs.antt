@@ -6,6 +6,7 @@ use mathlib.Core.List.{List, [], _∷_, _++_}
 use mathlib.Core.Option.{Option, none, some}
 use lib.ListN.{replicate, length}
 use Rattle.trb.specs.Limits.{minLog, maxCollected}
+use Rattle.trb.specs.Questions.{firstNo}
 use Rattle.trb.specs.declared.CompletionAnswer.{CompletionAnswer}
 use Rattle.trb.specs.declared.CompletionAnswer.the-variants.{Completed, Refused}
 use Rattle.trb.specs.declared.ControlRequestProcessingResult.{ControlRequestProcessingResult}
@@ -16,12 +17,13 @@ use Rattle.trb.specs.declared.TransferTrbVariant.the-variants.{SetupStage, Data
 use Rattle.log.specs.declared.Record.{Record}
 use Rattle.in_block.specs.Blocks.{freshBlock}
 use Rattle.in_block.specs.declared.InBlock.{InBlock}
-use Rattle.in_block.specs.Sound.{hasNormal, soundBlock as soundIn}
+use Rattle.in_block.specs.Facts.{soundBlock as soundIn}
+use Rattle.in_block.specs.Outcomes.{outcomeOf}
 use Rattle.in_endpoint.specs.Completion.{transferred, completion as completionIn}
-use Rattle.in_endpoint.specs.Submission.{tdEnded, holding, taken, submission as submissionIn}
-use Rattle.in_request.specs.Requests.{rangeInside}
+use Rattle.in_endpoint.specs.Submission.{submission as submissionIn}
+use Rattle.in_questions.specs.Questions.{submissionQuestions as submissionQuestionsIn, completionQuestions as completionQuestionsIn}
 use Rattle.in_td.specs.Td.{handleNormal, processTrb}
-use Rattle.guest_memory.specs.Places.{placeOf}
+use Rattle.guest_memory.specs.Places.{placeOf, rangeInside}
 use Rattle.held.specs.Places.{cleared}
 use Rattle.held.specs.Sound.{soundTrb}
 use Rattle.td_part.specs.Parts.{putDma, realizeDma}
@@ -29,17 +31,18 @@ use Rattle.trb.specs.Ids.{idsInRange}
 use Rattle.walks.specs.All.{all}
 use Rattle.walks.specs.Walk.{walk}
 use Rattle.phase_table.specs.Table.{becomes}
-use Rattle.control_block.specs.Blocks.{fresh}
+use Rattle.control_block.specs.Blocks.{freshBlock as freshControl}
 use Rattle.control_block.specs.declared.ControlBlock.{ControlBlock}
-use Rattle.control_block.specs.Sound.{soundBlock as soundControl}
+use Rattle.control_block.specs.Facts.{soundBlock as soundControl}
 use Rattle.control_chain.specs.Chain.{moveOut, realizeDataStage, realizeNormal, realizeTrb}
-use Rattle.control_complete.specs.Completes.{badTrb, failed, realized, blockAfter as blockCompleted, accepted as acceptedCompletion, completion as completionControl}
-use Rattle.control_data.specs.Data.{inReach, windowBytes, bytesOf}
-use Rattle.control_held.specs.Held.{successes}
-use Rattle.control_questions.specs.Completion.{agrees, completionAnswer}
-use Rattle.control_questions.specs.Submission.{hasRoom, reaches, collects, collectable, trbAnswer, submissionAnswer}
-use Rattle.control_submit.specs.Submits.{blockAfter as blockSubmitted, recordsOf, accepted as acceptedSubmission, submission as submissionControl}
-use Rattle.control_transfer.specs.Transfers.{transferAfter}
+use Rattle.control_chain.specs.Dropped.{successes}
+use Rattle.control_chain.specs.Endings.{endingRecords}
+use Rattle.control_endpoint.specs.Completion.{blockBehind, accepted as acceptedCompletion, completion as completionControl}
+use Rattle.control_endpoint.specs.Submission.{blockAfter, recordsOf, accepted as acceptedSubmission, submission as submissionControl, bytesCollected}
+use Rattle.control_questions.specs.Completion.{completionQuestions}
+use Rattle.control_questions.specs.Submission.{hasRoom, reaches, submissionQuestions}
+use Rattle.control_transfer.specs.Data.{inReach, windowBytes, bytesOf}
+use Rattle.control_transfer.specs.Transfers.{transferAfter, collects}
 use Rattle.standard.specs.Usb.{Setup}
 use Rattle.standard.specs.Xhci.{Trb, TransferEvent, Reading, Ending, outcome, events, Delivery, deliveries, haltedAt}
 use Rattle.conformance.specs.Requests.{setupTrb}
@@ -90,7 +93,7 @@ inFrom b rs h (inCall t r n ∷ calls) =
     inFrom (p .state .block) (rs ++ (o .records ++ p .records)) (haltAnswered (p .state .answer)) calls
 
 unfoldable pub inRun : List InCall → Seen
-unfolding inFrom submissionIn taken holding tdEnded completionIn transferred idsInRange soundIn hasNormal soundTrb all rangeInside placeOf cleared walk processTrb handleNormal putDma realizeDma
+unfolding inFrom submissionIn submissionQuestionsIn outcomeOf completionIn completionQuestionsIn firstNo transferred idsInRange soundIn soundTrb all rangeInside placeOf cleared walk processTrb handleNormal putDma realizeDma
 inRun calls = inFrom (freshBlock (record { 0 = 3 }) (record { 0 = 2 })) [] runsOn calls
 
 -- ---- Control
@@ -108,18 +111,18 @@ pub record ControlRan : Type 0 where
 unfoldable pub controlFrom : ControlRan → List ControlCall → ControlRan
 controlFrom ran [] = ran
 controlFrom ran (controlCall t r n ∷ calls) =
-    let o = submissionControl minLog maxCollected (ran .block) t windowBase guestBytes in
-    let p = completionControl minLog (o .out .state .block) r n in
+    let o = submissionControl minLog maxCollected (ran .block) t windowBase (length guestBytes) in
+    let p = completionControl minLog (o .state .block) r n in
     controlFrom (record {
       block = p .state .block;
-      records = ran .records ++ (o .out .records ++ p .records);
-      collected = ran .collected ++ o .bytes;
+      records = ran .records ++ (o .records ++ p .records);
+      collected = ran .collected ++ bytesCollected minLog maxCollected (ran .block) t windowBase guestBytes;
       halt = haltAnswered (p .state .answer);
     }) calls
 
 unfoldable pub controlRun : List ControlCall → ControlRan
-unfolding controlFrom submissionControl submissionAnswer trbAnswer hasRoom reaches collects collectable inReach windowBytes bytesOf acceptedSubmission blockSubmitted recordsOf transferAfter becomes successes completionControl completionAnswer agrees acceptedCompletion blockCompleted badTrb failed realized realizeTrb realizeDataStage realizeNormal moveOut idsInRange soundControl soundTrb all placeOf cleared walk putDma realizeDma
-controlRun calls = controlFrom (record { block = fresh (record { 0 = 3 }) (record { 0 = 2 }); records = []; collected = []; halt = runsOn }) calls
+unfolding controlFrom submissionControl firstNo submissionQuestions hasRoom reaches collects inReach rangeInside windowBytes bytesOf bytesCollected acceptedSubmission blockAfter recordsOf transferAfter becomes successes completionControl completionQuestions acceptedCompletion blockBehind endingRecords realizeTrb realizeDataStage realizeNormal moveOut idsInRange soundControl soundTrb all placeOf cleared walk putDma realizeDma
+controlRun calls = controlFrom (record { block = freshControl (record { 0 = 3 }) (record { 0 = 2 }); records = []; collected = []; halt = runsOn }) calls
 
 -- ---- TRBs: address, then what the kind has; cycle bit on
 

@@ -1,38 +1,32 @@
--- What a sound block's numbers are at most, and what follows where no question is answered no. Assumes nothing.
-use Prim.Native.Nat.{_≤_}
-use mathlib.Core.Path.{_≡_, refl}
-use mathlib.Core.Bool.{Bool, true, false, _&&_}
+-- What a sound block's numbers are at most, and that no more places are freed than are held. Assumes nothing.
+use Prim.Native.Nat.{ℕ, _≤_}
+use mathlib.Core.Path.{_≡_}
+use mathlib.Core.Bool.{true, _&&_}
+use native.Mathlib.Omega.{arith}
 use lib.Dec.{leb}
 use borrow.Author.Tests.{leb-true}
 use Rattle.trb.specs.Ids.{idsInRange}
 use Rattle.trb.specs.Limits.{maxHeld, maxCollected}
-use Rattle.trb.specs.declared.Answer.{Answer}
-use Rattle.trb.specs.declared.Answer.the-variants.{Accepted}
-use Rattle.trb.specs.declared.Refusal.{Refusal}
 use Rattle.trb.proofs.TestLaws.{and-left, and-right}
-use Rattle.held.specs.Sound.{heldSound}
-use Rattle.held.specs.declared.EndpointKind.the-variants.{Control}
-use Rattle.control_block.specs.declared.ControlBlock.{ControlBlock}
-use Rattle.control_block.specs.Sound.{soundBlock, heldTrbs}
-use Rattle.control_block.specs.Questions.{ask}
+use Rattle.control_block.specs.declared.BlockFacts.{BlockFacts}
+use Rattle.control_block.specs.declared.Ending.{Ending}
+use Rattle.control_block.specs.declared.Ending.the-variants.{KeepCollecting, ReportBadTrb, Fail, Realize}
+use Rattle.control_block.specs.Endings.{placesFreed}
+use Rattle.control_block.specs.Facts.{soundBlock}
 
-module _ (b : ControlBlock) (sound : soundBlock b ≡ true) where
-  counts : (leb (b .held) maxHeld && (leb (b .collected) maxCollected && heldSound Control (heldTrbs b))) ≡ true
+module _ (f : BlockFacts) (sound : soundBlock f ≡ true) where
+  counts : (leb (f .held) maxHeld && (leb (f .collected) maxCollected && f .sound)) ≡ true
   unfolding soundBlock
-  counts = and-right (idsInRange (b .«endpoint_id») (b .«slot_id»)) _ sound
+  counts = and-right (idsInRange (f .«endpoint_id») (f .«slot_id»)) _ sound
 
-  pub sound-held : b .held ≤ maxHeld
-  sound-held = leb-true _ _ (and-left (leb (b .held) maxHeld) _ counts)
+  pub sound-held : f .held ≤ maxHeld
+  sound-held = leb-true _ _ (and-left (leb (f .held) maxHeld) _ counts)
 
-  pub sound-collected : b .collected ≤ maxCollected
-  sound-collected = leb-true _ _ (and-left (leb (b .collected) maxCollected) _ (and-right (leb (b .held) maxHeld) _ counts))
+  pub sound-collected : f .collected ≤ maxCollected
+  sound-collected = leb-true _ _ (and-left (leb (f .collected) maxCollected) _ (and-right (leb (f .held) maxHeld) _ counts))
 
--- the question was answered yes
-pub ask-yes : (answer : Bool) (refusal : Refusal) (next : Answer) → ask answer refusal next ≡ Accepted → answer ≡ true
-ask-yes true refusal next e = refl
-ask-yes false refusal next e = cc
-
--- and so were those behind it
-pub ask-next : (answer : Bool) (refusal : Refusal) (next : Answer) → ask answer refusal next ≡ Accepted → next ≡ Accepted
-ask-next true refusal next e = e
-ask-next false refusal next e = cc
+pub freed-held : (e : Ending) (held : ℕ) → placesFreed e held ≤ held
+freed-held KeepCollecting held = omega arith
+freed-held (ReportBadTrb a) held = omega arith
+freed-held (Fail c r) held = omega arith
+freed-held (Realize input n) held = omega arith

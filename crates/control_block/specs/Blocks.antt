@@ -2,7 +2,7 @@
 use Prim.Native.Nat.{ℕ, _+_}
 use mathlib.Core.Bool.{false}
 use mathlib.Core.List.{List}
-use lib.ListN.{set, replicate}
+use lib.ListN.{set, replicate, take}
 use Rattle.trb.specs.Limits.{maxHeld}
 use Rattle.trb.specs.declared.ControlSubmissionState.{ControlSubmissionState}
 use Rattle.trb.specs.declared.ControlSubmissionState.the-variants.{NoTrbSubmitted}
@@ -49,14 +49,18 @@ abbrev pub noTransfer : ControlTransfer
 noTransfer = record { phase = ExpectSetupStageTrb; direction = false; request = noRequest; collected = 0 }
 
 -- 01, Questions asked: a fresh block has only blanks; a submission due
-abbrev pub fresh : EndpointId → SlotId → ControlBlock
-fresh e s = blockOf e s noTransfer NoTrbSubmitted 0 (replicate maxHeld blankTrb)
+abbrev pub freshBlock : EndpointId → SlotId → ControlBlock
+freshBlock e s = blockOf e s noTransfer NoTrbSubmitted 0 (replicate maxHeld blankTrb)
 
--- one more TRB is held
-abbrev pub holding : ControlBlock → TransferTrb → ControlBlock
-holding b t = changed b (transferOf b) (b .state) (b .held + 1) (set (b .trbs) (b .held) t)
+-- the TRBs that are held, in order
+abbrev pub heldOf : ControlBlock → List TransferTrb
+heldOf b = take (b .held) (b .trbs)
 
--- 01, Questions asked: nothing is held; a TRB place freed becomes blank
+-- one TRB more is held
+abbrev pub stored : ControlBlock → TransferTrb → ControlBlock
+stored b t = changed b (transferOf b) (b .state) (b .held + 1) (set (b .trbs) (b .held) t)
+
+-- 01, Questions asked: nothing is held any more, and the places freed are blank
 abbrev pub emptied : ControlBlock → ControlBlock
 emptied b = changed b (transferOf b) (b .state) 0 (cleared (b .held) (b .trbs))
 

@@ -1,3 +1,3 @@
 pub mod Blocks
-pub mod Sound
-pub mod Questions
+pub mod Facts
+pub mod Endings

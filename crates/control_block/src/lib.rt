@@ -1,16 +1,19 @@
-// The block of a control endpoint: what it holds, and each change of it.
-use held::EndpointKind;
+// The block of a control endpoint: made and changed; the facts of it that the questions ask about; and what a completion does.
+use trb::CompletionCode;
+use trb::ControlRequestProcessingResult;
 use trb::ControlSubmissionState;
 use trb::ControlTransferState;
 use trb::EndpointId;
 use trb::SlotId;
 use trb::TransferTrb;
+use trb::TrbProcessingResult;
 use trb::UsbRequest;
 ghost use mathlib.Core.Path.{_≡_};
 ghost use Prim.Native.Nat.{_<_};
 ghost use Rattle.trb.specs.Limits.{maxHeld};
-ghost use Rattle.control_block.specs.Blocks.{noTransfer, transferOf, atPhase, fresh, holding, emptied, advanced};
-ghost use Rattle.control_block.specs.Sound.{soundBlock, submissionDue};
+ghost use Rattle.control_block.specs.Blocks.{noTransfer, atPhase, freshBlock, stored, advanced};
+ghost use Rattle.control_block.specs.Facts.{soundBlock, submissionDue, awaitsDevice};
+ghost use Rattle.control_block.specs.Endings.{requestEnding, endingOf, resultOf, placesFreed, phaseBehind};
 
 pub struct ControlBlock {
     pub endpoint_id: EndpointId,
@@ -35,6 +38,8 @@ pub struct ControlTransfer {
     pub collected: usize,
 }
 
+// ---- Changes
+
 fn no_transfer() -> ControlTransfer
     ensures { λ r. ⌜ r ≡ noTransfer ⌝ }
 {
@@ -54,13 +59,13 @@ fn no_transfer() -> ControlTransfer
 }
 
 // A block that holds nothing and knows of no transfer; a submission is due.
-pub fn new(endpoint_id: EndpointId, slot_id: SlotId) -> ControlBlock
-    ensures { λ r. ⌜ r ≡ fresh «endpoint_id» «slot_id» ⌝ }
+pub fn fresh(endpoint_id: EndpointId, slot_id: SlotId) -> ControlBlock
+    ensures { λ r. ⌜ r ≡ freshBlock «endpoint_id» «slot_id» ⌝ }
 {
     let transfer = no_transfer();
     let phase = transfer.phase;
     let request = transfer.request;
-    let blank_trb = held::blank();
+    let blank = held::blank();
     ControlBlock {
         endpoint_id: endpoint_id,
         slot_id: slot_id,
@@ -70,20 +75,7 @@ pub fn new(endpoint_id: EndpointId, slot_id: SlotId) -> ControlBlock
         request: request,
         collected: transfer.collected,
         held: 0,
-        trbs: [blank_trb; trb::MAX_HELD],
-    }
-}
-
-pub fn transfer_of(block: ControlBlock) -> ControlTransfer
-    ensures { λ r. ⌜ r ≡ transferOf block ⌝ }
-{
-    let phase = block.phase;
-    let request = block.request;
-    ControlTransfer {
-        phase: phase,
-        direction: block.direction,
-        request: request,
-        collected: block.collected,
+        trbs: [blank; trb::MAX_HELD],
     }
 }
 
@@ -100,27 +92,15 @@ pub fn at_phase(transfer: ControlTransfer, phase: ControlTransferState) -> Contr
     }
 }
 
-// One more TRB is held.
-pub fn hold(block: ControlBlock, t: TransferTrb) -> ControlBlock
+// One TRB more is held.
+pub fn store(block: ControlBlock, t: TransferTrb) -> ControlBlock
     requires { ⌜ block .held < maxHeld ⌝ }
-    ensures { λ r. ⌜ r ≡ holding block t ⌝ }
+    ensures { λ r. ⌜ r ≡ stored block t ⌝ }
 {
     let at = block.held;
     let mut next = block;
     next.trbs[at] = t;
     next.held = at + 1;
-    next
-}
-
-// Nothing is held.
-pub fn clear(block: ControlBlock) -> ControlBlock
-    ensures { λ r. ⌜ r ≡ emptied block ⌝ }
-{
-    let trbs = block.trbs;
-    let cleared = held::clear(trbs, block.held);
-    let mut next = block;
-    next.trbs = cleared;
-    next.held = 0;
     next
 }
 
@@ -150,27 +130,40 @@ pub fn advance(
     }
 }
 
+// ---- Facts
+
+// What the questions ask about. `sound`: the TRBs held are of kinds that the endpoint supports, each of a length within the limit.
+pub struct BlockFacts {
+    pub endpoint_id: EndpointId,
+    pub slot_id: SlotId,
+    pub phase: ControlTransferState,
+    pub state: ControlSubmissionState,
+    pub direction: bool,
+    pub collected: usize,
+    pub held: usize,
+    pub sound: bool,
+}
+
 // Question 2: is the block sound?
-pub fn is_sound(block: ControlBlock) -> bool
-    ensures { λ r. ⌜ r ≡ soundBlock block ⌝ }
+pub fn is_sound(facts: BlockFacts) -> bool
+    ensures { λ r. ⌜ r ≡ soundBlock facts ⌝ }
 {
-    let endpoint_id = block.endpoint_id;
-    let slot_id = block.slot_id;
-    let trbs = block.trbs;
+    let endpoint_id = facts.endpoint_id;
+    let slot_id = facts.slot_id;
     if !trb::ids_in_range(endpoint_id, slot_id) {
         return false;
     }
-    if trb::MAX_HELD < block.held {
+    if trb::MAX_HELD < facts.held {
         return false;
     }
-    if trb::MAX_COLLECTED < block.collected {
+    if trb::MAX_COLLECTED < facts.collected {
         return false;
     }
-    held::held_sound(EndpointKind::Control, trbs, block.held)
+    facts.sound
 }
 
 // Is a submission due? A completion is due in the other states.
-pub fn is_submission_due(state: ControlSubmissionState) -> bool
+pub fn submission_due(state: ControlSubmissionState) -> bool
     ensures { λ r. ⌜ r ≡ submissionDue state ⌝ }
 {
     match state {
@@ -179,5 +172,110 @@ pub fn is_submission_due(state: ControlSubmissionState) -> bool
         ControlSubmissionState::ParserError(_) => false,
         ControlSubmissionState::UnexpectedTrb(_) => false,
         ControlSubmissionState::AwaitingControlRequest => false,
+    }
+}
+
+pub fn awaits_device(state: ControlSubmissionState) -> bool
+    ensures { λ r. ⌜ r ≡ awaitsDevice state ⌝ }
+{
+    match state {
+        ControlSubmissionState::NoTrbSubmitted => false,
+        ControlSubmissionState::CollectingTd => false,
+        ControlSubmissionState::ParserError(_) => false,
+        ControlSubmissionState::UnexpectedTrb(_) => false,
+        ControlSubmissionState::AwaitingControlRequest => true,
+    }
+}
+
+// ---- Endings
+
+// What a completion does.
+pub enum Ending {
+    // More TRBs of the transfer follow.
+    KeepCollecting,
+    // The TRBs held are dropped, and the one at this address is reported.
+    ReportBadTrb(u64),
+    // The device failed: one event with this code, and this result.
+    Fail(CompletionCode, TrbProcessingResult),
+    // The TRBs held are realized: on IN, with so many bytes of device data.
+    Realize(bool, u32),
+}
+
+// What the device's answer to a request comes to.
+fn request_ending(result: ControlRequestProcessingResult, data_length: u32) -> Ending
+    ensures { λ r. ⌜ r ≡ requestEnding result «data_length» ⌝ }
+{
+    match result {
+        ControlRequestProcessingResult::NoneGiven => Ending::KeepCollecting,
+        ControlRequestProcessingResult::Disconnect => Ending::Fail(
+            CompletionCode::UsbTransactionError,
+            TrbProcessingResult::Disconnect,
+        ),
+        ControlRequestProcessingResult::Stall => Ending::Fail(
+            CompletionCode::StallError,
+            TrbProcessingResult::Stall,
+        ),
+        ControlRequestProcessingResult::TransactionError => Ending::Fail(
+            CompletionCode::UsbTransactionError,
+            TrbProcessingResult::TransactionError,
+        ),
+        ControlRequestProcessingResult::SuccessfulControlIn => Ending::Realize(true, data_length),
+        ControlRequestProcessingResult::SuccessfulControlOut => Ending::Realize(false, 0),
+    }
+}
+
+// What a completion does, by what the endpoint is at.
+pub fn ending_of(
+    state: ControlSubmissionState,
+    result: ControlRequestProcessingResult,
+    data_length: u32,
+) -> Ending
+    ensures { λ r. ⌜ r ≡ endingOf state result «data_length» ⌝ }
+{
+    match state {
+        ControlSubmissionState::NoTrbSubmitted => Ending::KeepCollecting,
+        ControlSubmissionState::CollectingTd => Ending::KeepCollecting,
+        ControlSubmissionState::ParserError(addr) => Ending::ReportBadTrb(addr),
+        ControlSubmissionState::UnexpectedTrb(addr) => Ending::ReportBadTrb(addr),
+        ControlSubmissionState::AwaitingControlRequest => request_ending(result, data_length),
+    }
+}
+
+pub fn result_of(ending: Ending) -> TrbProcessingResult
+    ensures { λ r. ⌜ r ≡ resultOf ending ⌝ }
+{
+    match ending {
+        Ending::KeepCollecting => TrbProcessingResult::Ok,
+        Ending::ReportBadTrb(_) => TrbProcessingResult::TrbError,
+        Ending::Fail(_, result) => result,
+        Ending::Realize(_, _) => TrbProcessingResult::Ok,
+    }
+}
+
+// How many of the `held` TRBs are held no more.
+pub fn places_freed(ending: Ending, held: usize) -> usize
+    ensures { λ r. ⌜ r ≡ placesFreed ending held ⌝ }
+{
+    match ending {
+        Ending::KeepCollecting => 0,
+        Ending::ReportBadTrb(_) => held,
+        Ending::Fail(_, _) => held,
+        Ending::Realize(_, _) => held,
+    }
+}
+
+// The phase behind a completion.
+pub fn phase_behind(
+    state: ControlSubmissionState,
+    phase: ControlTransferState,
+) -> ControlTransferState
+    ensures { λ r. ⌜ r ≡ phaseBehind state phase ⌝ }
+{
+    match state {
+        ControlSubmissionState::NoTrbSubmitted => phase,
+        ControlSubmissionState::CollectingTd => phase,
+        ControlSubmissionState::ParserError(_) => phase,
+        ControlSubmissionState::UnexpectedTrb(_) => ControlTransferState::ExpectSetupStageTrb,
+        ControlSubmissionState::AwaitingControlRequest => phase,
     }
 }

@@ -175,7 +175,7 @@ fn hold(at: usize, block: ControlBlock, t: TransferTrb) -> ControlRan
     if trb::MAX_HELD <= block.held {
         return bad(block, at);
     }
-    let after = control_block::hold(block, t);
+    let after = control_block::store(block, t);
     silent(after, at)
 }
 

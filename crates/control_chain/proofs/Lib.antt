@@ -1,1 +1,3 @@
 pub mod ChainLaws
+pub mod DroppedLaws
+pub mod EndingLaws

@@ -35,13 +35,14 @@ moveData td w d = cond (td .input) (realizeDma (td .info) w d) (moveOut (td .inf
 abbrev pub realizeStage : TdInfo → TdProgress → Bool → ℕ → Out TdProgress
 realizeStage td w ioc a = reportSuccess td w 0 ioc a
 
--- a DataStage writes min(its length, bytes left) even after a short TRB and, if short itself, gives the residual that later Normals repeat
-unfoldable pub realizeDataStage : ControlTd → TdProgress → DataStageTrb → ℕ → Out TdProgress
-realizeDataStage td w t a = moveData td (edtlaZeroed w) (ofDataStage t a)
-
+-- a Normal moves its bytes, until one is short
 abbrev pub normalIn : TdProcessingState → ControlTd → TdProgress → NormalTrb → ℕ → Out TdProgress
 normalIn Default td w t a = moveData td w (ofNormal t a)
 normalIn (ShortTransfer missing) td w t a = repeatShort (td .info) w missing (t .«interrupt_on_completion») a
+
+-- a DataStage writes min(its length, bytes left) even after a short TRB and, if short itself, gives the residual that later Normals repeat
+unfoldable pub realizeDataStage : ControlTd → TdProgress → DataStageTrb → ℕ → Out TdProgress
+realizeDataStage td w t a = moveData td (edtlaZeroed w) (ofDataStage t a)
 
 unfoldable pub realizeNormal : ControlTd → TdProgress → NormalTrb → ℕ → Out TdProgress
 realizeNormal td w t a = normalIn (w .state) td w t a

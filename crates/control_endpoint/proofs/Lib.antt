@@ -1,2 +1,4 @@
-pub mod EndpointLaws
-pub mod CountLaws
+pub mod CreationLaws
+pub mod FreeingLaws
+pub mod SubmissionLaws
+pub mod CompletionLaws

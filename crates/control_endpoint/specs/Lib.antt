@@ -1,1 +1,3 @@
-pub mod Endpoint
+pub mod Creation
+pub mod Submission
+pub mod Completion

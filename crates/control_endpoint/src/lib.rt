@@ -1,45 +1,72 @@
 // The control endpoint: creation, submission, completion, cancel. Ports `ControlEndpointHandle`.
+use control_block::BlockFacts;
 use control_block::ControlBlock;
-use control_complete::Completed;
-use control_submit::Submitted;
+use control_block::ControlTransfer;
+use held::EndpointKind;
+use td_part::TdInfo;
 use trb::Answer;
 use trb::CompletionAnswer;
 use trb::ControlRequestProcessingResult;
+use trb::ControlSubmissionState;
 use trb::EndpointId;
 use trb::Refusal;
 use trb::SlotId;
 use trb::TransferTrb;
+use trb::TrbProcessingResult;
 ghost use mathlib.Core.Path.{_≡_};
 ghost use lib.ListN.{length};
-ghost use Rattle.log.specs.Calls.{Meets};
-ghost use Rattle.control_submit.specs.Submits.{submission, Submits};
-ghost use Rattle.control_complete.specs.Completes.{completion};
-ghost use Rattle.control_endpoint.specs.Endpoint.{creation};
+ghost use Rattle.control_endpoint.specs.Completion.{Completes};
+ghost use Rattle.control_endpoint.specs.Creation.{Creates};
+ghost use Rattle.control_endpoint.specs.Submission.{placesDropped, Submits};
 
 pub struct Created {
     pub answer: Answer,
     pub block: ControlBlock,
 }
 
+pub struct Submitted {
+    pub answer: Answer,
+    pub records: usize,
+    pub block: ControlBlock,
+}
+
+pub struct Completed {
+    pub answer: CompletionAnswer,
+    pub records: usize,
+    pub block: ControlBlock,
+}
+
+// ---- Creation
+
 // A fresh block for this endpoint of this slot.
 pub fn create(endpoint_id: EndpointId, slot_id: SlotId) -> Created
-    ensures { λ r. ⌜ r ≡ creation «endpoint_id» «slot_id» ⌝ }
+    ensures { λ r. ⌜ Creates «endpoint_id» «slot_id» r ⌝ }
 {
     if trb::ids_in_range(endpoint_id, slot_id) {
-        let block = control_block::new(endpoint_id, slot_id);
+        let block = control_block::fresh(endpoint_id, slot_id);
         return Created {
             answer: Answer::Accepted,
             block: block,
         };
     }
-    let block = control_block::new(EndpointId(0), SlotId(0));
+    let block = control_block::fresh(EndpointId(0), SlotId(0));
     Created {
         answer: Answer::Refused(Refusal::IdOutOfRange),
         block: block,
     }
 }
 
-// Takes a TRB. The window of guest memory is `window`'s bytes at `window_base`.
+// ---- Submission
+
+// How many of the `held` TRBs are dropped: all of them, where a transfer starts anew.
+fn places_dropped(restarts: bool, held: usize) -> usize
+    ensures { λ r. ⌜ r ≡ placesDropped restarts held ⌝ }
+{
+    if restarts { held } else { 0 }
+}
+
+// Takes a TRB. The window of guest memory is `window`'s bytes at `window_base`. The places are copied once, and there is one way out:
+// copies of the block are most of what a call costs.
 pub fn submit_trb(
     log: &mut [u8],
     collect: &mut [u8],
@@ -48,45 +75,212 @@ pub fn submit_trb(
     window_base: u64,
     window: &[u8],
 ) -> Submitted
-    ensures { λ r. ⌜ Submits (submission (length (now (log .entry))) (length (now (collect .entry))) block t «window_base» (now (window .entry))) (now (log .entry)) (now (collect .entry)) r (now (log .exit)) (now (collect .exit)) ⌝ }
+    ensures { λ r. ⌜ Submits block t «window_base» (now (window .entry)) (now (log .entry)) (now (collect .entry)) r (now (log .exit)) (now (collect .exit)) ⌝ }
 {
-    let asked = control_questions::ask_submission(
+    let endpoint_id = block.endpoint_id;
+    let slot_id = block.slot_id;
+    let mut phase = block.phase;
+    let mut state = block.state;
+    let mut direction = block.direction;
+    let mut request = block.request;
+    let mut collected = block.collected;
+    let mut held = block.held;
+    let mut trbs = block.trbs;
+    let variant = t.variant;
+    let places = held::places_held(held);
+    let mut sound = true;
+    let mut i = 0;
+    while i < places {
+        let one = trbs[i];
+        sound = held::and_sound(sound, EndpointKind::Control, one);
+        i += 1;
+    }
+    let facts = BlockFacts {
+        endpoint_id: endpoint_id,
+        slot_id: slot_id,
+        phase: phase,
+        state: state,
+        direction: direction,
+        collected: collected,
+        held: held,
+        sound: sound,
+    };
+    let outcome = phase_table::becomes(phase, variant);
+    let answer = control_questions::ask_submission(
         log.len(),
         collect.len(),
-        block,
+        facts,
+        outcome,
         t,
         window_base,
         window.len(),
     );
-    match asked {
-        Answer::Accepted => control_submit::accept(log, collect, block, t, window_base, window),
-        Answer::Refused(refusal) => Submitted {
-            answer: Answer::Refused(refusal),
-            records: 0,
-            block: block,
-        },
+    let mut records = 0;
+    match answer {
+        Answer::Refused(_) => {}
+        Answer::Accepted => {
+            let info = TdInfo {
+                endpoint_id: endpoint_id,
+                slot_id: slot_id,
+                data_length: 0,
+            };
+            let blank = held::blank();
+            let dropped = places_dropped(phase_table::is_restart(outcome), held);
+            let mut progress = td_part::at_start_of_td();
+            let mut j = 0;
+            while j < dropped {
+                let one = trbs[j];
+                progress = control_chain::report_dropped(log, info, progress, one);
+                trbs[j] = blank;
+                j += 1;
+            }
+            held -= dropped;
+            records = control_transfer::log_request(
+                log,
+                progress.records,
+                outcome,
+                request,
+                endpoint_id,
+                slot_id,
+            );
+            control_transfer::collect_trb(
+                collect,
+                outcome,
+                direction,
+                collected,
+                variant,
+                window_base,
+                window,
+            );
+            if phase_table::is_held(outcome) {
+                trbs[held] = t;
+                held += 1;
+            }
+            let before = ControlTransfer {
+                phase: phase,
+                direction: direction,
+                request: request,
+                collected: collected,
+            };
+            let transfer = control_transfer::transfer_after(outcome, before, variant, t.addr);
+            phase = transfer.phase;
+            state = phase_table::state_after(outcome, t.addr);
+            direction = transfer.direction;
+            request = transfer.request;
+            collected = transfer.collected;
+        }
+    }
+    let next = ControlBlock {
+        endpoint_id: endpoint_id,
+        slot_id: slot_id,
+        phase: phase,
+        state: state,
+        direction: direction,
+        request: request,
+        collected: collected,
+        held: held,
+        trbs: trbs,
+    };
+    Submitted {
+        answer: answer,
+        records: records,
+        block: next,
     }
 }
 
-// Completes the TRB that was submitted last. With SuccessfulControlIn the device's bytes are `data`.
+// ---- Completion
+
+// Completes the TRB that was submitted last. With SuccessfulControlIn the device's bytes are `data`, of which only the length is read.
+// The places are copied once, and there is one way out.
 pub fn next_completion(
     log: &mut [u8],
     block: ControlBlock,
     result: ControlRequestProcessingResult,
     data: &[u8],
 ) -> Completed
-    ensures { λ r. ⌜ Meets (completion (length (now (log .entry))) block result (length (now («data» .entry)))) 0 (now (log .entry)) r (now (log .exit)) ⌝ }
+    ensures { λ r. ⌜ Completes block result (length (now («data» .entry))) (now (log .entry)) r (now (log .exit)) ⌝ }
 {
-    let asked = control_questions::ask_completion(log.len(), block, result, data.len());
+    let endpoint_id = block.endpoint_id;
+    let slot_id = block.slot_id;
+    let mut phase = block.phase;
+    let mut state = block.state;
+    let direction = block.direction;
+    let request = block.request;
+    let collected = block.collected;
+    let mut held = block.held;
+    let mut trbs = block.trbs;
+    let places = held::places_held(held);
+    let mut sound = true;
+    let mut i = 0;
+    while i < places {
+        let one = trbs[i];
+        sound = held::and_sound(sound, EndpointKind::Control, one);
+        i += 1;
+    }
+    let facts = BlockFacts {
+        endpoint_id: endpoint_id,
+        slot_id: slot_id,
+        phase: phase,
+        state: state,
+        direction: direction,
+        collected: collected,
+        held: held,
+        sound: sound,
+    };
+    let asked = control_questions::ask_completion(log.len(), facts, result, data.len());
+    let mut answer = CompletionAnswer::Completed(TrbProcessingResult::Ok);
+    let mut records = 0;
     match asked {
-        Answer::Accepted => control_complete::accept(log, block, result, data.len()),
-        Answer::Refused(refusal) => Completed {
-            answer: CompletionAnswer::Refused(refusal),
-            records: 0,
-            block: block,
-        },
+        Answer::Refused(refusal) => {
+            answer = CompletionAnswer::Refused(refusal);
+        }
+        Answer::Accepted => {
+            let ending = control_block::ending_of(state, result, data.len() as u32);
+            let info = control_chain::info_of(ending, endpoint_id, slot_id);
+            let blank = held::blank();
+            let freed = control_block::places_freed(ending, held);
+            let mut progress = td_part::at_start_of_td();
+            let mut j = 0;
+            while j < freed {
+                let one = trbs[j];
+                progress = control_chain::next_trb(log, ending, info, progress, one);
+                trbs[j] = blank;
+                j += 1;
+            }
+            held -= freed;
+            records = control_chain::log_ending(
+                log,
+                progress.records,
+                ending,
+                request.address,
+                endpoint_id,
+                slot_id,
+            );
+            phase = control_block::phase_behind(state, phase);
+            state = ControlSubmissionState::NoTrbSubmitted;
+            let ended = control_block::result_of(ending);
+            answer = CompletionAnswer::Completed(ended);
+        }
+    }
+    let next = ControlBlock {
+        endpoint_id: endpoint_id,
+        slot_id: slot_id,
+        phase: phase,
+        state: state,
+        direction: direction,
+        request: request,
+        collected: collected,
+        held: held,
+        trbs: trbs,
+    };
+    Completed {
+        answer: answer,
+        records: records,
+        block: next,
     }
 }
+
+// ---- Cancel
 
 // Changes nothing; the Rust cancels at the device alone.
 pub fn cancel(block: ControlBlock) -> ControlBlock

@@ -1,17 +1,21 @@
-// The questions asked on a control endpoint, in the order of document 01.
-use control_block::ControlBlock;
-use control_data::TrbData;
+// The questions asked on a control endpoint, in the order of document 01, over the facts of its block.
+use control_block::BlockFacts;
+use control_transfer::TrbData;
 use phase_table::Outcome;
 use trb::Answer;
 use trb::ControlRequestProcessingResult;
-use trb::ControlSubmissionState;
 use trb::Refusal;
 use trb::TransferTrb;
 ghost use mathlib.Core.Path.{_≡_};
 ghost use Prim.Native.Nat.{_≤_};
+ghost use Rattle.trb.specs.Answers.{numberOf};
 ghost use Rattle.trb.specs.Limits.{maxHeld, maxCollected};
-ghost use Rattle.control_questions.specs.Completion.{isGiven, awaitsDevice, agrees, completionAnswer};
-ghost use Rattle.control_questions.specs.Submission.{hasRoom, reaches, collects, collectable, trbAnswer, submissionAnswer};
+ghost use Rattle.trb.specs.Questions.{firstNo};
+ghost use Rattle.control_transfer.specs.Transfers.{collectable};
+ghost use Rattle.control_questions.specs.Completion.{isGiven, completionQuestions};
+ghost use Rattle.control_questions.specs.Submission.{hasRoom, reaches, submissionQuestions};
+
+// ---- Submission
 
 // Question 5: if this TRB would be held, are then at most 64 held?
 fn is_room(outcome: Outcome, held: usize) -> bool
@@ -34,17 +38,7 @@ fn is_reached(outcome: Outcome, input: bool, data: TrbData, base: u64, size: usi
     if !phase_table::is_held(outcome) {
         return true;
     }
-    control_data::is_in_reach(input, data, base, size)
-}
-
-// Are its bytes collected?
-pub fn is_collected(outcome: Outcome, input: bool) -> bool
-    ensures { λ r. ⌜ r ≡ collects outcome input ⌝ }
-{
-    if !phase_table::is_held(outcome) {
-        return false;
-    }
-    !input
+    control_transfer::is_in_reach(input, data, base, size)
 }
 
 // Question 7: on OUT, would the collected count be at most 65,535?
@@ -52,70 +46,56 @@ fn is_collectable(outcome: Outcome, input: bool, collected: usize, data: TrbData
     requires { ⌜ collected ≤ maxCollected ⌝ }
     ensures { λ r. ⌜ r ≡ collectable outcome input collected «data» ⌝ }
 {
-    if !is_collected(outcome, input) {
+    if !control_transfer::is_collected(outcome, input) {
         return true;
     }
-    let size = control_data::size_of(data) as usize;
+    let size = control_transfer::size_of(data) as usize;
     collected + size <= trb::MAX_COLLECTED
 }
 
-// Questions 4 to 7.
-fn ask_of_trb(
+// Questions 1 to 7, of a log, a collect buffer and a window at `base` of these lengths, and a TRB that becomes this.
+pub fn ask_submission(
+    log_length: usize,
+    collect_length: usize,
+    facts: BlockFacts,
     outcome: Outcome,
-    block: ControlBlock,
     t: TransferTrb,
     base: u64,
     size: usize,
 ) -> Answer
-    requires { ⌜ (block .held ≤ maxHeld) × (block .collected ≤ maxCollected) ⌝ }
-    ensures { λ r. ⌜ r ≡ trbAnswer outcome block t base size ⌝ }
+    ensures { λ r. ⌜ numberOf r ≡ firstNo (submissionQuestions «log_length» «collect_length» facts outcome t base size) ⌝ }
 {
+    let state = facts.state;
     let variant = t.variant;
-    let data = control_data::data_of(variant);
+    let data = control_transfer::data_of(variant);
+    if log_length < trb::MIN_LOG {
+        return Answer::Refused(Refusal::BufferTooShort);
+    }
+    if collect_length < trb::MAX_COLLECTED {
+        return Answer::Refused(Refusal::BufferTooShort);
+    }
+    if !control_block::is_sound(facts) {
+        return Answer::Refused(Refusal::UnsoundBlock);
+    }
+    if !control_block::submission_due(state) {
+        return Answer::Refused(Refusal::OutOfTurn);
+    }
     if trb::MAX_TRANSFER_LENGTH < trb::transfer_length(variant) {
         return Answer::Refused(Refusal::TransferTooLong);
     }
-    if !is_room(outcome, block.held) {
+    if !is_room(outcome, facts.held) {
         return Answer::Refused(Refusal::TooManyHeld);
     }
-    if !is_reached(outcome, block.direction, data, base, size) {
+    if !is_reached(outcome, facts.direction, data, base, size) {
         return Answer::Refused(Refusal::OutsideGuestMemory);
     }
-    if !is_collectable(outcome, block.direction, block.collected, data) {
+    if !is_collectable(outcome, facts.direction, facts.collected, data) {
         return Answer::Refused(Refusal::TooMuchCollected);
     }
     Answer::Accepted
 }
 
-// Questions 1 to 7, of a log, a collect buffer and a window at `base` of these lengths.
-pub fn ask_submission(
-    log: usize,
-    collect: usize,
-    block: ControlBlock,
-    t: TransferTrb,
-    base: u64,
-    size: usize,
-) -> Answer
-    ensures { λ r. ⌜ r ≡ submissionAnswer log collect block t base size ⌝ }
-{
-    let state = block.state;
-    let phase = block.phase;
-    let variant = t.variant;
-    if log < trb::MIN_LOG {
-        return Answer::Refused(Refusal::BufferTooShort);
-    }
-    if collect < trb::MAX_COLLECTED {
-        return Answer::Refused(Refusal::BufferTooShort);
-    }
-    if !control_block::is_sound(block) {
-        return Answer::Refused(Refusal::UnsoundBlock);
-    }
-    if !control_block::is_submission_due(state) {
-        return Answer::Refused(Refusal::OutOfTurn);
-    }
-    let outcome = phase_table::becomes(phase, variant);
-    ask_of_trb(outcome, block, t, base, size)
-}
+// ---- Completion
 
 // Is a device result given?
 fn is_given(result: ControlRequestProcessingResult) -> bool
@@ -131,50 +111,26 @@ fn is_given(result: ControlRequestProcessingResult) -> bool
     }
 }
 
-// Does the block await one?
-fn is_device_awaited(state: ControlSubmissionState) -> bool
-    ensures { λ r. ⌜ r ≡ awaitsDevice state ⌝ }
-{
-    match state {
-        ControlSubmissionState::NoTrbSubmitted => false,
-        ControlSubmissionState::CollectingTd => false,
-        ControlSubmissionState::ParserError(_) => false,
-        ControlSubmissionState::UnexpectedTrb(_) => false,
-        ControlSubmissionState::AwaitingControlRequest => true,
-    }
-}
-
-// Question 8: is a device result given exactly when the block awaits one?
-fn is_agreed(result: ControlRequestProcessingResult, state: ControlSubmissionState) -> bool
-    ensures { λ r. ⌜ r ≡ agrees result state ⌝ }
-{
-    let awaited = is_device_awaited(state);
-    if is_given(result) {
-        return awaited;
-    }
-    !awaited
-}
-
 // Questions 1, 2, 3, 8 and 9, of a log and device data of these lengths.
 pub fn ask_completion(
-    log: usize,
-    block: ControlBlock,
+    log_length: usize,
+    facts: BlockFacts,
     result: ControlRequestProcessingResult,
     data_length: usize,
 ) -> Answer
-    ensures { λ r. ⌜ r ≡ completionAnswer log block result «data_length» ⌝ }
+    ensures { λ r. ⌜ numberOf r ≡ firstNo (completionQuestions «log_length» facts result «data_length») ⌝ }
 {
-    let state = block.state;
-    if log < trb::MIN_LOG {
+    let state = facts.state;
+    if log_length < trb::MIN_LOG {
         return Answer::Refused(Refusal::BufferTooShort);
     }
-    if !control_block::is_sound(block) {
+    if !control_block::is_sound(facts) {
         return Answer::Refused(Refusal::UnsoundBlock);
     }
-    if control_block::is_submission_due(state) {
+    if control_block::submission_due(state) {
         return Answer::Refused(Refusal::OutOfTurn);
     }
-    if !is_agreed(result, state) {
+    if !trb::agree(is_given(result), control_block::awaits_device(state)) {
         return Answer::Refused(Refusal::DeviceResultMismatch);
     }
     if trb::MAX_DATA < data_length {

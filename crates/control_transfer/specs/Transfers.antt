@@ -1,17 +1,25 @@
 -- 01, Control endpoint: what a TRB makes of the transfer. Assumes nothing.
 use Prim.Native.Nat.{ℕ, _+_, _%_, _^_}
-use mathlib.Core.Bool.{cond}
+use mathlib.Core.Bool.{Bool, not, cond, _&&_}
+use mathlib.Core.List.{List, []}
 use lib.Dec.{leb}
+use Rattle.trb.specs.Limits.{maxCollected}
+use Rattle.trb.specs.Questions.{askedIf}
 use Rattle.trb.specs.declared.ControlTransferState.{ControlTransferState}
+use Rattle.trb.specs.declared.EndpointId.{EndpointId}
 use Rattle.trb.specs.declared.SetupStageTrb.{SetupStageTrb}
+use Rattle.trb.specs.declared.SlotId.{SlotId}
 use Rattle.trb.specs.declared.TransferTrbVariant.{TransferTrbVariant}
 use Rattle.trb.specs.declared.TransferTrbVariant.the-variants.{SetupStage, DataStage, StatusStage, Normal, EventData, NoOp, Isoch, Unrecognized}
 use Rattle.trb.specs.declared.UsbRequest.{UsbRequest}
+use Rattle.log.specs.declared.Record.{Record}
+use Rattle.log.specs.Records.{controlRequest, when}
 use Rattle.phase_table.specs.declared.Outcome.{Outcome}
-use Rattle.phase_table.specs.Outcomes.{holds, phaseAfter}
+use Rattle.phase_table.specs.Outcomes.{holds, requests, phaseAfter}
 use Rattle.control_block.specs.declared.ControlTransfer.{ControlTransfer}
 use Rattle.control_block.specs.Blocks.{atPhase}
-use Rattle.control_data.specs.Data.{dataOf, sizeOf}
+use Rattle.control_transfer.specs.declared.TrbData.{TrbData}
+use Rattle.control_transfer.specs.Data.{dataOf, sizeOf, bytesOf}
 
 -- wLength is ignored
 abbrev pub requestOf : SetupStageTrb → ℕ → UsbRequest
@@ -63,3 +71,21 @@ heldInto o v a w = cond (holds o) (takenBy v a w) w
 
 unfoldable pub transferAfter : Outcome → TransferTrbVariant → ℕ → ControlTransfer → ControlTransfer
 transferAfter o v a w = atPhase (phaseAfter (w .phase) o) (heldInto o v a w)
+
+-- where the table says so, the request is logged
+abbrev pub requestsOf : Outcome → UsbRequest → EndpointId → SlotId → List Record
+requestsOf o q e s = when (requests o) (controlRequest q e s)
+
+-- ---- The bytes collected
+
+-- bytes are collected of a TRB that is held, on OUT
+unfoldable pub collects : Outcome → Bool → Bool
+collects o input = holds o && not input
+
+-- on control OUT, would the collected count be at most 65,535?
+abbrev pub collectable : Outcome → Bool → ℕ → TrbData → Bool
+collectable o input collected d = askedIf (collects o input) (leb (collected + sizeOf d) maxCollected)
+
+-- of a window with the bytes w at base
+abbrev pub bytesTaken : Outcome → Bool → TransferTrbVariant → ℕ → List ℕ → List ℕ
+bytesTaken o input v base w = cond (collects o input) (bytesOf base w (dataOf v)) []

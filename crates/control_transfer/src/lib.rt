@@ -1,14 +1,174 @@
-// What a TRB makes of a control transfer: its request, the bytes asked for and the bytes collected. Ports `instantiate_setup_trb` and
-// `collect_transfer_length`.
+// What a TRB makes of a control transfer: its request, the bytes asked for and the bytes collected; and the TRB's data, its size, whether
+// it lies in the guest window, and its collecting on OUT. Ports `instantiate_setup_trb`, `collect_transfer_length` and
+// `collect_transfer_data`.
 use control_block::ControlTransfer;
+use guest_memory::Place;
 use phase_table::Outcome;
+use trb::EndpointId;
 use trb::SetupStageTrb;
+use trb::SlotId;
 use trb::TransferTrbVariant;
 use trb::UsbRequest;
+ghost use mathlib.Core.Bool.{true, not, _||_};
 ghost use mathlib.Core.Path.{_≡_};
-ghost use Prim.Native.Nat.{_≤_};
-ghost use Rattle.trb.specs.Limits.{maxCollected};
-ghost use Rattle.control_transfer.specs.Transfers.{requestOf, begun, lengthened, grown, takenBy, heldInto, transferAfter};
+ghost use Prim.Native.Nat.{_+_, _*_, _≤_};
+ghost use lib.ListN.{length};
+ghost use Rattle.buffers.specs.LittleEndian.{leBytes};
+ghost use Rattle.buffers.specs.Patch.{patch};
+ghost use Rattle.trb.specs.Limits.{recordLength, maxCollected};
+ghost use Rattle.log.specs.Calls.{Meets, counted};
+ghost use Rattle.control_transfer.specs.Data.{noData, dataOf, immediateLength, sizeOf, inReach, windowBytes, bytesOf};
+ghost use Rattle.control_transfer.specs.Transfers.{requestOf, begun, lengthened, grown, takenBy, heldInto, transferAfter, requestsOf, collects, collectable, bytesTaken};
+
+// ---- The data of a TRB
+
+// Bytes of an immediate TRB, at most.
+pub const MAX_IMMEDIATE: u32 = 8;
+
+// What a DataStage or Normal TRB moves.
+pub struct TrbData {
+    pub data_pointer: u64,
+    pub transfer_length: u32,
+    pub immediate_data: bool,
+}
+
+fn no_data() -> TrbData
+    ensures { λ r. ⌜ r ≡ noData ⌝ }
+{
+    TrbData {
+        data_pointer: 0,
+        transfer_length: 0,
+        immediate_data: false,
+    }
+}
+
+pub fn data_of(variant: TransferTrbVariant) -> TrbData
+    ensures { λ r. ⌜ r ≡ dataOf variant ⌝ }
+{
+    match variant {
+        TransferTrbVariant::SetupStage(_) => no_data(),
+        TransferTrbVariant::DataStage(data_stage) => TrbData {
+            data_pointer: data_stage.data_pointer,
+            transfer_length: data_stage.transfer_length,
+            immediate_data: data_stage.immediate_data,
+        },
+        TransferTrbVariant::StatusStage(_) => no_data(),
+        TransferTrbVariant::Normal(normal) => TrbData {
+            data_pointer: normal.data_pointer,
+            transfer_length: normal.transfer_length,
+            immediate_data: normal.immediate_data,
+        },
+        TransferTrbVariant::EventData(_) => no_data(),
+        TransferTrbVariant::NoOp(_) => no_data(),
+        TransferTrbVariant::Isoch => no_data(),
+        TransferTrbVariant::Unrecognized => no_data(),
+    }
+}
+
+fn immediate_length(length: u32) -> u32
+    ensures { λ r. ⌜ r ≡ immediateLength «length» ⌝ }
+{
+    if MAX_IMMEDIATE < length {
+        MAX_IMMEDIATE
+    } else {
+        length
+    }
+}
+
+// The bytes that the TRB counts on IN and collects on OUT.
+pub fn size_of(data: TrbData) -> u32
+    ensures { λ r. ⌜ r ≡ sizeOf «data» ⌝ }
+{
+    if data.immediate_data {
+        immediate_length(data.transfer_length)
+    } else {
+        data.transfer_length
+    }
+}
+
+// Question 6 is not asked of immediate data in an OUT transfer.
+fn is_range_asked(input: bool, immediate: bool) -> bool
+    ensures { λ r. ⌜ r ≡ (input || not immediate) ⌝ }
+{
+    if input { true } else { !immediate }
+}
+
+// Question 6, of the data of a TRB that is held; `input`: the transfer is IN.
+pub fn is_in_reach(input: bool, data: TrbData, base: u64, size: usize) -> bool
+    ensures { λ r. ⌜ r ≡ inReach input «data» base size ⌝ }
+{
+    if !is_range_asked(input, data.immediate_data) {
+        return true;
+    }
+    guest_memory::range_inside(base, size, data.data_pointer, data.transfer_length)
+}
+
+fn le_bytes(x: u64) -> [u8; 8]
+    ensures { λ r. ⌜ r ≡ leBytes 8 x ⌝ }
+{
+    let x1 = x / 256;
+    let x2 = x1 / 256;
+    let x3 = x2 / 256;
+    let x4 = x3 / 256;
+    let x5 = x4 / 256;
+    let x6 = x5 / 256;
+    let x7 = x6 / 256;
+    [
+        (x % 256) as u8,
+        (x1 % 256) as u8,
+        (x2 % 256) as u8,
+        (x3 % 256) as u8,
+        (x4 % 256) as u8,
+        (x5 % 256) as u8,
+        (x6 % 256) as u8,
+        (x7 % 256) as u8,
+    ]
+}
+
+// Lays the `count` lowest bytes of the pointer over `collect` from index `at` on.
+fn collect_immediate(collect: &mut [u8], at: usize, pointer: u64, count: usize)
+    requires { ⌜ (at + count ≤ length (now collect)) × (count ≤ 8) ⌝ }
+    ensures { λ _. ⌜ now (collect .exit) ≡ patch (now (collect .entry)) at (leBytes count pointer) ⌝ }
+{
+    let cells = le_bytes(pointer);
+    buffers::lay(collect, at, &cells[..count]);
+}
+
+// Lays the `count` bytes of guest memory from `pointer` on over `collect` from index `at` on.
+fn collect_memory(collect: &mut [u8], at: usize, pointer: u64, count: u32, base: u64, window: &[u8])
+    requires { ⌜ at + count ≤ length (now collect) ⌝ }
+    ensures { λ _. ⌜ now (collect .exit) ≡ patch (now (collect .entry)) at (windowBytes base (now (window .entry)) pointer count) ⌝ }
+{
+    let place = guest_memory::place_range(base, window.len(), pointer, count);
+    match place {
+        Place::Outside => {}
+        Place::At(offset) => {
+            guest_memory::read_bulk(window, offset, count as usize, collect, at);
+        }
+    }
+}
+
+// Lays the bytes of a TRB of an OUT transfer over `collect` from index `at` on; ports `collect_transfer_data`.
+pub fn collect_transfer_data(collect: &mut [u8], at: usize, data: TrbData, base: u64, window: &[u8])
+    requires { ⌜ at + sizeOf «data» ≤ length (now collect) ⌝ }
+    ensures { λ _. ⌜ now (collect .exit) ≡ patch (now (collect .entry)) at (bytesOf base (now (window .entry)) «data») ⌝ }
+{
+    if data.immediate_data {
+        let count = immediate_length(data.transfer_length);
+        collect_immediate(collect, at, data.data_pointer, count as usize);
+    } else {
+        collect_memory(
+            collect,
+            at,
+            data.data_pointer,
+            data.transfer_length,
+            base,
+            window,
+        );
+    }
+}
+
+// ---- The transfer
 
 // The request of a Setup TRB at `addr`.
 fn request_of(setup_stage: SetupStageTrb, addr: u64) -> UsbRequest
@@ -86,7 +246,7 @@ fn take_into(transfer: ControlTransfer, variant: TransferTrbVariant, addr: u64) 
     requires { ⌜ transfer .collected ≤ maxCollected ⌝ }
     ensures { λ r. ⌜ r ≡ takenBy variant addr transfer ⌝ }
 {
-    let size = control_data::size_of(control_data::data_of(variant));
+    let size = size_of(data_of(variant));
     match variant {
         TransferTrbVariant::SetupStage(setup_stage) => instantiate_setup_trb(
             transfer,
@@ -132,4 +292,49 @@ pub fn transfer_after(
     let before = transfer.phase;
     let phase = phase_table::phase_after(before, outcome);
     control_block::at_phase(take_held(outcome, transfer, variant, addr), phase)
+}
+
+// Logs the request behind `count` records, where it goes to the device, and returns how many records there are then.
+pub fn log_request(
+    log: &mut [u8],
+    count: usize,
+    outcome: Outcome,
+    request: UsbRequest,
+    endpoint_id: EndpointId,
+    slot_id: SlotId,
+) -> usize
+    requires { ⌜ recordLength * (count + 1) ≤ length (now log) ⌝ }
+    ensures { λ r. ⌜ Meets (counted count (requestsOf outcome request «endpoint_id» «slot_id»)) count (now (log .entry)) r (now (log .exit)) ⌝ }
+{
+    let record = log::control_request(request, endpoint_id, slot_id);
+    log::put_when(log, count, phase_table::is_request(outcome), record)
+}
+
+// Are the TRB's bytes collected? `input`: the transfer is IN.
+pub fn is_collected(outcome: Outcome, input: bool) -> bool
+    ensures { λ r. ⌜ r ≡ collects outcome input ⌝ }
+{
+    if !phase_table::is_held(outcome) {
+        return false;
+    }
+    !input
+}
+
+// Collects the TRB's bytes just behind the `collected` ones, on OUT.
+pub fn collect_trb(
+    collect: &mut [u8],
+    outcome: Outcome,
+    input: bool,
+    collected: usize,
+    variant: TransferTrbVariant,
+    base: u64,
+    window: &[u8],
+)
+    requires { ⌜ (maxCollected ≤ length (now collect)) × (collectable outcome input collected (dataOf variant) ≡ true) ⌝ }
+    ensures { λ _. ⌜ now (collect .exit) ≡ patch (now (collect .entry)) collected (bytesTaken outcome input variant base (now (window .entry))) ⌝ }
+{
+    if is_collected(outcome, input) {
+        let data = data_of(variant);
+        collect_transfer_data(collect, collected, data, base, window);
+    }
 }

@@ -22,22 +22,26 @@ use Rattle.walks.specs.All.{all}
 use Rattle.walks.specs.Walk.{walk}
 use Rattle.td_part.specs.Parts.{putDma, realizeDma}
 use Rattle.in_td.specs.Td.{handleNormal, processTrb}
-use Rattle.guest_memory.specs.Places.{placeOf}
-use Rattle.in_block.specs.Sound.{hasNormal, soundBlock}
-use Rattle.in_request.specs.Requests.{rangeInside}
+use Rattle.guest_memory.specs.Places.{placeOf, rangeInside}
+use Rattle.in_block.specs.Facts.{soundBlock}
+use Rattle.in_block.specs.Outcomes.{outcomeOf}
+use Rattle.trb.specs.Questions.{firstNo}
+use Rattle.account.specs.Claims.{tdT}
 use Rattle.in_endpoint.specs.Completion.{transferred, completion}
 use Rattle.in_endpoint.specs.Creation.{creation}
-use Rattle.in_endpoint.specs.Submission.{tdEnded, holding, taken, submission}
-use Rattle.control_block.specs.Sound as controlBlock
+use Rattle.in_endpoint.specs.Submission.{submission}
+use Rattle.in_questions.specs.Questions as inQuestions
+use Rattle.control_block.specs.Facts as controlBlock
 use Rattle.control_chain.specs.Chain.{moveOut, realizeDataStage, realizeNormal, realizeTrb}
-use Rattle.control_complete.specs.Completes as completes
-use Rattle.control_data.specs.Data.{inReach, windowBytes, bytesOf}
-use Rattle.control_held.specs.Held.{successes}
-use Rattle.control_questions.specs.Completion.{agrees, completionAnswer}
-use Rattle.control_questions.specs.Submission.{hasRoom, reaches, collectable, trbAnswer, submissionAnswer}
-use Rattle.control_questions.specs.Submission as questions
-use Rattle.control_submit.specs.Submits as submits
+use Rattle.control_chain.specs.Dropped.{successes}
+use Rattle.control_chain.specs.Endings.{endingRecords}
+use Rattle.control_endpoint.specs.Completion as completes
+use Rattle.control_endpoint.specs.Submission as submits
+use Rattle.control_questions.specs.Completion.{completionQuestions}
+use Rattle.control_questions.specs.Submission.{hasRoom, reaches, submissionQuestions}
+use Rattle.control_transfer.specs.Data.{inReach, windowBytes, bytesOf}
 use Rattle.control_transfer.specs.Transfers.{transferAfter}
+use Rattle.control_transfer.specs.Transfers as transfers
 use Rattle.phase_table.specs.Table.{becomes}
 use Rattle.examples.specs.Control as onControlEndpoint
 use Rattle.examples.specs.Control.{onControl, setup, dataStage, status}
@@ -67,15 +71,6 @@ collects bytes s = record { records = s .records; answer = s .answer; collected 
 
 ends : TrbProcessingResult → List Record → Seen
 ends r rs = record { records = rs; answer = Completed r; collected = [] }
-
--- ---- TD T: Normals of 512, ISP on all, IOC on the last, chain on the first two
-
-tdT : List TransferTrb
-tdT =
-    normal 0x1000 0x8000 512 true false true
-    ∷ normal 0x1010 0x8200 512 true false true
-    ∷ normal 0x1020 0x8400 512 true true false
-    ∷ []
 
 record Example : Type 0 where
   found : Seen
@@ -143,5 +138,5 @@ examples =
 
 -- the definitions say of every example what document 01 says
 bench : map (λ (e : Example). e .found) examples ≡ map (λ (e : Example). e .expected) examples
-unfolding examples tdT wrote event eventDataOf requested asked collects ends normal eventData noOp setup dataStage status walk cleared all soundTrb placeOf idsInRange putDma realizeDma onIn play creation submission taken holding tdEnded completion transferred soundBlock hasNormal rangeInside processTrb handleNormal onControl onControlEndpoint.play becomes transferAfter controlBlock.soundBlock submissionAnswer trbAnswer hasRoom reaches questions.collects collectable inReach windowBytes bytesOf submits.submission submits.accepted submits.recordsOf submits.blockAfter completionAnswer agrees completes.completion completes.accepted completes.blockAfter completes.badTrb completes.failed completes.realized successes moveOut realizeDataStage realizeNormal realizeTrb
+unfolding examples wrote event eventDataOf requested asked collects ends normal eventData noOp setup dataStage status walk cleared all soundTrb placeOf idsInRange putDma realizeDma onIn play creation submission inQuestions.submissionQuestions outcomeOf completion inQuestions.completionQuestions transferred soundBlock rangeInside processTrb handleNormal onControl onControlEndpoint.play becomes transferAfter controlBlock.soundBlock firstNo submissionQuestions hasRoom reaches transfers.collects inReach windowBytes bytesOf submits.submission submits.bytesCollected submits.accepted submits.recordsOf submits.blockAfter completionQuestions completes.completion completes.accepted completes.blockBehind endingRecords successes moveOut realizeDataStage realizeNormal realizeTrb
 bench = refl

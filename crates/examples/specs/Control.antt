@@ -3,7 +3,7 @@
 use Prim.Native.Nat.{ℕ}
 use mathlib.Core.Bool.{Bool, true, false}
 use mathlib.Core.List.{List, [], _∷_, _++_}
-use lib.ListN.{replicate}
+use lib.ListN.{length, replicate}
 use Rattle.trb.specs.Limits.{minLog, maxCollected}
 use Rattle.trb.specs.declared.CompletionAnswer.the-variants.{Completed}
 use Rattle.trb.specs.declared.ControlRequestProcessingResult.{ControlRequestProcessingResult}
@@ -13,25 +13,29 @@ use Rattle.trb.specs.declared.TransferTrbVariant.the-variants.{SetupStage, Data
 use Rattle.trb.specs.declared.TrbProcessingResult.the-variants.{Ok}
 use Rattle.log.specs.Calls.{Out}
 use Rattle.control_block.specs.declared.ControlBlock.{ControlBlock}
-use Rattle.control_complete.specs.Completes.{completion}
-use Rattle.control_complete.specs.declared.Completed as call
-use Rattle.control_endpoint.specs.Endpoint.{creation}
-use Rattle.control_submit.specs.Submits.{Submission, submission}
+use Rattle.control_endpoint.specs.Completion.{completion}
+use Rattle.control_endpoint.specs.Creation.{creation}
+use Rattle.control_endpoint.specs.Submission.{submission, bytesCollected}
+use Rattle.control_endpoint.specs.declared.Completed as call
+use Rattle.control_endpoint.specs.declared.Submitted.{Submitted}
 use Rattle.examples.specs.In.{Seen, windowBase}
 
 -- 1,024 bytes of guest memory
 abbrev pub window : List ℕ
 window = replicate 1024 7
 
-abbrev pub submit : ControlBlock → TransferTrb → Submission
-submit b t = submission minLog maxCollected b t windowBase window
+abbrev pub submit : ControlBlock → TransferTrb → Out Submitted
+submit b t = submission minLog maxCollected b t windowBase (length window)
 
-abbrev pub complete : Submission → ControlRequestProcessingResult → ℕ → Out call.Completed
-complete o r n = completion minLog (o .out .state .block) r n
+abbrev pub collect : ControlBlock → TransferTrb → List ℕ
+collect b t = bytesCollected minLog maxCollected b t windowBase window
+
+abbrev pub complete : Out Submitted → ControlRequestProcessingResult → ℕ → Out call.Completed
+complete o r n = completion minLog (o .state .block) r n
 
 -- a submission and its completion, and then what follows
-abbrev pub also : Submission → Out call.Completed → Seen → Seen
-also o p s = record { records = (o .out .records ++ p .records) ++ s .records; answer = s .answer; collected = o .bytes ++ s .collected }
+abbrev pub also : Out Submitted → List ℕ → Out call.Completed → Seen → Seen
+also o bytes p s = record { records = (o .records ++ p .records) ++ s .records; answer = s .answer; collected = bytes ++ s .collected }
 
 -- the TRBs ts, each with its completion, the last one with the device's result and n bytes
 unfoldable pub play : ControlBlock → List TransferTrb → ControlRequestProcessingResult → ℕ → Seen
@@ -39,11 +43,11 @@ play b [] r n = record { records = []; answer = Completed Ok; collected = [] }
 play b (t ∷ []) r n =
     let o = submit b t in
     let p = complete o r n in
-    record { records = o .out .records ++ p .records; answer = p .state .answer; collected = o .bytes }
+    record { records = o .records ++ p .records; answer = p .state .answer; collected = collect b t }
 play b (t ∷ u ∷ ts) r n =
     let o = submit b t in
     let p = complete o NoneGiven 0 in
-    also o p (play (p .state .block) (u ∷ ts) r n)
+    also o (collect b t) p (play (p .state .block) (u ∷ ts) r n)
 
 -- endpoint 3, slot 2
 unfoldable pub onControl : List TransferTrb → ControlRequestProcessingResult → ℕ → Seen

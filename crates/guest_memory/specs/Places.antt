@@ -1,7 +1,7 @@
 -- Where a range of guest addresses lies in guest memory. Assumes nothing.
 use Prim.Native.Nat.{ℕ, _+_, _-_}
 use mathlib.Core.Bool.{Bool, true, false, _&&_, cond}
-use lib.Dec.{leb}
+use lib.Dec.{leb, eqb}
 use Rattle.guest_memory.specs.declared.Place.{Place}
 use Rattle.guest_memory.specs.declared.Place.the-variants.{Outside, At}
 
@@ -14,3 +14,7 @@ placeOf base size pointer n = cond (leb base pointer && leb (pointer + n) (base 
 abbrev pub isInside : Place → Bool
 isInside Outside = false
 isInside (At at) = true
+
+-- 01, Submission: a range of nonzero length is asked
+unfoldable pub rangeInside : ℕ → ℕ → ℕ → ℕ → Bool
+rangeInside base size pointer n = cond (eqb n 0) true (isInside (placeOf base size pointer n))

@@ -4,7 +4,7 @@ ghost use mathlib.Core.Path.{_≡_};
 ghost use Prim.Native.Nat.{_+_, _≤_};
 ghost use lib.ListN.{length, take, drop};
 ghost use Rattle.buffers.specs.Patch.{patch};
-ghost use Rattle.guest_memory.specs.Places.{placeOf, isInside};
+ghost use Rattle.guest_memory.specs.Places.{placeOf, isInside, rangeInside};
 
 // Where a range lies: outside the window, or in it from this index on.
 pub enum Place {
@@ -40,6 +40,16 @@ pub fn check_range(base: u64, size: usize, pointer: u64, count: u32) -> bool
         Place::Outside => false,
         Place::At(_) => true,
     }
+}
+
+// Question 6: does the range, if it has any bytes, lie in the window?
+pub fn range_inside(base: u64, size: usize, pointer: u64, count: u32) -> bool
+    ensures { λ r. ⌜ r ≡ rangeInside base size pointer count ⌝ }
+{
+    if count == 0 {
+        return true;
+    }
+    check_range(base, size, pointer, count)
 }
 
 // Lays the `count` bytes of `src` from index `start` on over `dst` from index `at` on.

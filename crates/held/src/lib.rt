@@ -4,11 +4,10 @@ use trb::TransferTrb;
 use trb::TransferTrbVariant;
 ghost use mathlib.Core.Path.{_≡_};
 ghost use mathlib.Core.Bool.{_&&_};
-ghost use Prim.Native.Nat.{_≤_};
-ghost use lib.ListN.{take};
+ghost use Prim.Native.Nat.{_≤_, min};
 ghost use Rattle.trb.specs.Limits.{maxHeld};
 ghost use Rattle.held.specs.Places.{blankTrb, cleared};
-ghost use Rattle.held.specs.Sound.{supported, soundTrb, heldSound};
+ghost use Rattle.held.specs.Sound.{supported, soundTrb};
 
 // Whose TRBs are held.
 pub enum EndpointKind {
@@ -85,7 +84,7 @@ pub fn supports(kind: EndpointKind, variant: TransferTrbVariant) -> bool
 }
 
 // Is this TRB sound too, after those before?
-fn and_sound(so_far: bool, kind: EndpointKind, t: TransferTrb) -> bool
+pub fn and_sound(so_far: bool, kind: EndpointKind, t: TransferTrb) -> bool
     ensures { λ r. ⌜ r ≡ «so_far» && soundTrb kind t ⌝ }
 {
     let variant = t.variant;
@@ -98,17 +97,13 @@ fn and_sound(so_far: bool, kind: EndpointKind, t: TransferTrb) -> bool
     trb::transfer_length(variant) <= trb::MAX_TRANSFER_LENGTH
 }
 
-// Are the TRBs held of kinds that the endpoint supports, each of a length within the limit?
-pub fn held_sound(kind: EndpointKind, trbs: [TransferTrb; trb::MAX_HELD], held: usize) -> bool
-    requires { ⌜ held ≤ maxHeld ⌝ }
-    ensures { λ r. ⌜ r ≡ heldSound kind (take held trbs) ⌝ }
+// How many places are tested: those that are held, and no more than there are.
+pub fn places_held(held: usize) -> usize
+    ensures { λ r. ⌜ r ≡ min held maxHeld ⌝ }
 {
-    let mut sound = true;
-    let mut i = 0;
-    while i < held {
-        let t = trbs[i];
-        sound = and_sound(sound, kind, t);
-        i += 1;
+    if held < trb::MAX_HELD {
+        held
+    } else {
+        trb::MAX_HELD
     }
-    sound
 }

@@ -1,26 +1,22 @@
--- How a loop over the places keeps to the test of those held, and that question 2 is asked of a block by that test. Assumes nothing.
-use Prim.Native.Nat.{ℕ, zero, suc, _+_, _<_, _≤_, min}
-use mathlib.Core.Path.{_≡_, refl, sym, ap, _∙_}
-use mathlib.Core.Bool.{Bool, true, not, _&&_, _||_}
-use mathlib.Core.List.{List, [], _∷_}
-use native.Mathlib.Numerals.{add-one, unary-clauses}
-use native.Mathlib.Omega.{arith}
-use lib.Dec.{leb}
-use lib.ListN.{length, take, set, getD}
-use Rattle.trb.specs.Ids.{idsInRange}
+-- How a loop over the places keeps to what is found of those held. Assumes nothing.
+use Prim.Native.Nat.{ℕ, _+_, _<_, _≤_, min}
+use mathlib.Core.Path.{_≡_, ap, _∙_}
+use mathlib.Core.Bool.{true}
+use mathlib.Core.List.{List}
+use lib.ListN.{length, take, getD}
 use Rattle.trb.specs.Limits.{maxHeld}
 use Rattle.trb.specs.declared.TransferTrb.{TransferTrb}
 use Rattle.held.specs.Places.{pastEnd}
-use Rattle.held.specs.Sound.{soundTrb, heldSound}
+use Rattle.held.specs.Sound.{soundTrb}
 use Rattle.held.specs.declared.EndpointKind.the-variants.{In}
+use Rattle.held.proofs.TestedLaws.{places-few, places-held}
 use Rattle.walks.specs.All.{all}
-use Rattle.walks.proofs.AllLaws.{all-set, Tested, tested-none, tested-turn, tested-end}
-use Rattle.in_block.specs.Blocks.{heldOf, stored}
-use Rattle.in_block.specs.Sound.{hasNormal, awaitsDevice, soundBlock}
-use Rattle.in_block.specs.Test.{noNormal, trbTest, heldTest, soundAs}
+use Rattle.walks.proofs.AllLaws.{Tested, tested-none, tested-turn, tested-end}
+use Rattle.in_block.specs.Blocks.{heldOf}
+use Rattle.in_block.specs.Facts.{noNormal, trbTest, heldTest, factsOf}
+use Rattle.in_block.specs.declared.BlockFacts.{BlockFacts}
 use Rattle.in_block.specs.declared.HeldTest.{HeldTest}
 use Rattle.in_block.specs.declared.InBlock.{InBlock}
-use Rattle.in_block.proofs.SoundLaws.{hasNormal-all}
 
 -- ---- The loop
 
@@ -46,35 +42,14 @@ module _ (xs : List TransferTrb) (n : ℕ) (long : n ≤ length xs) where
       let other : s .«no_normal» ≡ all noNormal (take n xs) = tested-end noNormal xs n long (s .«no_normal») i (k .other) h in
       λ j. record { sound = sound j; «no_normal» = other j }
 
-take-least : (xs : List TransferTrb) (n : ℕ) → take (min n (length xs)) xs ≡ take n xs
-take-least [] zero = refl
-take-least [] (suc n) = simp unary-clauses refl
-take-least (x ∷ xs) zero = simp unary-clauses refl
-take-least (x ∷ xs) (suc n) = simp unary-clauses (ap (λ (ts : List TransferTrb). x ∷ ts) (take-least xs n))
-
 -- over the places xs of a block that says n are held, of which p are tested
-module _ (xs : List TransferTrb) (n p : ℕ) (all-places : length xs ≡ maxHeld) (tested : p ≡ min n maxHeld) where
-  pub places-few : p ≤ length xs
-  places-few = omega (arith, all-places, tested)
+pub held-tested : (xs : List TransferTrb) (n p : ℕ) (all-places : length xs ≡ maxHeld) (tested : p ≡ min n maxHeld) (s : HeldTest) (i : ℕ) → Testing (take p xs) s i → p ≤ i
+    → s ≡ heldTest (take n xs)
+held-tested xs n p all-places tested s i k h =
+    testing-end xs p (places-few xs n p all-places tested) s i k h ∙ ap (λ (ts : List TransferTrb). heldTest ts) (places-held xs n p all-places tested)
 
-  pub held-tested : (s : HeldTest) (i : ℕ) → Testing (take p xs) s i → p ≤ i → s ≡ heldTest (take n xs)
-  held-tested s i k h =
-      testing-end xs p places-few s i k h
-      ∙ ap (λ (ts : List TransferTrb). heldTest ts) (ap (λ (k : ℕ). take k xs) (tested ∙ ap (λ (k : ℕ). min n k) (sym all-places)) ∙ take-least xs n)
-
--- ---- Question 2
-
-pub sound-as : (b : InBlock) → soundBlock b ≡ soundAs (b .«endpoint_id») (b .«slot_id») (b .state) (b .held) (heldTest (heldOf b))
-unfolding soundBlock soundAs
-sound-as b =
-    ap (λ (q : Bool). idsInRange (b .«endpoint_id») (b .«slot_id») && (leb (b .held) maxHeld && (heldSound In (heldOf b) && (not (awaitsDevice (b .state)) || q)))) (hasNormal-all (heldOf b))
-
--- by what was found of the TRBs held
-module _ (b : InBlock) (test : HeldTest) (found : test ≡ heldTest (heldOf b)) where
-  pub sound-by : (x : Bool) → x ≡ soundAs (b .«endpoint_id») (b .«slot_id») (b .state) (b .held) test → soundBlock b ≡ x
-  sound-by x e = sound-as b ∙ ap (λ (u : HeldTest). soundAs (b .«endpoint_id») (b .«slot_id») (b .state) (b .held) u) (sym found) ∙ sym e
-
-  -- with t held too, there is a Normal where the test of them all found one
-  pub stored-normal : (t : TransferTrb) → b .held < length (b .trbs) → hasNormal (heldOf (stored b t)) ≡ not (trbTest test t .«no_normal»)
-  stored-normal t room =
-      rw add-one (hasNormal-all (take (suc (b .held)) (set (b .trbs) (b .held) t)) ∙ ap not (all-set noNormal (b .trbs) (b .held) t room ∙ ap (λ (u : HeldTest). u .«no_normal» && noNormal t) (sym found)))
+-- the facts of a block, once the loop has found this of the TRBs held
+pub facts-known : (b : InBlock) (found : HeldTest) → found ≡ heldTest (heldOf b)
+    → _≡_ {A = BlockFacts} (record { «endpoint_id» = b .«endpoint_id»; «slot_id» = b .«slot_id»; state = b .state; held = b .held; found = found }) (factsOf b)
+facts-known b found e =
+    ap (λ (x : HeldTest). record { «endpoint_id» = b .«endpoint_id»; «slot_id» = b .«slot_id»; state = b .state; held = b .held; found = x }) e

@@ -1,3 +1,3 @@
 pub mod Blocks
-pub mod Sound
-pub mod Test
+pub mod Facts
+pub mod Outcomes

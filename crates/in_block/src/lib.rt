@@ -1,17 +1,20 @@
-// The block of an IN endpoint: made, stored into, emptied, and asked whether it is sound.
+// The block of an IN endpoint: made, stored into, emptied, and the facts of it that the questions ask about; what becomes of a TRB
+// that is submitted, and what a completion does.
 use held::EndpointKind;
 use trb::EndpointId;
+use trb::InTrbProcessingResult;
+use trb::InTrbProcessingStatus;
 use trb::SlotId;
 use trb::TdBasedNormalSubmissionState;
 use trb::TransferTrb;
 use trb::TransferTrbVariant;
 ghost use mathlib.Core.Path.{_≡_};
 ghost use mathlib.Core.Bool.{_&&_};
-ghost use Prim.Native.Nat.{_<_, min};
+ghost use Prim.Native.Nat.{_<_};
 ghost use Rattle.trb.specs.Limits.{maxHeld};
 ghost use Rattle.in_block.specs.Blocks.{freshBlock, withState, stored, emptied};
-ghost use Rattle.in_block.specs.Sound.{isNormal, submissionDue, awaitsDevice};
-ghost use Rattle.in_block.specs.Test.{soundIn, trbTest, soundAs};
+ghost use Rattle.in_block.specs.Facts.{isNormal, soundIn, trbTest, submissionDue, awaitsDevice, soundBlock};
+ghost use Rattle.in_block.specs.Outcomes.{outcomeOf, stateAfter, endingOf};
 
 pub struct InBlock {
     pub endpoint_id: EndpointId,
@@ -124,7 +127,7 @@ pub struct HeldTest {
     pub no_normal: bool,
 }
 
-// Is the TRB of a kind that an IN endpoint holds, and its length within the limit?
+// Is the TRB of a kind that an IN endpoint and its length within the limit?
 fn is_sound_trb(variant: TransferTrbVariant) -> bool
     ensures { λ r. ⌜ r ≡ soundIn variant ⌝ }
 {
@@ -153,29 +156,26 @@ pub fn test_trb(so_far: HeldTest, t: TransferTrb) -> HeldTest
     }
 }
 
-// How many places are tested: those that are held, and no more than there are.
-pub fn places_held(held: usize) -> usize
-    ensures { λ r. ⌜ r ≡ min held maxHeld ⌝ }
-{
-    if held < trb::MAX_HELD {
-        held
-    } else {
-        trb::MAX_HELD
-    }
+// What the questions ask about: the block's own values, and what one loop over the TRBs held found.
+pub struct BlockFacts {
+    pub endpoint_id: EndpointId,
+    pub slot_id: SlotId,
+    pub state: TdBasedNormalSubmissionState,
+    pub held: usize,
+    pub found: HeldTest,
 }
 
-// Question 2, of a block with these ids and this state, of whose `held` TRBs the test found this.
-pub fn is_sound(
-    endpoint_id: EndpointId,
-    slot_id: SlotId,
-    state: TdBasedNormalSubmissionState,
-    held: usize,
-    test: HeldTest,
-) -> bool
-    ensures { λ r. ⌜ r ≡ soundAs «endpoint_id» «slot_id» state held test ⌝ }
+// Question 2: is the block sound?
+pub fn is_sound(facts: BlockFacts) -> bool
+    ensures { λ r. ⌜ r ≡ soundBlock facts ⌝ }
 {
-    let sound = test.sound;
-    let no_normal = test.no_normal;
+    let endpoint_id = facts.endpoint_id;
+    let slot_id = facts.slot_id;
+    let state = facts.state;
+    let held = facts.held;
+    let found = facts.found;
+    let sound = found.sound;
+    let no_normal = found.no_normal;
     if !trb::ids_in_range(endpoint_id, slot_id) {
         return false;
     }
@@ -189,4 +189,81 @@ pub fn is_sound(
         return true;
     }
     !no_normal
+}
+
+// ---- What becomes of a TRB that is taken
+
+pub enum Outcome {
+    // The TRBs held are dropped.
+    Drop,
+    // It is held, and its TD goes on.
+    Collect,
+    // It is held and ends a TD without a Normal.
+    CompleteLocally,
+    // It is held and ends a TD with a Normal.
+    Request,
+}
+
+// Of a TRB behind those held, of which the loop found this.
+pub fn outcome_of(found: HeldTest, t: TransferTrb) -> Outcome
+    ensures { λ r. ⌜ r ≡ outcomeOf found t ⌝ }
+{
+    let variant = t.variant;
+    if !held::supports(EndpointKind::In, variant) {
+        return Outcome::Drop;
+    }
+    if trb::chain_of(variant) {
+        return Outcome::Collect;
+    }
+    let of_td = test_trb(found, t);
+    if of_td.no_normal {
+        return Outcome::CompleteLocally;
+    }
+    Outcome::Request
+}
+
+// The state that a TRB at `addr` leaves.
+pub fn state_after(outcome: Outcome, addr: u64) -> TdBasedNormalSubmissionState
+    ensures { λ r. ⌜ r ≡ stateAfter outcome addr ⌝ }
+{
+    match outcome {
+        Outcome::Drop => TdBasedNormalSubmissionState::UnsupportedTrb(addr),
+        Outcome::Collect => TdBasedNormalSubmissionState::CollectingTd,
+        Outcome::CompleteLocally => TdBasedNormalSubmissionState::AwaitingLocalCompletion,
+        Outcome::Request => TdBasedNormalSubmissionState::AwaitingRealTransfer,
+    }
+}
+
+// ---- What a completion does
+
+pub enum Ending {
+    // The TRBs held are kept: their TD goes on.
+    KeepCollecting,
+    // They are walked, with this status and so many bytes.
+    Transfer(InTrbProcessingStatus, u32),
+    // The TRB at this address, of an unsupported kind, is reported.
+    ReportUnsupported(u64),
+}
+
+// Of a block in this state, with this device result and so many bytes of data.
+pub fn ending_of(
+    state: TdBasedNormalSubmissionState,
+    result: InTrbProcessingResult,
+    data_length: u32,
+) -> Ending
+    ensures { λ r. ⌜ r ≡ endingOf state result «data_length» ⌝ }
+{
+    match state {
+        TdBasedNormalSubmissionState::SubmissionDue => Ending::KeepCollecting,
+        TdBasedNormalSubmissionState::CollectingTd => Ending::KeepCollecting,
+        TdBasedNormalSubmissionState::AwaitingRealTransfer => match result {
+            InTrbProcessingResult::NoneGiven => Ending::KeepCollecting,
+            InTrbProcessingResult::Given(status) => Ending::Transfer(status, data_length),
+        },
+        TdBasedNormalSubmissionState::AwaitingLocalCompletion => Ending::Transfer(
+            InTrbProcessingStatus::Success,
+            0,
+        ),
+        TdBasedNormalSubmissionState::UnsupportedTrb(addr) => Ending::ReportUnsupported(addr),
+    }
 }

@@ -1,55 +1,48 @@
--- 01, Completion on an IN endpoint: the questions in their order, and what is done once each was answered with yes; and demand 3 of
--- a completion. Assumes nothing.
-use Prim.Native.Nat.{ℕ, _≤_}
+-- 01, Completion on an IN endpoint: what is done once every question was answered with yes; demand 3; and the promise of a call.
+-- Assumes nothing.
+use Prim.Native.Nat.{ℕ}
 use mathlib.Core.Path.{_≡_}
-use mathlib.Core.Bool.{Bool, true, false, not, cond}
+use mathlib.Core.Bool.{Bool, true, false}
 use mathlib.Core.List.{List, [], _∷_}
-use lib.Dec.{leb}
-use lib.ListN.{length, take}
-use Rattle.trb.specs.Limits.{maxHeld, minLog, maxData}
+use lib.ListN.{length}
+use Rattle.trb.specs.Answers.{completionNumber, refusalOf, said}
+use Rattle.trb.specs.Questions.{firstNo, afterQuestions}
+use Rattle.trb.specs.declared.Answer.{Answer}
+use Rattle.trb.specs.declared.Answer.the-variants as asked
 use Rattle.trb.specs.declared.CompletionAnswer.{CompletionAnswer}
 use Rattle.trb.specs.declared.CompletionAnswer.the-variants as answer
 use Rattle.trb.specs.declared.CompletionCode.the-variants as code
 use Rattle.trb.specs.declared.EndpointId.{EndpointId}
 use Rattle.trb.specs.declared.InTrbProcessingResult.{InTrbProcessingResult}
-use Rattle.trb.specs.declared.InTrbProcessingResult.the-variants.{NoneGiven, Given}
 use Rattle.trb.specs.declared.InTrbProcessingStatus.{InTrbProcessingStatus}
-use Rattle.trb.specs.declared.InTrbProcessingStatus.the-variants.{Success}
-use Rattle.trb.specs.declared.Refusal.{Refusal}
-use Rattle.trb.specs.declared.Refusal.the-variants.{BufferTooShort, UnsoundBlock, OutOfTurn, DeviceResultMismatch, DataTooLong}
 use Rattle.trb.specs.declared.SlotId.{SlotId}
-use Rattle.trb.specs.declared.TdBasedNormalSubmissionState.{TdBasedNormalSubmissionState}
-use Rattle.trb.specs.declared.TdBasedNormalSubmissionState.the-variants.{SubmissionDue, CollectingTd, AwaitingRealTransfer, AwaitingLocalCompletion, UnsupportedTrb}
-use Rattle.trb.specs.declared.TransferTrb.{TransferTrb}
+use Rattle.trb.specs.declared.TdBasedNormalSubmissionState.the-variants.{SubmissionDue}
 use Rattle.trb.specs.declared.TrbProcessingResult.{TrbProcessingResult}
 use Rattle.trb.specs.declared.TrbProcessingResult.the-variants as result
-use Rattle.log.specs.Calls.{Out, silent}
+use Rattle.log.specs.Calls.{Out, silent, Meets}
+use Rattle.log.specs.Logs.{recordsIn}
 use Rattle.log.specs.Records.{transferEvent}
 use Rattle.log.specs.declared.Record.{Record}
 use Rattle.in_td.specs.Td.{inTd, processTd}
 use Rattle.in_td.specs.declared.TdProcessed.{TdProcessed}
 use Rattle.account.specs.Guest.{Distinct, IspOnNormals, LastNormalWithIoc, Account}
-use Rattle.in_block.specs.Blocks.{inBlock, heldOf, withState, emptied}
-use Rattle.in_block.specs.Sound.{submissionDue, awaitsDevice, soundBlock}
-use Rattle.in_block.specs.Test.{heldTest}
-use Rattle.in_block.specs.declared.HeldTest.{HeldTest}
+use Rattle.in_block.specs.Blocks.{heldOf, withState, emptied}
+use Rattle.in_block.specs.Facts.{awaitsDevice, factsOf}
+use Rattle.in_block.specs.Outcomes.{endingOf}
+use Rattle.in_block.specs.declared.Ending.{Ending}
+use Rattle.in_block.specs.declared.Ending.the-variants.{KeepCollecting, Transfer, ReportUnsupported}
 use Rattle.in_block.specs.declared.InBlock.{InBlock}
+use Rattle.in_questions.specs.Questions.{completionQuestions}
 use Rattle.in_endpoint.specs.declared.Completed.{Completed}
-use Rattle.in_endpoint.specs.declared.Ending.{Ending}
-use Rattle.in_endpoint.specs.declared.Ending.the-variants as ending
 
 -- a no ends the call with its number, zero records, and block and log unchanged
-abbrev pub refused : Refusal → InBlock → Out Completed
-refused r b = silent (record { answer = answer.Refused r; records = 0; block = b })
+abbrev pub refused : InBlock → ℕ → Out Completed
+refused b n = silent (record { answer = answer.Refused (refusalOf n); records = 0; block = b })
 
--- a device result is given
-abbrev pub givenIn : InTrbProcessingResult → Bool
-givenIn NoneGiven = false
-givenIn (Given st) = true
-
--- both or neither
-abbrev pub agree : Bool → Bool → Bool
-agree a b = cond a b (not b)
+-- what a completion answers to the questions, where its result is r
+abbrev pub answerTo : Answer → TrbProcessingResult → CompletionAnswer
+answerTo asked.Accepted r = answer.Completed r
+answerTo (asked.Refused q) r = answer.Refused q
 
 -- with this result and so many records, nothing is held any more, and a submission is due
 abbrev pub completed : TrbProcessingResult → ℕ → InBlock → Completed
@@ -76,64 +69,14 @@ unsupported b a = record {
 abbrev pub collecting : InBlock → Out Completed
 collecting b = silent (record { answer = answer.Completed result.Ok; records = 0; block = withState b SubmissionDue })
 
--- what the device returned is walked; without a Normal the completion is local, as Success with no data. (Question 3 was asked, and
--- question 8 gives a block that awaits the device its result.)
-abbrev pub completedIn : TdBasedNormalSubmissionState → InBlock → InTrbProcessingResult → ℕ → Out Completed
-completedIn SubmissionDue b r n = refused OutOfTurn b
-completedIn CollectingTd b r n = collecting b
-completedIn AwaitingRealTransfer b (Given st) n = transferred b st n
-completedIn AwaitingRealTransfer b NoneGiven n = refused DeviceResultMismatch b
-completedIn AwaitingLocalCompletion b r n = transferred b Success 0
-completedIn (UnsupportedTrb a) b r n = unsupported b a
+abbrev pub completedAs : Ending → InBlock → Out Completed
+completedAs KeepCollecting b = collecting b
+completedAs (Transfer st n) b = transferred b st n
+completedAs (ReportUnsupported a) b = unsupported b a
 
--- what each ending of a completion comes to
-abbrev pub endingIn : Ending → InBlock → Out Completed
-endingIn (ending.Refused q) b = refused q b
-endingIn ending.Collecting b = collecting b
-endingIn (ending.Transfer st n) b = transferred b st n
-endingIn (ending.Unsupported a) b = unsupported b a
-
--- the ending of every block in this state
-abbrev pub Ends : TdBasedNormalSubmissionState → InTrbProcessingResult → ℕ → Ending → Type 0
-Ends state r n e = (b : InBlock) → completedIn state b r n ≡ endingIn e b
-
--- with a log of l bytes and n bytes of data: is the log long enough (1), the block sound (2), a completion due (3), a device result
--- given exactly when the block awaits one (8), and is the data at most 16,777,215 bytes (9)?
+-- with a log of l bytes and n bytes of data
 unfoldable pub completion : ℕ → InBlock → InTrbProcessingResult → ℕ → Out Completed
-completion l b r n =
-    cond (leb minLog l)
-    (cond (soundBlock b)
-    (cond (submissionDue (b .state)) (refused OutOfTurn b)
-    (cond (agree (givenIn r) (awaitsDevice (b .state)))
-    (cond (leb n maxData) (completedIn (b .state) b r n) (refused DataTooLong b))
-    (refused DeviceResultMismatch b)))
-    (refused UnsoundBlock b))
-    (refused BufferTooShort b)
-
-abbrev pub answerTo : Ending → TrbProcessingResult → CompletionAnswer
-answerTo (ending.Refused q) r = answer.Refused q
-answerTo ending.Collecting r = answer.Completed result.Ok
-answerTo (ending.Transfer st n) r = answer.Completed r
-answerTo (ending.Unsupported a) r = answer.Completed result.TrbError
-
-abbrev pub stateBehind : Ending → TdBasedNormalSubmissionState → TdBasedNormalSubmissionState
-stateBehind (ending.Refused q) state = state
-stateBehind ending.Collecting state = SubmissionDue
-stateBehind (ending.Transfer st n) state = SubmissionDue
-stateBehind (ending.Unsupported a) state = SubmissionDue
-
--- what was answered with yes, where the completion logs
-abbrev pub LogsIf : Ending → ℕ → InBlock → Type 0
-LogsIf (ending.Refused q) l b = Unit
-LogsIf ending.Collecting l b = Unit
-LogsIf (ending.Transfer st n) l b = (minLog ≤ l) × (b .held ≤ maxHeld)
-LogsIf (ending.Unsupported a) l b = minLog ≤ l
-
--- the ending of every block with these ids and this state, of whose n TRBs held the test found this, with m bytes of data
-abbrev pub Completes : ℕ → EndpointId → SlotId → TdBasedNormalSubmissionState → ℕ → HeldTest → InTrbProcessingResult → ℕ → Ending → Type 0
-Completes l e s state n test r m end =
-    (ts : List TransferTrb) → test ≡ heldTest (take n ts)
-    → (completion l (inBlock e s state n ts) r m ≡ endingIn end (inBlock e s state n ts)) × LogsIf end l (inBlock e s state n ts)
+completion l b r n = afterQuestions (completionQuestions l (factsOf b) r n) (refused b) (completedAs (endingOf (b .state) r n) b)
 
 abbrev pub isAccepted : CompletionAnswer → Bool
 isAccepted (answer.Completed r) = true
@@ -146,3 +89,10 @@ abbrev pub Accounted : InBlock → ℕ → CompletionAnswer → List Record → 
 Accounted b n a rs =
     awaitsDevice (b .state) ≡ true → isAccepted a ≡ true → Distinct (heldOf b) → IspOnNormals (heldOf b) → LastNormalWithIoc (heldOf b)
     → Account n (heldOf b) rs
+
+-- of a completion with the device result s, n bytes of data and the log l, which returned r and left the log l'
+pub record Completes (b : InBlock) (s : InTrbProcessingResult) (n : ℕ) (l : List ℕ) (r : Completed) (l' : List ℕ) : Type 0 where
+  pub number : completionNumber (r .answer) ≡ firstNo (completionQuestions (length l) (factsOf b) s n)
+  pub met : Meets (completion (length l) b s n) 0 l r l'
+  pub result : said (r .answer) ≡ said (completion (length l) b s n .state .answer)
+  pub account : Accounted b n (r .answer) (recordsIn (r .records) l')

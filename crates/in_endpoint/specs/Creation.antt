@@ -1,20 +1,33 @@
 -- 01, Creation and cancel of an IN endpoint. Assumes nothing.
-use mathlib.Core.Bool.{cond}
+use Prim.Native.Nat.{ℕ}
+use mathlib.Core.Path.{_≡_}
+use mathlib.Core.Bool.{Bool}
+use mathlib.Core.List.{List, [], _∷_}
+use Rattle.trb.specs.Answers.{numberOf, refusalOf}
 use Rattle.trb.specs.Ids.{idsInRange}
+use Rattle.trb.specs.Questions.{firstNo, afterQuestions}
 use Rattle.trb.specs.declared.Answer.the-variants.{Accepted, Refused}
 use Rattle.trb.specs.declared.EndpointId.{EndpointId}
-use Rattle.trb.specs.declared.Refusal.the-variants.{IdOutOfRange}
 use Rattle.trb.specs.declared.SlotId.{SlotId}
 use Rattle.trb.specs.declared.TdBasedNormalSubmissionState.the-variants.{SubmissionDue}
 use Rattle.in_block.specs.Blocks.{freshBlock, emptied}
 use Rattle.in_block.specs.declared.InBlock.{InBlock}
 use Rattle.in_endpoint.specs.declared.Created.{Created}
 
--- is the endpoint id 1 to 31 and the slot id 1 to 255? No: 12; the block handed back is fresh but for both ids 0
+-- is the endpoint id 1 to 31 and the slot id 1 to 255?
+abbrev pub creationQuestions : EndpointId → SlotId → List (Bool × ℕ)
+creationQuestions e s = (idsInRange e s, 12) ∷ []
+
+-- after a no the block handed back is fresh but for both ids 0
 unfoldable pub creation : EndpointId → SlotId → Created
 creation e s =
-    cond (idsInRange e s) (record { answer = Accepted; block = freshBlock e s })
-    (record { answer = Refused IdOutOfRange; block = freshBlock (record { 0 = 0 }) (record { 0 = 0 }) })
+    afterQuestions (creationQuestions e s) (λ n. record { answer = Refused (refusalOf n); block = freshBlock (record { 0 = 0 }) (record { 0 = 0 }) })
+    (record { answer = Accepted; block = freshBlock e s })
+
+-- of a creation that returned r
+pub record Creates (e : EndpointId) (s : SlotId) (r : Created) : Type 0 where
+  pub number : numberOf (r .answer) ≡ firstNo (creationQuestions e s)
+  pub met : r ≡ creation e s
 
 -- cancel asks nothing: on IN it empties the block and a submission is due
 abbrev pub cancelled : InBlock → InBlock

@@ -1,13 +1,14 @@
 // The IN endpoint: creation, submission, completion and cancel; ports `TdBasedInEndpointHandle`.
-use held::EndpointKind;
+use in_block::BlockFacts;
+use in_block::Ending;
 use in_block::HeldTest;
 use in_block::InBlock;
+use in_block::Outcome;
 use trb::Answer;
 use trb::CompletionAnswer;
 use trb::CompletionCode;
 use trb::EndpointId;
 use trb::InTrbProcessingResult;
-use trb::InTrbProcessingStatus;
 use trb::Refusal;
 use trb::SlotId;
 use trb::TdBasedNormalSubmissionState;
@@ -18,12 +19,11 @@ ghost use mathlib.Core.List.{[], _∷_};
 ghost use Prim.Native.Nat.{_<_, _≤_, _^_};
 ghost use lib.ListN.{length, take};
 ghost use Rattle.trb.specs.Limits.{maxHeld, minLog};
-ghost use Rattle.log.specs.Calls.{Put, Meets};
-ghost use Rattle.log.specs.Logs.{recordsIn};
+ghost use Rattle.log.specs.Calls.{Put};
 ghost use Rattle.account.specs.Guest.{requested};
-ghost use Rattle.in_endpoint.specs.Creation.{creation, cancelled};
-ghost use Rattle.in_endpoint.specs.Submission.{requestOf, answerOf, stateAfter, Takes, submission};
-ghost use Rattle.in_endpoint.specs.Completion.{givenIn, agree, unsupportedEvent, Ends, answerTo, stateBehind, Completes, completion, Accounted};
+ghost use Rattle.in_endpoint.specs.Creation.{Creates, cancelled};
+ghost use Rattle.in_endpoint.specs.Submission.{requestOf, Submits};
+ghost use Rattle.in_endpoint.specs.Completion.{unsupportedEvent, answerTo, Completes};
 
 pub struct Created {
     pub answer: Answer,
@@ -44,8 +44,9 @@ pub struct Completed {
 
 // ---- Creation
 
+// A fresh block for this endpoint of this slot.
 pub fn create(endpoint_id: EndpointId, slot_id: SlotId) -> Created
-    ensures { λ r. ⌜ r ≡ creation «endpoint_id» «slot_id» ⌝ }
+    ensures { λ r. ⌜ Creates «endpoint_id» «slot_id» r ⌝ }
 {
     if trb::ids_in_range(endpoint_id, slot_id) {
         let block = in_block::fresh(endpoint_id, slot_id);
@@ -64,63 +65,6 @@ pub fn create(endpoint_id: EndpointId, slot_id: SlotId) -> Created
 
 // ---- Submission
 
-// What becomes of a TRB that is submitted: held while its TD goes on, it may end the TD, whose completion is then local or waits for
-// the device.
-enum Taken {
-    Refused(Refusal),
-    Dropped,
-    Collected,
-    Local,
-    Requested,
-}
-
-// Questions 1 to 6, of a block with these ids and this state, of whose `held` TRBs the test found this. A TRB of an unsupported kind
-// drops those held; of any other, questions 5 and 6 are asked.
-fn take_trb(
-    log_length: usize,
-    endpoint_id: EndpointId,
-    slot_id: SlotId,
-    state: TdBasedNormalSubmissionState,
-    held: usize,
-    test: HeldTest,
-    t: TransferTrb,
-    window_base: u64,
-    window_size: usize,
-) -> Taken
-    ensures { λ r. ⌜ Takes «log_length» «endpoint_id» «slot_id» state held test t «window_base» «window_size» r ⌝ }
-{
-    let variant = t.variant;
-    if log_length < trb::MIN_LOG {
-        return Taken::Refused(Refusal::BufferTooShort);
-    }
-    if !in_block::is_sound(endpoint_id, slot_id, state, held, test) {
-        return Taken::Refused(Refusal::UnsoundBlock);
-    }
-    if !in_block::submission_due(state) {
-        return Taken::Refused(Refusal::OutOfTurn);
-    }
-    if trb::MAX_TRANSFER_LENGTH < trb::transfer_length(variant) {
-        return Taken::Refused(Refusal::TransferTooLong);
-    }
-    if !held::supports(EndpointKind::In, variant) {
-        return Taken::Dropped;
-    }
-    if trb::MAX_HELD <= held {
-        return Taken::Refused(Refusal::TooManyHeld);
-    }
-    if !in_request::in_guest_memory(variant, window_base, window_size) {
-        return Taken::Refused(Refusal::OutsideGuestMemory);
-    }
-    if trb::chain_of(variant) {
-        return Taken::Collected;
-    }
-    let of_td = in_block::test_trb(test, t);
-    if of_td.no_normal {
-        return Taken::Local;
-    }
-    Taken::Requested
-}
-
 // Logs the request of the TD that the first `held` TRBs are.
 fn log_request(
     log: &mut [u8],
@@ -138,37 +82,8 @@ fn log_request(
     log::put_record(log, 0, request);
 }
 
-fn answer_of(taken: Taken) -> Answer
-    ensures { λ r. ⌜ r ≡ answerOf taken ⌝ }
-{
-    match taken {
-        Taken::Refused(refusal) => Answer::Refused(refusal),
-        Taken::Dropped => Answer::Accepted,
-        Taken::Collected => Answer::Accepted,
-        Taken::Local => Answer::Accepted,
-        Taken::Requested => Answer::Accepted,
-    }
-}
-
-// The state that a TRB at `addr` leaves.
-fn state_after(
-    taken: Taken,
-    state: TdBasedNormalSubmissionState,
-    addr: u64,
-) -> TdBasedNormalSubmissionState
-    ensures { λ r. ⌜ r ≡ stateAfter taken state addr ⌝ }
-{
-    match taken {
-        Taken::Refused(_) => state,
-        Taken::Dropped => TdBasedNormalSubmissionState::UnsupportedTrb(addr),
-        Taken::Collected => TdBasedNormalSubmissionState::CollectingTd,
-        Taken::Local => TdBasedNormalSubmissionState::AwaitingLocalCompletion,
-        Taken::Requested => TdBasedNormalSubmissionState::AwaitingRealTransfer,
-    }
-}
-
-// Ports `submit_trb`. Of the guest window only base and length are read. The places are copied once, and there is one way out: copies
-// of the block are most of what a call costs.
+// Takes a TRB; ports `submit_trb`. Of the guest window only base and length are read. The places are copied once and changed where
+// they lie: copies of the block are most of what a call costs.
 pub fn submit_trb(
     log: &mut [u8],
     block: InBlock,
@@ -176,59 +91,62 @@ pub fn submit_trb(
     window_base: u64,
     window: &[u8],
 ) -> Submitted
-    ensures { λ r. ⌜ Meets (submission (length (now (log .entry))) block t «window_base» (length (now (window .entry)))) 0 (now (log .entry)) r (now (log .exit)) ⌝ }
+    ensures { λ r. ⌜ Submits block t «window_base» (length (now (window .entry))) (now (log .entry)) r (now (log .exit)) ⌝ }
 {
     let endpoint_id = block.endpoint_id;
     let slot_id = block.slot_id;
     let state = block.state;
     let mut held = block.held;
     let mut trbs = block.trbs;
-    let places = in_block::places_held(held);
-    let mut test = HeldTest {
+    let places = held::places_held(held);
+    let mut found = HeldTest {
         sound: true,
         no_normal: true,
     };
     let mut i = 0;
     while i < places {
         let one = trbs[i];
-        test = in_block::test_trb(test, one);
+        found = in_block::test_trb(found, one);
         i += 1;
     }
-    let taken = take_trb(
-        log.len(),
-        endpoint_id,
-        slot_id,
-        state,
-        held,
-        test,
-        t,
-        window_base,
-        window.len(),
-    );
+    let facts = BlockFacts {
+        endpoint_id: endpoint_id,
+        slot_id: slot_id,
+        state: state,
+        held: held,
+        found: found,
+    };
+    let answer = in_questions::ask_submission(log.len(), facts, t, window_base, window.len());
+    if !trb::is_accepted(answer) {
+        return Submitted {
+            answer: answer,
+            records: 0,
+            block: block,
+        };
+    }
+    let outcome = in_block::outcome_of(found, t);
     let mut records = 0;
-    match taken {
-        Taken::Refused(_) => {}
-        Taken::Dropped => {
+    match outcome {
+        Outcome::Drop => {
             trbs = held::clear(trbs, held);
             held = 0;
         }
-        Taken::Collected => {
+        Outcome::Collect => {
             trbs[held] = t;
             held += 1;
         }
-        Taken::Local => {
+        Outcome::CompleteLocally => {
             trbs[held] = t;
             held += 1;
         }
-        Taken::Requested => {
+        Outcome::Request => {
             trbs[held] = t;
             held += 1;
             log_request(log, trbs, held, endpoint_id, slot_id);
             records = 1;
         }
     }
-    let answer = answer_of(taken);
-    let next_state = state_after(taken, state, t.addr);
+    let next_state = in_block::state_after(outcome, t.addr);
     let next = InBlock {
         endpoint_id: endpoint_id,
         slot_id: slot_id,
@@ -244,82 +162,6 @@ pub fn submit_trb(
 }
 
 // ---- Completion
-
-fn is_given(result: InTrbProcessingResult) -> bool
-    ensures { λ r. ⌜ r ≡ givenIn result ⌝ }
-{
-    match result {
-        InTrbProcessingResult::NoneGiven => false,
-        InTrbProcessingResult::Given(_) => true,
-    }
-}
-
-fn is_agreed(a: bool, b: bool) -> bool
-    ensures { λ r. ⌜ r ≡ agree a b ⌝ }
-{
-    if a { b } else { !b }
-}
-
-// What a completion comes to, once every question was answered with yes.
-enum Ending {
-    Refused(Refusal),
-    Collecting,
-    Transfer(InTrbProcessingStatus, u32),
-    Unsupported(u64),
-}
-
-fn ending_of(
-    state: TdBasedNormalSubmissionState,
-    result: InTrbProcessingResult,
-    data_length: u32,
-) -> Ending
-    ensures { λ r. ⌜ Ends state result «data_length» r ⌝ }
-{
-    match state {
-        TdBasedNormalSubmissionState::SubmissionDue => Ending::Refused(Refusal::OutOfTurn),
-        TdBasedNormalSubmissionState::CollectingTd => Ending::Collecting,
-        TdBasedNormalSubmissionState::AwaitingRealTransfer => match result {
-            InTrbProcessingResult::NoneGiven => Ending::Refused(Refusal::DeviceResultMismatch),
-            InTrbProcessingResult::Given(status) => Ending::Transfer(status, data_length),
-        },
-        TdBasedNormalSubmissionState::AwaitingLocalCompletion => Ending::Transfer(
-            InTrbProcessingStatus::Success,
-            0,
-        ),
-        TdBasedNormalSubmissionState::UnsupportedTrb(addr) => Ending::Unsupported(addr),
-    }
-}
-
-// Questions 1, 2, 3, 8 and 9, of a block with these ids and this state, of whose `held` TRBs `test` was found.
-fn ask_completion(
-    log_length: usize,
-    endpoint_id: EndpointId,
-    slot_id: SlotId,
-    state: TdBasedNormalSubmissionState,
-    held: usize,
-    test: HeldTest,
-    result: InTrbProcessingResult,
-    data_length: usize,
-) -> Ending
-    ensures { λ r. ⌜ Completes «log_length» «endpoint_id» «slot_id» state held test result «data_length» r ⌝ }
-{
-    if log_length < trb::MIN_LOG {
-        return Ending::Refused(Refusal::BufferTooShort);
-    }
-    if !in_block::is_sound(endpoint_id, slot_id, state, held, test) {
-        return Ending::Refused(Refusal::UnsoundBlock);
-    }
-    if in_block::submission_due(state) {
-        return Ending::Refused(Refusal::OutOfTurn);
-    }
-    if !is_agreed(is_given(result), in_block::awaits_device(state)) {
-        return Ending::Refused(Refusal::DeviceResultMismatch);
-    }
-    if trb::MAX_DATA < data_length {
-        return Ending::Refused(Refusal::DataTooLong);
-    }
-    ending_of(state, result, data_length as u32)
-}
 
 // Reports the TRB at `addr`, which was of an unsupported kind.
 fn report_unsupported(log: &mut [u8], addr: u64, endpoint_id: EndpointId, slot_id: SlotId)
@@ -337,71 +179,63 @@ fn report_unsupported(log: &mut [u8], addr: u64, endpoint_id: EndpointId, slot_i
     log::put_record(log, 0, event);
 }
 
-// The answer, where the walk came to this result.
-fn answer_to(ending: Ending, result: TrbProcessingResult) -> CompletionAnswer
-    ensures { λ r. ⌜ r ≡ answerTo ending result ⌝ }
+// What a completion answers to the questions, where its result is this.
+pub fn answer_to(asked: Answer, result: TrbProcessingResult) -> CompletionAnswer
+    ensures { λ r. ⌜ r ≡ answerTo asked result ⌝ }
 {
-    match ending {
-        Ending::Refused(refusal) => CompletionAnswer::Refused(refusal),
-        Ending::Collecting => CompletionAnswer::Completed(TrbProcessingResult::Ok),
-        Ending::Transfer(_, _) => CompletionAnswer::Completed(result),
-        Ending::Unsupported(_) => CompletionAnswer::Completed(TrbProcessingResult::TrbError),
+    match asked {
+        Answer::Accepted => CompletionAnswer::Completed(result),
+        Answer::Refused(refusal) => CompletionAnswer::Refused(refusal),
     }
 }
 
-fn state_behind(ending: Ending, state: TdBasedNormalSubmissionState) -> TdBasedNormalSubmissionState
-    ensures { λ r. ⌜ r ≡ stateBehind ending state ⌝ }
-{
-    match ending {
-        Ending::Refused(_) => state,
-        Ending::Collecting => TdBasedNormalSubmissionState::SubmissionDue,
-        Ending::Transfer(_, _) => TdBasedNormalSubmissionState::SubmissionDue,
-        Ending::Unsupported(_) => TdBasedNormalSubmissionState::SubmissionDue,
-    }
-}
-
-// Ports `next_completion` and the loop of `process_td`. Of the device's data only the length is read. The places are copied once, and
-// there is one way out.
+// Completes what was submitted last; ports `next_completion` and the loop of `process_td`. Of the device's data only the length is
+// read. The places are copied once and blanked where they lie.
 pub fn next_completion(
     log: &mut [u8],
     block: InBlock,
     result: InTrbProcessingResult,
     data: &[u8],
 ) -> Completed
-    ensures met { λ r. ⌜ Meets (completion (length (now (log .entry))) block result (length (now («data» .entry)))) 0 (now (log .entry)) r (now (log .exit)) ⌝ }
-    ensures account { λ r. ⌜ Accounted block (length (now («data» .entry))) (r .answer) (recordsIn (r .records) (now (log .exit))) ⌝ }
+    ensures { λ r. ⌜ Completes block result (length (now («data» .entry))) (now (log .entry)) r (now (log .exit)) ⌝ }
 {
     let endpoint_id = block.endpoint_id;
     let slot_id = block.slot_id;
     let state = block.state;
     let mut held = block.held;
     let mut trbs = block.trbs;
-    let places = in_block::places_held(held);
-    let mut test = HeldTest {
+    let places = held::places_held(held);
+    let mut found = HeldTest {
         sound: true,
         no_normal: true,
     };
     let mut i = 0;
     while i < places {
         let one = trbs[i];
-        test = in_block::test_trb(test, one);
+        found = in_block::test_trb(found, one);
         i += 1;
     }
-    let ending = ask_completion(
-        log.len(),
-        endpoint_id,
-        slot_id,
-        state,
-        held,
-        test,
-        result,
-        data.len(),
-    );
+    let facts = BlockFacts {
+        endpoint_id: endpoint_id,
+        slot_id: slot_id,
+        state: state,
+        held: held,
+        found: found,
+    };
+    let asked = in_questions::ask_completion(log.len(), facts, result, data.len());
     let mut walked = TrbProcessingResult::Ok;
+    if !trb::is_accepted(asked) {
+        let answer = answer_to(asked, walked);
+        return Completed {
+            answer: answer,
+            records: 0,
+            block: block,
+        };
+    }
+    let ending = in_block::ending_of(state, result, data.len() as u32);
     let mut records = 0;
     match ending {
-        Ending::Refused(_) => {}
-        Ending::Collecting => {}
+        Ending::KeepCollecting => {}
         Ending::Transfer(status, data_length) => {
             let td = in_td::td_of(endpoint_id, slot_id, status, data_length);
             let blank = held::blank();
@@ -418,19 +252,19 @@ pub fn next_completion(
             records = progress.records;
             held = 0;
         }
-        Ending::Unsupported(addr) => {
+        Ending::ReportUnsupported(addr) => {
             report_unsupported(log, addr, endpoint_id, slot_id);
+            walked = TrbProcessingResult::TrbError;
             records = 1;
             trbs = held::clear(trbs, held);
             held = 0;
         }
     }
-    let answer = answer_to(ending, walked);
-    let next_state = state_behind(ending, state);
+    let answer = answer_to(asked, walked);
     let next = InBlock {
         endpoint_id: endpoint_id,
         slot_id: slot_id,
-        state: next_state,
+        state: TdBasedNormalSubmissionState::SubmissionDue,
         held: held,
         trbs: trbs,
     };

@@ -1,15 +1,11 @@
 -- 01, Submission and IN endpoint: what is asked of a TRB that would be held. Assumes nothing.
 use Prim.Native.Nat.{ℕ}
-use mathlib.Core.Bool.{Bool, true, cond}
-use lib.Dec.{eqb}
+use mathlib.Core.Bool.{Bool, true}
 use Rattle.trb.specs.declared.TransferTrbVariant.{TransferTrbVariant}
 use Rattle.trb.specs.declared.TransferTrbVariant.the-variants.{SetupStage, DataStage, StatusStage, Normal, EventData, NoOp, Isoch, Unrecognized}
-use Rattle.guest_memory.specs.Places.{placeOf, isInside}
+use Rattle.guest_memory.specs.Places.{rangeInside}
 
--- 01, Submission: of nonzero length, does pointer to pointer + length lie in the guest window?
-unfoldable pub rangeInside : ℕ → ℕ → ℕ → ℕ → Bool
-rangeInside base size pointer n = cond (eqb n 0) true (isInside (placeOf base size pointer n))
-
+-- 01, Submission: does its range lie in the guest window?
 abbrev pub inGuestMemory : TransferTrbVariant → ℕ → ℕ → Bool
 inGuestMemory (SetupStage t) base size = true
 inGuestMemory (DataStage t) base size = true

@@ -6,17 +6,7 @@ ghost use Prim.Native.Nat.{_<_, _≤_, _^_};
 ghost use lib.ListN.{take};
 ghost use Rattle.trb.specs.Limits.{maxHeld};
 ghost use Rattle.account.specs.Guest.{normalOf, lengthOf, requested};
-ghost use Rattle.in_request.specs.Requests.{rangeInside, inGuestMemory};
-
-// Do the `length` bytes from `pointer` on, if any, lie in the window?
-fn range_inside(base: u64, size: usize, pointer: u64, length: u32) -> bool
-    ensures { λ r. ⌜ r ≡ rangeInside base size pointer «length» ⌝ }
-{
-    if length == 0 {
-        return true;
-    }
-    guest_memory::check_range(base, size, pointer, length)
-}
+ghost use Rattle.in_request.specs.Requests.{inGuestMemory};
 
 // Question 6, of a TRB that an IN endpoint holds.
 pub fn in_guest_memory(variant: TransferTrbVariant, base: u64, size: usize) -> bool
@@ -26,7 +16,7 @@ pub fn in_guest_memory(variant: TransferTrbVariant, base: u64, size: usize) -> b
         TransferTrbVariant::SetupStage(_) => true,
         TransferTrbVariant::DataStage(_) => true,
         TransferTrbVariant::StatusStage(_) => true,
-        TransferTrbVariant::Normal(normal) => range_inside(
+        TransferTrbVariant::Normal(normal) => guest_memory::range_inside(
             base,
             size,
             normal.data_pointer,

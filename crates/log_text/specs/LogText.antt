@@ -8,7 +8,9 @@ use lib.ListN.{length}
 use Rattle.buffers.specs.Patch.{patch}
 use Rattle.trb.specs.Limits.{recordLength, maxPrintedLog}
 use Rattle.trb.specs.declared.Answer.the-variants.{Accepted, Refused}
-use Rattle.trb.specs.declared.Refusal.the-variants.{BufferTooShort, MalformedLog}
+use Rattle.trb.specs.declared.Refusal.the-variants.{MalformedLog}
+use Rattle.trb.specs.Answers.{numberOf, refusalOf}
+use Rattle.trb.specs.Questions.{firstNo, afterQuestions}
 use Rattle.trb.specs.Refusals.{refusalNumber}
 use Rattle.numerals.specs.Digits.{decimalOf}
 use Rattle.log_check.specs.WellFormed.{wellFormed}
@@ -32,19 +34,22 @@ printable l = leb (length l) maxPrintedLog && wellFormed l
 unfoldable pub logText : List ℕ → List ℕ
 logText l = cond (printable l) (linesIn (length l / recordLength) l) refusedText
 
--- the answer for the log l and the text buffer t: a text of any log must fit
+-- is the text buffer t long enough for the text of any log?
+abbrev pub printQuestions : List ℕ → List (Bool × ℕ)
+printQuestions t = (leb maxText (length t), 1) ∷ []
+
+-- the answer for the log l and the text buffer t
 unfoldable pub printed : List ℕ → List ℕ → Printed
 printed l t =
-    cond (leb maxText (length t))
-    (record { answer = Accepted; «length» = length (logText l) })
-    (record { answer = Refused BufferTooShort; «length» = 0 })
+    afterQuestions (printQuestions t) (λ n. record { answer = Refused (refusalOf n); «length» = 0 }) (record { answer = Accepted; «length» = length (logText l) })
 
--- the text buffer afterwards
+-- the text buffer afterwards: unchanged after a no
 unfoldable pub textAfter : List ℕ → List ℕ → List ℕ
-textAfter l t = cond (leb maxText (length t)) (patch t 0 (logText l)) t
+textAfter l t = afterQuestions (printQuestions t) (λ n. t) (patch t 0 (logText l))
 
 -- of a call of print_log with the log l and the text buffer t: it returned r and left the buffer t', in which the text lies
 pub record Prints (l t : List ℕ) (r : Printed) (t' : List ℕ) : Type 0 where
+  pub number : numberOf (r .answer) ≡ firstNo (printQuestions t)
   pub printed : r ≡ printed l t
   pub text : t' ≡ textAfter l t
   pub within : r .«length» ≤ length t'

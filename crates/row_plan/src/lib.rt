@@ -1,12 +1,13 @@
 // What the entry for a lent row of TRBs does beside walking the row: the questions, a TRB's turn, the answer.
+use in_block::BlockFacts;
 use in_block::HeldTest;
 use in_td::InTd;
 use in_td::TdProcessed;
+use trb::Answer;
 use trb::CompletionAnswer;
 use trb::EndpointId;
 use trb::InTrbProcessingResult;
 use trb::InTrbProcessingStatus;
-use trb::Refusal;
 use trb::SlotId;
 use trb::TdBasedNormalSubmissionState;
 use trb::TransferTrb;
@@ -17,92 +18,69 @@ ghost use Rattle.trb.specs.Limits.{recordLength};
 ghost use Rattle.log.specs.Calls.{Meets};
 ghost use Rattle.td_part.specs.Parts.{Within};
 ghost use Rattle.in_td.specs.Td.{nextTrb};
-ghost use Rattle.row_plan.specs.Plans.{refusedPlan, resultPlan, rowPlan, rowAnswer};
+ghost use Rattle.row_plan.specs.Plans.{statusOf, rowPlan, rowAnswer};
 
 pub struct RowCompleted {
     pub answer: CompletionAnswer,
     pub records: usize,
 }
 
-// What the questions came to.
-pub enum RowAsked {
-    Refused(Refusal),
-    Accepted,
-}
-
 // What is to be done: how many TRBs of the row are walked, as which TD, and from which start.
 pub struct RowPlan {
-    pub asked: RowAsked,
+    pub asked: Answer,
     pub td: InTd,
     pub start: TdProcessed,
     pub count: usize,
 }
 
-fn refuse(endpoint_id: EndpointId, slot_id: SlotId, refusal: Refusal) -> RowPlan
-    ensures { λ r. ⌜ r ≡ refusedPlan «endpoint_id» «slot_id» refusal ⌝ }
-{
-    let td = in_td::td_of(endpoint_id, slot_id, InTrbProcessingStatus::Success, 0);
-    let start = in_td::unprocessed();
-    RowPlan {
-        asked: RowAsked::Refused(refusal),
-        td: td,
-        start: start,
-        count: 0,
-    }
-}
-
-// Questions 8 and 9.
-fn plan(
-    endpoint_id: EndpointId,
-    slot_id: SlotId,
-    row_length: usize,
-    result: InTrbProcessingResult,
-    data_length: usize,
-) -> RowPlan
-    ensures { λ r. ⌜ r ≡ resultPlan «endpoint_id» «slot_id» «row_length» result «data_length» ⌝ }
+// The status of a device result; where none is given, question 8 refuses the row.
+fn status_of(result: InTrbProcessingResult) -> InTrbProcessingStatus
+    ensures { λ r. ⌜ r ≡ statusOf result ⌝ }
 {
     match result {
-        InTrbProcessingResult::NoneGiven => refuse(
-            endpoint_id,
-            slot_id,
-            Refusal::DeviceResultMismatch,
-        ),
-        InTrbProcessingResult::Given(status) => {
-            if trb::MAX_DATA < data_length {
-                return refuse(endpoint_id, slot_id, Refusal::DataTooLong);
-            }
-            let td = in_td::td_of(endpoint_id, slot_id, status, data_length as u32);
-            let start = in_td::unprocessed();
-            RowPlan {
-                asked: RowAsked::Accepted,
-                td: td,
-                start: start,
-                count: row_length,
-            }
-        }
+        InTrbProcessingResult::NoneGiven => InTrbProcessingStatus::Success,
+        InTrbProcessingResult::Given(status) => status,
     }
 }
 
-// Questions 1, 2, 8 and 9.
+// The questions that completion asks of a block that holds the row and awaits the device, by what was found of the row's TRBs.
 pub fn ask(
     log_length: usize,
     endpoint_id: EndpointId,
     slot_id: SlotId,
     row_length: usize,
-    tested: HeldTest,
+    found: HeldTest,
     result: InTrbProcessingResult,
     data_length: usize,
 ) -> RowPlan
-    ensures { λ r. ⌜ r ≡ rowPlan «log_length» «endpoint_id» «slot_id» «row_length» tested result «data_length» ⌝ }
+    ensures { λ r. ⌜ r ≡ rowPlan «log_length» «endpoint_id» «slot_id» «row_length» found result «data_length» ⌝ }
 {
-    if log_length < trb::MIN_LOG {
-        return refuse(endpoint_id, slot_id, Refusal::BufferTooShort);
+    let start = in_td::unprocessed();
+    let facts = BlockFacts {
+        endpoint_id: endpoint_id,
+        slot_id: slot_id,
+        state: TdBasedNormalSubmissionState::AwaitingRealTransfer,
+        held: row_length,
+        found: found,
+    };
+    let asked = in_questions::ask_completion(log_length, facts, result, data_length);
+    if !trb::is_accepted(asked) {
+        let none = in_td::td_of(endpoint_id, slot_id, InTrbProcessingStatus::Success, 0);
+        return RowPlan {
+            asked: asked,
+            td: none,
+            start: start,
+            count: 0,
+        };
     }
-    let awaiting = TdBasedNormalSubmissionState::AwaitingRealTransfer;
-    if !in_block::is_sound(endpoint_id, slot_id, awaiting, row_length, tested) {
-        return refuse(endpoint_id, slot_id, Refusal::UnsoundBlock);
+    let status = status_of(result);
+    let td = in_td::td_of(endpoint_id, slot_id, status, data_length as u32);
+    RowPlan {
+        asked: asked,
+        td: td,
+        start: start,
+        count: row_length,
     }
-    plan(endpoint_id, slot_id, row_length, result, data_length)
 }
 
 // One TRB more has its turn.
@@ -114,21 +92,16 @@ pub fn next_trb(log: &mut [u8], plan: RowPlan, so_far: TdProcessed, t: TransferT
     in_td::next_trb(log, td, so_far, t)
 }
 
-// The answer: the refusal, or what the walk came to.
+// The answer: the refusal, or what the walk came to. (A row that is refused is not walked.)
 pub fn answer(plan: RowPlan, processed: TdProcessed) -> RowCompleted
     ensures { λ r. ⌜ r ≡ rowAnswer plan processed ⌝ }
 {
     let asked = plan.asked;
     let progress = processed.progress;
     let result = processed.result;
-    match asked {
-        RowAsked::Refused(refusal) => RowCompleted {
-            answer: CompletionAnswer::Refused(refusal),
-            records: 0,
-        },
-        RowAsked::Accepted => RowCompleted {
-            answer: CompletionAnswer::Completed(result),
-            records: progress.records,
-        },
+    let answer = in_endpoint::answer_to(asked, result);
+    RowCompleted {
+        answer: answer,
+        records: progress.records,
     }
 }

@@ -7,7 +7,7 @@ use lib.ListN.{length, take, getD}
 use lib.Seq.{take-length}
 use Rattle.trb.specs.declared.TransferTrb.{TransferTrb}
 use Rattle.held.specs.Places.{pastEnd}
-use Rattle.in_block.specs.Test.{trbTest, heldTest}
+use Rattle.in_block.specs.Facts.{trbTest, heldTest}
 use Rattle.in_block.specs.declared.HeldTest.{HeldTest}
 use Rattle.in_block.proofs.TestLaws.{Testing, testing-turn, testing-end}
 

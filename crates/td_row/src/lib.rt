@@ -12,8 +12,8 @@ ghost use lib.ListN.{length, take};
 ghost use Rattle.log.specs.Calls.{Meets};
 ghost use Rattle.log.specs.Logs.{recordsIn};
 ghost use Rattle.in_td.specs.Td.{processTd};
-ghost use Rattle.in_block.specs.Test.{heldTest};
-ghost use Rattle.row_plan.specs.Rows.{rowCompletion, AccountedRow};
+ghost use Rattle.in_block.specs.Facts.{heldTest};
+ghost use Rattle.row_plan.specs.Rows.{CompletesRow, AccountedRow};
 ghost use Rattle.td_row.specs.Walkable.{Walkable};
 
 // What question 2 asks of every TRB of the row.
@@ -49,7 +49,7 @@ fn walk_row(log: &mut [u8], row: &[TransferTrb], plan: RowPlan) -> TdProcessed
     processed
 }
 
-// Questions 1, 2, 8 and 9, and the walk; ports `process_td` over its own vector. Of the device's data only the length is read.
+// The questions that completion asks, and the walk; ports `process_td` over its own vector. Of the device's data only the length is read.
 pub fn complete_row(
     log: &mut [u8],
     endpoint_id: EndpointId,
@@ -58,7 +58,7 @@ pub fn complete_row(
     result: InTrbProcessingResult,
     data: &[u8],
 ) -> RowCompleted
-    ensures met { λ r. ⌜ Meets (rowCompletion (length (now (log .entry))) «endpoint_id» «slot_id» (now (row .entry)) result (length (now («data» .entry)))) 0 (now (log .entry)) r (now (log .exit)) ⌝ }
+    ensures met { λ r. ⌜ CompletesRow «endpoint_id» «slot_id» (now (row .entry)) result (length (now («data» .entry))) (now (log .entry)) r (now (log .exit)) ⌝ }
     ensures account { λ r. ⌜ AccountedRow (now (row .entry)) (length (now («data» .entry))) (r .answer) (recordsIn (r .records) (now (log .exit))) ⌝ }
 {
     let tested = test_row(row);

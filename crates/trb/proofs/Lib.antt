@@ -1,1 +1,3 @@
 pub mod TestLaws
+pub mod QuestionLaws
+pub mod AnswerLaws

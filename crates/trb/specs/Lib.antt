@@ -3,3 +3,5 @@ pub mod Ids
 pub mod Trbs
 pub mod Codes
 pub mod Refusals
+pub mod Questions
+pub mod Answers

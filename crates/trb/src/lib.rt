@@ -1,9 +1,11 @@
 // The vocabulary of the endpoint engine: ids, TRBs, completion codes, device results, refusals and limits.
 // Ports trb.rs, real_endpoint_handle.rs and usbrequest.rs, and the result and state enums of endpoint_handle.rs.
 ghost use mathlib.Core.Path.{_≡_};
+ghost use Rattle.trb.specs.Answers.{isAccepted};
 ghost use Rattle.trb.specs.Codes.{codeNumber};
 ghost use Rattle.trb.specs.Ids.{idsInRange};
 ghost use Rattle.trb.specs.Limits.{limitTable};
+ghost use Rattle.trb.specs.Questions.{agree};
 ghost use Rattle.trb.specs.Refusals.{refusalNumber};
 ghost use Rattle.trb.specs.Trbs.{transferLength, chainOf};
 
@@ -324,6 +326,23 @@ pub fn refusal_number(refusal: Refusal) -> u8
 pub enum Answer {
     Accepted,
     Refused(Refusal),
+}
+
+// Was every question answered yes?
+pub fn is_accepted(answer: Answer) -> bool
+    ensures { λ r. ⌜ r ≡ isAccepted answer ⌝ }
+{
+    match answer {
+        Answer::Accepted => true,
+        Answer::Refused(_) => false,
+    }
+}
+
+// Question 8: both or neither?
+pub fn agree(given: bool, awaited: bool) -> bool
+    ensures { λ r. ⌜ r ≡ agree given awaited ⌝ }
+{
+    if given { awaited } else { !awaited }
 }
 
 // What completion answers.

@@ -1,24 +1,16 @@
 -- How a loop over an array keeps to a test of every element: what was found so far, and the test of the rest, are the test of all.
 -- Assumes nothing.
-use Prim.Native.Nat.{ℕ, zero, suc, _+_, _<_, _≤_}
+use Prim.Native.Nat.{ℕ, suc, _+_, _<_, _≤_}
 use mathlib.Core.Path.{_≡_, refl, sym, ap, _∙_}
 use mathlib.Core.Bool.{Bool, true, _&&_, and-true, and-assoc}
-use mathlib.Core.List.{List, [], _∷_}
-use native.Mathlib.Nat.{not-suc-le-zero}
+use mathlib.Core.List.{List}
 use native.Mathlib.Numerals.{add-one}
 use native.Mathlib.Omega.{arith}
-use lib.ListN.{length, take, drop, set, getD, drop-of-length-le}
+use lib.ListN.{length, take, drop, getD, drop-of-length-le}
 use lib.Seq.{drop-cons, getD-take, length-take-le}
 use Rattle.walks.specs.All.{all}
 
 module _ {T : Type 0} (ok : T → Bool) where
-  -- the first n elements of xs and then t
-  pub all-set : (xs : List T) (n : ℕ) (t : T) → n < length xs → all ok (take (suc n) (set xs n t)) ≡ (all ok (take n xs) && ok t)
-  unfolding all
-  all-set [] n t h = absurd (not-suc-le-zero h)
-  all-set (x ∷ xs) zero t h = and-true (ok t)
-  all-set (x ∷ xs) (suc n) t h = ap (λ (b : Bool). ok x && b) (all-set xs n t (omega arith)) ∙ sym (and-assoc (ok x) (all ok (take n xs)) (ok t))
-
   -- after i elements of ts, with b found so far
   abbrev pub Tested : List T → Bool → ℕ → Type 0
   Tested ts b i = (b && all ok (drop i ts)) ≡ all ok ts

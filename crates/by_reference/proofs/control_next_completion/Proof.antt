@@ -6,7 +6,7 @@ use Rattle.lent_laws.proofs.Layers.{passed, Layer, answering, meets}
 use Rattle.lent_laws.proofs.CompletionLayer.{shape}
 use Rattle.control_block.proofs.ControlBlock as B
 use Rattle.control_block.proofs.ControlBlock.Laws as B′
-use Rattle.control_complete.proofs.Completed as R
+use Rattle.control_endpoint.proofs.Completed as R
 use Rattle.trb.proofs.CompletionAnswer as A
 use Rattle.trb.proofs.CompletionAnswer.Laws as A′
 use Rattle.trb.proofs.ControlRequestProcessingResult as D

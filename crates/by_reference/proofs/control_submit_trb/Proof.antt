@@ -6,7 +6,7 @@ use Rattle.lent_laws.proofs.Layers.{Layer, answering, meets}
 use Rattle.lent_laws.proofs.CollectingLayer.{shape}
 use Rattle.control_block.proofs.ControlBlock as B
 use Rattle.control_block.proofs.ControlBlock.Laws as B′
-use Rattle.control_submit.proofs.Submitted as R
+use Rattle.control_endpoint.proofs.Submitted as R
 use Rattle.trb.proofs.Answer as A
 use Rattle.trb.proofs.Answer.Laws as A′
 use Rattle.control_endpoint.proofs.submit_trb as callee

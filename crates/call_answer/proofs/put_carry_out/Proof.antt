@@ -1,6 +1,6 @@
 -- `call_answer::put_carry_out` meets its contract: the log carried out is the first records, and the line has carry-out's answer. Assumes nothing.
 use mathlib.Core.Path.{ap, _∙_}
-use Rattle.call_answer.specs.Answers.{answerNumber}
+use Rattle.trb.specs.Answers.{numberOf}
 use borrow.Author.Needs.{needs}
 use Rattle.call_answer.proofs.put_carry_out.Statement.{statement}
 use Rattle.call_answer.proofs.put_carry_out.Tie as tie
@@ -28,7 +28,7 @@ returns c =
     let line = c .before .before in
     let o = line .before .before .before .before .before in
     let carried = rw (o .before .before .first-records .ensures) at (o .carry-out .ensures) in
-    let number = line .before .answer-number .ensures ∙ ap answerNumber (carried .answer) in
+    let number = line .before .answer-number .ensures ∙ ap numberOf (carried .answer) in
     record { text = rw number at (line .put-carried-out .ensures); after = rw (carried .answer) at (carried .after) }
 
 pub put-carry-out-spec : {M : Type 1} → statement M

@@ -1,76 +1,105 @@
--- `control_questions::ask_completion` meets its contract: behind each question that is answered yes, the answer is that of the questions left.
--- Assumes nothing.
-use mathlib.Core.Path.{_≡_, _∙_}
-use mathlib.Core.Bool.{not}
+-- `control_questions::ask_completion` meets its contract: behind each question that is answered yes, the number is that of the questions
+-- left. Assumes nothing.
+use Prim.Native.Nat.{ℕ}
+use mathlib.Core.Path.{_≡_, sym, _∙_}
+use mathlib.Core.Bool.{Bool}
+use mathlib.Core.List.{List}
 use borrow.Author.Tests.{not-true, not-false, le-leb, lt-leb}
-use lib.Dec.{leb}
-use Rattle.trb.specs.Limits.{maxData}
-use Rattle.trb.specs.declared.Answer.{Answer}
-use Rattle.trb.specs.declared.Answer.the-variants.{Accepted}
-use Rattle.trb.specs.declared.Refusal.the-variants.{UnsoundBlock, OutOfTurn, DeviceResultMismatch, DataTooLong}
-use Rattle.control_block.specs.Questions.{ask}
-use Rattle.control_block.specs.Sound.{soundBlock, submissionDue}
-use Rattle.control_questions.specs.Completion.{agrees, completionAnswer}
+use Rattle.trb.specs.Questions.{firstNo}
+use Rattle.trb.specs.declared.ControlRequestProcessingResult.{ControlRequestProcessingResult}
+use Rattle.control_block.specs.declared.BlockFacts.{BlockFacts}
+use Rattle.control_questions.specs.Completion.{completionQuestions}
+use Rattle.control_questions.proofs.CompletionLaws.{from-block, from-turn, from-result, from-data}
 use borrow.Author.Needs.{needs}
 use Rattle.control_questions.proofs.ask_completion.Statement.{statement}
 use Rattle.control_questions.proofs.ask_completion.Tie as tie
 
--- all questions, and those that are left
-abbrev answer : tie.Start → Answer
-answer s = completionAnswer (s .args .log) (s .args .block) (s .args .result) (s .args .data-length)
+-- ---- The number of all questions, and of those from one on
 
-abbrev from-data : tie.Start → Answer
-from-data s = ask (leb (s .args .data-length) maxData) DataTooLong Accepted
+abbrev number : tie.Start → ℕ
+number s = firstNo (completionQuestions (s .args .log-length) (s .args .facts) (s .args .result) (s .args .data-length))
 
-abbrev from-result : tie.Start → Answer
-from-result s = ask (agrees (s .args .result) (s .args .block .state)) DeviceResultMismatch (from-data s)
+abbrev left : (BlockFacts → ControlRequestProcessingResult → ℕ → List (Bool × ℕ)) → tie.Start → ℕ
+left questions s = firstNo (questions (s .args .facts) (s .args .result) (s .args .data-length))
 
-abbrev from-turn : tie.Start → Answer
-from-turn s = ask (not (submissionDue (s .args .block .state))) OutOfTurn (from-result s)
+-- ---- Behind each yes
 
-abbrev from-block : tie.Start → Answer
-from-block s = ask (soundBlock (s .args .block)) UnsoundBlock (from-turn s)
+abbrev at-block : tie.Else1 → tie.Start
+at-block c = c .before
 
-long : (c : tie.Else1) → answer (c .before) ≡ from-block (c .before)
-unfolding completionAnswer
+abbrev at-turn : tie.Else2 → tie.Start
+at-turn c = at-block (c .before .before)
+
+abbrev at-result : tie.Else3 → tie.Start
+at-result c = at-turn (c .before .before)
+
+abbrev at-data : tie.Else4 → tie.Start
+at-data c = at-result (c .before .before .before .before)
+
+long : (c : tie.Else1) → number (at-block c) ≡ left from-block (at-block c)
+unfolding completionQuestions firstNo
 long c = rw (le-leb _ _ (c .if1 .left))
 
-sound : (c : tie.Else2) → let s = c .before .before .before in answer s ≡ from-turn s
+sound : (c : tie.Else2) → number (at-turn c) ≡ left from-turn (at-turn c)
+unfolding firstNo
 sound c = long (c .before .before) ∙ rw (← c .before .is-sound .ensures, not-false (c .before .is-sound .result) (c .if2 .left))
 
-awaited : (c : tie.Else3) → let s = c .before .before .before .before .before in answer s ≡ from-result s
-awaited c = sound (c .before .before) ∙ rw (← c .before .is-submission-due .ensures, c .if3 .left)
+due : (c : tie.Else3) → number (at-result c) ≡ left from-result (at-result c)
+unfolding firstNo
+due c = sound (c .before .before) ∙ rw (← c .before .submission-due .ensures, c .if3 .left)
 
-agreed : (c : tie.Else4) → let s = c .before .before .before .before .before .before .before in answer s ≡ from-data s
-agreed c = awaited (c .before .before) ∙ rw (← c .before .is-agreed .ensures, not-false (c .before .is-agreed .result) (c .if4 .left))
+agreed : (c : tie.Else4) → number (at-data c) ≡ left from-data (at-data c)
+unfolding firstNo
+agreed c =
+    let awaited = c .before .before in
+    let given = awaited .before in
+    due (given .before)
+    ∙ rw (← given .is-given .ensures, ← awaited .awaits-device .ensures, ← c .before .agree .ensures, not-false (c .before .agree .result) (c .if4 .left))
+
+-- ---- The needs
 
 returns : tie.Need-returns
-unfolding completionAnswer
+unfolding completionQuestions firstNo
 returns c = rw (lt-leb _ _ (c .if1 .taken))
 
 is-sound-requires : tie.Need-is-sound-requires
 is-sound-requires c κs = search needs
 
 returns-2 : tie.Need-returns-2
-returns-2 c = rw (long (c .before .before), ← c .before .is-sound .ensures, not-true (c .before .is-sound .result) (c .if2 .taken))
+unfolding firstNo
+returns-2 c = sym (long (c .before .before) ∙ rw (← c .before .is-sound .ensures, not-true (c .before .is-sound .result) (c .if2 .taken)))
 
-is-submission-due-requires : tie.Need-is-submission-due-requires
-is-submission-due-requires c κs = search needs
+submission-due-requires : tie.Need-submission-due-requires
+submission-due-requires c κs = search needs
 
 returns-3 : tie.Need-returns-3
-returns-3 c = rw (sound (c .before .before), ← c .before .is-submission-due .ensures, c .if3 .taken)
+unfolding firstNo
+returns-3 c = sym (sound (c .before .before) ∙ rw (← c .before .submission-due .ensures, c .if3 .taken))
 
-is-agreed-requires : tie.Need-is-agreed-requires
-is-agreed-requires c κs = search needs
+is-given-requires : tie.Need-is-given-requires
+is-given-requires c κs = search needs
+
+awaits-device-requires : tie.Need-awaits-device-requires
+awaits-device-requires c κs = search needs
+
+agree-requires : tie.Need-agree-requires
+agree-requires c κs = search needs
 
 returns-4 : tie.Need-returns-4
-returns-4 c = rw (awaited (c .before .before), ← c .before .is-agreed .ensures, not-true (c .before .is-agreed .result) (c .if4 .taken))
+unfolding firstNo
+returns-4 c =
+    let awaited = c .before .before in
+    let given = awaited .before in
+    sym (due (given .before)
+    ∙ rw (← given .is-given .ensures, ← awaited .awaits-device .ensures, ← c .before .agree .ensures, not-true (c .before .agree .result) (c .if4 .taken)))
 
 returns-5 : tie.Need-returns-5
-returns-5 c = rw (agreed (c .before), lt-leb _ _ (c .if5 .taken))
+unfolding firstNo
+returns-5 c = sym (agreed (c .before) ∙ rw (lt-leb _ _ (c .if5 .taken)))
 
 returns-6 : tie.Need-returns-6
-returns-6 c = rw (agreed (c .before), le-leb _ _ (c .if5 .left))
+unfolding firstNo
+returns-6 c = sym (agreed (c .before) ∙ rw (le-leb _ _ (c .if5 .left)))
 
 pub ask-completion-spec : {M : Type 1} → statement M
 ask-completion-spec =
@@ -79,9 +108,11 @@ ask-completion-spec =
     returns
     is-sound-requires
     returns-2
-    is-submission-due-requires
+    submission-due-requires
     returns-3
-    is-agreed-requires
+    is-given-requires
+    awaits-device-requires
+    agree-requires
     returns-4
     returns-5
     returns-6)

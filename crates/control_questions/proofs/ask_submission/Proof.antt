@@ -1,88 +1,167 @@
--- `control_questions::ask_submission` meets its contract: behind each question that is answered yes, the answer is that of the questions left.
--- Assumes nothing.
+-- `control_questions::ask_submission` meets its contract: behind each question that is answered yes, the number is that of the questions
+-- left. Assumes nothing.
+use Prim.Native.Nat.{ℕ}
 use mathlib.Core.Path.{_≡_, sym, _∙_}
-use mathlib.Core.Bool.{true}
+use mathlib.Core.Bool.{Bool, true}
+use mathlib.Core.List.{List}
 use borrow.Author.Tests.{not-true, not-false, le-leb, lt-leb}
-use Rattle.trb.specs.declared.Answer.{Answer}
-use Rattle.trb.specs.declared.Refusal.the-variants.{UnsoundBlock, OutOfTurn}
-use Rattle.phase_table.specs.Table.{becomes}
-use Rattle.control_block.specs.Questions.{ask}
-use Rattle.control_block.specs.Sound.{soundBlock, submissionDue}
+use Rattle.trb.specs.Questions.{firstNo}
+use Rattle.trb.specs.declared.TransferTrb.{TransferTrb}
+use Rattle.phase_table.specs.declared.Outcome.{Outcome}
+use Rattle.control_block.specs.declared.BlockFacts.{BlockFacts}
+use Rattle.control_block.specs.Facts.{soundBlock}
 use Rattle.control_block.proofs.BlockLaws.{sound-held, sound-collected}
-use Rattle.control_questions.specs.Submission.{trbAnswer, submissionAnswer}
+use Rattle.control_questions.specs.Submission.{submissionQuestions}
+use Rattle.control_questions.proofs.SubmissionLaws.{from-block, from-turn, from-length, from-held, from-window, from-collected}
 use borrow.Author.Needs.{needs}
 use Rattle.control_questions.proofs.ask_submission.Statement.{statement}
 use Rattle.control_questions.proofs.ask_submission.Tie as tie
 
--- all questions, and those that are left
-abbrev answer : tie.Start → Answer
-answer s = submissionAnswer (s .args .log) (s .args .collect) (s .args .block) (s .args .t) (s .args .base) (s .args .size)
+-- ---- The number of all questions, and of those from one on
 
-abbrev from-trb : tie.Start → Answer
-from-trb s = trbAnswer (becomes (s .args .block .phase) (s .args .t .variant)) (s .args .block) (s .args .t) (s .args .base) (s .args .size)
+abbrev number : tie.Start → ℕ
+number s = firstNo (submissionQuestions (s .args .log-length) (s .args .collect-length) (s .args .facts) (s .args .outcome) (s .args .t) (s .args .base) (s .args .size))
 
-abbrev from-turn : tie.Start → Answer
-from-turn s = ask (submissionDue (s .args .block .state)) OutOfTurn (from-trb s)
+abbrev left : (BlockFacts → Outcome → TransferTrb → ℕ → ℕ → List (Bool × ℕ)) → tie.Start → ℕ
+left questions s = firstNo (questions (s .args .facts) (s .args .outcome) (s .args .t) (s .args .base) (s .args .size))
 
-abbrev from-block : tie.Start → Answer
-from-block s = ask (soundBlock (s .args .block)) UnsoundBlock (from-turn s)
+-- ---- Behind each yes
 
-long : (c : tie.Else2) → let s = c .before .before in answer s ≡ from-block s
-unfolding submissionAnswer
+abbrev at-block : tie.Else2 → tie.Start
+at-block c = c .before .before .before
+
+abbrev at-turn : tie.Else3 → tie.Start
+at-turn c = at-block (c .before .before)
+
+abbrev at-length : tie.Else4 → tie.Start
+at-length c = at-turn (c .before .before)
+
+abbrev at-held : tie.Else5 → tie.Start
+at-held c = at-length (c .before .before)
+
+abbrev at-window : tie.Else6 → tie.Start
+at-window c = at-held (c .before .before)
+
+abbrev at-collected : tie.Else7 → tie.Start
+at-collected c = at-window (c .before .before)
+
+long : (c : tie.Else2) → number (at-block c) ≡ left from-block (at-block c)
+unfolding submissionQuestions firstNo
 long c = rw (le-leb _ _ (c .before .if1 .left), le-leb _ _ (c .if2 .left))
 
-sound : (c : tie.Else3) → soundBlock (c .before .before .before .before .args .block) ≡ true
-sound c = sym (c .before .is-sound .ensures) ∙ not-false (c .before .is-sound .result) (c .if3 .left)
+is-sound : (c : tie.Else3) → soundBlock (at-turn c .args .facts) ≡ true
+is-sound c = sym (c .before .is-sound .ensures) ∙ not-false (c .before .is-sound .result) (c .if3 .left)
 
-in-turn : (c : tie.Else4) → let s = c .before .before .before .before .before .before in answer s ≡ from-trb s
-in-turn c =
-    let if3 = c .before .before in
-    long (if3 .before .before) ∙ rw (sound if3, ← c .before .is-submission-due .ensures, not-false (c .before .is-submission-due .result) (c .if4 .left))
+sound : (c : tie.Else3) → number (at-turn c) ≡ left from-turn (at-turn c)
+unfolding firstNo
+sound c = long (c .before .before) ∙ rw (is-sound c)
+
+due : (c : tie.Else4) → number (at-length c) ≡ left from-length (at-length c)
+unfolding firstNo
+due c = sound (c .before .before) ∙ rw (← c .before .submission-due .ensures, not-false (c .before .submission-due .result) (c .if4 .left))
+
+short : (c : tie.Else5) → number (at-held c) ≡ left from-held (at-held c)
+unfolding firstNo
+short c = due (c .before .before) ∙ rw (← c .before .transfer-length .ensures, le-leb _ _ (c .if5 .left))
+
+roomy : (c : tie.Else6) → number (at-window c) ≡ left from-window (at-window c)
+unfolding firstNo
+roomy c = short (c .before .before) ∙ rw (← c .before .is-room .ensures, not-false (c .before .is-room .result) (c .if6 .left))
+
+-- the data that is asked about is the TRB's
+abbrev data-known : tie.Else6 → tie.After-data-of
+data-known c = c .before .before .before .before .before .before .before .before .before .before
+
+reached : (c : tie.Else7) → number (at-collected c) ≡ left from-collected (at-collected c)
+unfolding firstNo
+reached c =
+    roomy (c .before .before)
+    ∙ rw (← data-known (c .before .before) .data-of .ensures, ← c .before .is-reached .ensures, not-false (c .before .is-reached .result) (c .if7 .left))
+
+-- ---- The needs
+
+data-of-requires : tie.Need-data-of-requires
+data-of-requires c κs = search needs
 
 returns : tie.Need-returns
-unfolding submissionAnswer
+unfolding submissionQuestions firstNo
 returns c = rw (lt-leb _ _ (c .if1 .taken))
 
 returns-2 : tie.Need-returns-2
-unfolding submissionAnswer
+unfolding submissionQuestions firstNo
 returns-2 c = rw (le-leb _ _ (c .before .if1 .left), lt-leb _ _ (c .if2 .taken))
 
 is-sound-requires : tie.Need-is-sound-requires
 is-sound-requires c κs = search needs
 
 returns-3 : tie.Need-returns-3
-returns-3 c = rw (long (c .before .before), ← c .before .is-sound .ensures, not-true (c .before .is-sound .result) (c .if3 .taken))
+unfolding firstNo
+returns-3 c = sym (long (c .before .before) ∙ rw (← c .before .is-sound .ensures, not-true (c .before .is-sound .result) (c .if3 .taken)))
 
-is-submission-due-requires : tie.Need-is-submission-due-requires
-is-submission-due-requires c κs = search needs
+submission-due-requires : tie.Need-submission-due-requires
+submission-due-requires c κs = search needs
 
 returns-4 : tie.Need-returns-4
-returns-4 c =
-    let if3 = c .before .before in
-    rw (long (if3 .before .before), sound if3, ← c .before .is-submission-due .ensures, not-true (c .before .is-submission-due .result) (c .if4 .taken))
+unfolding firstNo
+returns-4 c = sym (sound (c .before .before) ∙ rw (← c .before .submission-due .ensures, not-true (c .before .submission-due .result) (c .if4 .taken)))
 
-becomes-requires : tie.Need-becomes-requires
-becomes-requires c κs = search needs
-
-ask-of-trb-requires : tie.Need-ask-of-trb-requires
-ask-of-trb-requires c κs =
-    let if3 = c .before .before .before in
-    let block = if3 .before .before .before .before .args .block in
-    (sound-held block (sound if3), sound-collected block (sound if3))
+transfer-length-requires : tie.Need-transfer-length-requires
+transfer-length-requires c κs = search needs
 
 returns-5 : tie.Need-returns-5
-returns-5 c = rw (in-turn (c .before .before), ← c .before .becomes .ensures) (c .ask-of-trb .ensures)
+unfolding firstNo
+returns-5 c = sym (due (c .before .before) ∙ rw (← c .before .transfer-length .ensures, lt-leb _ _ (c .if5 .taken)))
+
+is-room-requires : tie.Need-is-room-requires
+is-room-requires c κs = sound-held (at-held c .args .facts) (is-sound (c .before .before .before .before))
+
+returns-6 : tie.Need-returns-6
+unfolding firstNo
+returns-6 c = sym (short (c .before .before) ∙ rw (← c .before .is-room .ensures, not-true (c .before .is-room .result) (c .if6 .taken)))
+
+is-reached-requires : tie.Need-is-reached-requires
+is-reached-requires c κs = search needs
+
+returns-7 : tie.Need-returns-7
+unfolding firstNo
+returns-7 c =
+    sym (roomy (c .before .before)
+    ∙ rw (← data-known (c .before .before) .data-of .ensures, ← c .before .is-reached .ensures, not-true (c .before .is-reached .result) (c .if7 .taken)))
+
+is-collectable-requires : tie.Need-is-collectable-requires
+is-collectable-requires c κs = sound-collected (at-collected c .args .facts) (is-sound (c .before .before .before .before .before .before .before .before))
+
+returns-8 : tie.Need-returns-8
+unfolding firstNo
+returns-8 c =
+    let if7 = c .before .before in
+    sym (reached if7
+    ∙ rw (← data-known (if7 .before .before) .data-of .ensures, ← c .before .is-collectable .ensures, not-true (c .before .is-collectable .result) (c .if8 .taken)))
+
+returns-9 : tie.Need-returns-9
+unfolding firstNo
+returns-9 c =
+    let if7 = c .before .before in
+    sym (reached if7
+    ∙ rw (← data-known (if7 .before .before) .data-of .ensures, ← c .before .is-collectable .ensures, not-false (c .before .is-collectable .result) (c .if8 .left)))
 
 pub ask-submission-spec : {M : Type 1} → statement M
 ask-submission-spec =
     tie.close
     (tie.spec
+    data-of-requires
     returns
     returns-2
     is-sound-requires
     returns-3
-    is-submission-due-requires
+    submission-due-requires
     returns-4
-    becomes-requires
-    ask-of-trb-requires
-    returns-5)
+    transfer-length-requires
+    returns-5
+    is-room-requires
+    returns-6
+    is-reached-requires
+    returns-7
+    is-collectable-requires
+    returns-8
+    returns-9)

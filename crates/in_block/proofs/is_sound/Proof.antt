@@ -1,36 +1,55 @@
--- `in_block::is_sound` meets its contract: each way out rewrites the definition's tests by those that led there. Assumes nothing.
-use mathlib.Core.Path.{sym, _∙_}
+-- `in_block::is_sound` meets its contract: behind each part that holds, the answer is that of the parts left. Assumes nothing.
+use mathlib.Core.Path.{_≡_, sym, _∙_}
+use mathlib.Core.Bool.{Bool, not, _&&_, _||_}
+use lib.Dec.{leb}
 use borrow.Author.Tests.{le-leb, lt-leb, not-true, not-false}
-use Rattle.in_block.specs.Test.{soundAs}
+use Rattle.trb.specs.Limits.{maxHeld}
+use Rattle.in_block.specs.Facts.{awaitsDevice, soundBlock}
 use borrow.Author.Needs.{needs}
 use Rattle.in_block.proofs.is_sound.Statement.{statement}
 use Rattle.in_block.proofs.is_sound.Tie as tie
+
+-- the parts that are left
+abbrev from-state : tie.Start → Bool
+from-state s = not (awaitsDevice (s .args .facts .state)) || not (s .args .facts .found .«no_normal»)
+
+abbrev from-trbs : tie.Start → Bool
+from-trbs s = s .args .facts .found .sound && from-state s
+
+abbrev from-held : tie.Start → Bool
+from-held s = leb (s .args .facts .held) maxHeld && from-trbs s
+
+ids : (c : tie.Else1) → let s = c .before .before .before .before .before in soundBlock (s .args .facts) ≡ from-held s
+unfolding soundBlock
+ids c = rw (sym (c .before .ids-in-range .ensures) ∙ not-false (c .before .ids-in-range .result) (c .if1 .left))
+
+few : (c : tie.Else2) → let s = c .before .before .before .before .before .before in soundBlock (s .args .facts) ≡ from-trbs s
+few c = ids (c .before) ∙ rw (le-leb _ _ (c .if2 .left))
+
+sound : (c : tie.Else3) → let s = c .before .before .before .before .before .before .before in soundBlock (s .args .facts) ≡ from-state s
+sound c = few (c .before) ∙ rw (not-false (c .before .before .before .before .before .before .before .args .facts .found .sound) (c .if3 .left))
 
 ids-in-range-requires : tie.Need-ids-in-range-requires
 ids-in-range-requires c κs = search needs
 
 returns : tie.Need-returns
-unfolding soundAs
+unfolding soundBlock
 returns c = rw (sym (c .before .ids-in-range .ensures) ∙ not-true (c .before .ids-in-range .result) (c .if1 .taken))
 
 returns-2 : tie.Need-returns-2
-unfolding soundAs
-returns-2 c = rw (sym (c .before .before .ids-in-range .ensures) ∙ not-false (c .before .before .ids-in-range .result) (c .before .if1 .left), lt-leb _ _ (c .if2 .taken))
+returns-2 c = rw (ids (c .before), lt-leb _ _ (c .if2 .taken))
 
 returns-3 : tie.Need-returns-3
-unfolding soundAs
-returns-3 c = rw (sym (c .before .before .before .ids-in-range .ensures) ∙ not-false (c .before .before .before .ids-in-range .result) (c .before .before .if1 .left), le-leb _ _ (c .before .if2 .left), not-true (c .before .before .before .before .args .test .sound) (c .if3 .taken))
+returns-3 c = rw (few (c .before), not-true (c .before .before .before .before .before .before .before .args .facts .found .sound) (c .if3 .taken))
 
 awaits-device-requires : tie.Need-awaits-device-requires
 awaits-device-requires c κs = search needs
 
 returns-4 : tie.Need-returns-4
-unfolding soundAs
-returns-4 c = rw (sym (c .before .before .before .before .before .ids-in-range .ensures) ∙ not-false (c .before .before .before .before .before .ids-in-range .result) (c .before .before .before .before .if1 .left), le-leb _ _ (c .before .before .before .if2 .left), not-false (c .before .before .before .before .before .before .args .test .sound) (c .before .before .if3 .left), sym (c .before .awaits-device .ensures) ∙ not-true (c .before .awaits-device .result) (c .if4 .taken))
+returns-4 c = rw (sound (c .before .before), sym (c .before .awaits-device .ensures) ∙ not-true (c .before .awaits-device .result) (c .if4 .taken))
 
 returns-5 : tie.Need-returns-5
-unfolding soundAs
-returns-5 c = rw (sym (c .before .before .before .before .before .ids-in-range .ensures) ∙ not-false (c .before .before .before .before .before .ids-in-range .result) (c .before .before .before .before .if1 .left), le-leb _ _ (c .before .before .before .if2 .left), not-false (c .before .before .before .before .before .before .args .test .sound) (c .before .before .if3 .left), sym (c .before .awaits-device .ensures) ∙ not-false (c .before .awaits-device .result) (c .if4 .left))
+returns-5 c = rw (sound (c .before .before), sym (c .before .awaits-device .ensures) ∙ not-false (c .before .awaits-device .result) (c .if4 .left))
 
 pub is-sound-spec : {M : Type 1} → statement M
 is-sound-spec =

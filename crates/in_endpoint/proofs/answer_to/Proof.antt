@@ -1,41 +1,19 @@
--- `in_endpoint::answer_to` meets its contract: at each ending, the definition is at the answer given. Assumes nothing.
+-- `in_endpoint::answer_to` meets its contract, by the answer to the questions. Assumes nothing.
 use borrow.Author.Needs.{needs}
 use Rattle.in_endpoint.proofs.answer_to.Statement.{statement}
 use Rattle.in_endpoint.proofs.answer_to.Tie as tie
 
-enum-known-ending : tie.Need-enum-known-ending
-enum-known-ending c = search needs
-
 enum-told : tie.Need-enum-told
 enum-told c = search needs
 
-enum-told-2 : tie.Need-enum-told-2
-enum-told-2 c = search needs
-
-enum-told-3 : tie.Need-enum-told-3
-enum-told-3 c = search needs
+enum-known-asked : tie.Need-enum-known-asked
+enum-known-asked c = search needs
 
 returns : tie.Need-returns
-returns c = rw (c .before .ending .given .1)
+returns c = rw (c .enum-told .given .1)
 
 returns-2 : tie.Need-returns-2
-returns-2 c = rw (c .enum-told .given .1)
-
-returns-3 : tie.Need-returns-3
-returns-3 c = rw (c .enum-told2 .given .1)
-
-returns-4 : tie.Need-returns-4
-returns-4 c = rw (c .enum-told3 .given .1)
+returns-2 c = rw (c .before .asked .given .1)
 
 pub answer-to-spec : {M : Type 1} → statement M
-answer-to-spec =
-    tie.close
-    (tie.spec
-    enum-known-ending
-    enum-told
-    enum-told-2
-    enum-told-3
-    returns
-    returns-2
-    returns-3
-    returns-4)
+answer-to-spec = tie.close (tie.spec enum-told enum-known-asked returns returns-2)

@@ -1,5 +1,7 @@
 -- `in_endpoint::create` meets its contract, by question 12. Assumes nothing.
 use mathlib.Core.Path.{sym, _∙_}
+use Rattle.trb.specs.Answers.{refusalOf}
+use Rattle.trb.specs.Questions.{firstNo}
 use Rattle.in_endpoint.specs.Creation.{creation}
 use borrow.Author.Needs.{needs}
 use Rattle.in_endpoint.proofs.create.Statement.{statement}
@@ -15,12 +17,16 @@ fresh-requires-2 : tie.Need-fresh-requires-2
 fresh-requires-2 c κs = search needs
 
 returns : tie.Need-returns
-unfolding creation
-returns c = rw (sym (c .before .before .ids-in-range .ensures) ∙ c .before .if1 .taken, c .fresh .ensures)
+unfolding creation firstNo
+returns c =
+    let ids = sym (c .before .before .ids-in-range .ensures) ∙ c .before .if1 .taken in
+    record { number = rw ids; met = rw (ids, c .fresh .ensures) }
 
 returns-2 : tie.Need-returns-2
-unfolding creation
-returns-2 c = rw (sym (c .before .before .ids-in-range .ensures) ∙ c .before .if1 .left, c .fresh2 .ensures)
+unfolding creation firstNo refusalOf
+returns-2 c =
+    let ids = sym (c .before .before .ids-in-range .ensures) ∙ c .before .if1 .left in
+    record { number = rw ids; met = rw (ids, c .fresh2 .ensures) }
 
 pub create-spec : {M : Type 1} → statement M
 create-spec =

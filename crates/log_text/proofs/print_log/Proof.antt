@@ -1,14 +1,26 @@
 -- `log_text::print_log` meets its contract: each way out rewrites the definitions' test by the one that led there. Assumes nothing.
+use mathlib.Core.Path.{_≡_, sym}
 use native.Mathlib.Nat.{zero-add}
 use borrow.Author.Tests.{le-leb, lt-leb}
-use Rattle.log_text.specs.LogText.{printed, textAfter}
+use Rattle.trb.specs.Answers.{refusalOf}
+use Rattle.trb.specs.Questions.{firstNo}
+use Rattle.log_text.specs.LogText.{printQuestions, printed, textAfter}
 use borrow.Author.Needs.{needs}
 use Rattle.log_text.proofs.print_log.Statement.{statement}
 use Rattle.log_text.proofs.print_log.Tie as tie
 
+-- question 1
+short : (c : tie.Then1) → firstNo (printQuestions (c .before .before .before .args .text .now)) ≡ 1
+unfolding firstNo
+short c = rw (lt-leb _ _ (c .if1 .taken))
+
+long : (c : tie.Else1) → firstNo (printQuestions (c .before .before .before .args .text .now)) ≡ 0
+unfolding firstNo
+long c = rw (le-leb _ _ (c .if1 .left))
+
 returns : tie.Need-returns
-unfolding printed textAfter
-returns c = record { printed = simp (lt-leb _ _ (c .if1 .taken)); text = simp (lt-leb _ _ (c .if1 .taken)); within = search needs }
+unfolding printed textAfter refusalOf
+returns c = record { number = sym (short c); printed = simp (short c); text = simp (short c); within = search needs }
 
 put-log-requires : tie.Need-put-log-requires
 put-log-requires c κs = search needs
@@ -20,10 +32,11 @@ returns-2 : tie.Need-returns-2
 unfolding printed textAfter
 returns-2 c =
     let w = c .before .before in
-    let long = le-leb _ _ (w .before .before .if1 .left) in
+    let none = long (w .before .before) in
     record {
-      printed = simp (long, w .put-log .ensures .next, zero-add);
-      text = simp long (w .put-log .ensures .text);
+      number = sym none;
+      printed = simp (none, w .put-log .ensures .next, zero-add);
+      text = simp none (w .put-log .ensures .text);
       within = search needs;
     }
 

@@ -43,7 +43,7 @@ use Rattle.lent_laws.proofs.LentLaws.{gives, returned, says-both, by-walk}
 use Rattle.log.specs.Calls.{Meets}
 use Rattle.in_td.specs.Td.{processTd}
 use Rattle.in_td.specs.declared.TdProcessed.{TdProcessed}
-use Rattle.in_block.specs.Test.{heldTest}
+use Rattle.in_block.specs.Facts.{heldTest}
 use Rattle.row_plan.specs.Plans.{rowPlan, rowAnswer}
 use Rattle.row_plan.specs.declared.RowCompleted.{RowCompleted}
 use Rattle.row_plan.specs.declared.RowPlan.{RowPlan}

@@ -46,7 +46,7 @@ use denote.Triple.Walked.{says, Stays, stay-none-slice, walkOf, AllGo, goes-none
 use denote.Exit.{yes}
 use Rattle.lent_laws.proofs.LentLaws.{gives, reads-element, returned, by-walk}
 use Rattle.held.specs.Places.{pastEnd}
-use Rattle.in_block.specs.Test.{trbTest}
+use Rattle.in_block.specs.Facts.{trbTest}
 use Rattle.in_block.proofs.TestLaws.{testing-none}
 use Rattle.in_block.specs.declared.HeldTest.{HeldTest}
 use Rattle.trb.specs.declared.TransferTrb.{TransferTrb}
