@@ -1,50 +1,48 @@
 -- The phase table takes exactly the control transfers of xHCI 1.2, 4.11.2.2, but for the Chain bit of the last TRB. Assumes nothing.
-use mathlib.Core.Path.{_≡_, refl, ap, _∙_}
+use mathlib.Core.Path.{_≡_, refl, ap, ap₂, _∙_}
 use mathlib.Core.Bool.{Bool, true, false, false≢true}
-use mathlib.Core.List.{List, [], _∷_, _++_}
+use mathlib.Core.List.{List, [], _∷_, _++_, map}
 use Rattle.trb.specs.declared.ControlTransferState.{ControlTransferState}
 use Rattle.trb.specs.declared.ControlTransferState.the-variants.{ExpectSetupStageTrb, MaybeDataStageTrb, MoreData, ExpectStatusStageTrb, ExpectFinalEventDataTrb}
 use Rattle.trb.specs.declared.TransferTrb.{TransferTrb}
 use Rattle.trb.specs.declared.TransferTrbVariant.{TransferTrbVariant}
 use Rattle.trb.specs.declared.TransferTrbVariant.the-variants.{SetupStage, DataStage, StatusStage, Normal, EventData, NoOp, Isoch, Unrecognized}
-use Rattle.phase_table.specs.declared.Outcome.{Outcome}
-use Rattle.phase_table.specs.declared.Outcome.the-variants.{StartTransfer, RestartTransfer, TakeData, TakeLastData, TakeChainedStatus, SubmitRequest}
-use Rattle.phase_table.specs.declared.Outcome.the-variants as outcome
+use Rattle.trb.specs.Trbs.{chainOf}
 use Rattle.phase_table.specs.declared.TrbKind.the-variants as kind
 use Rattle.phase_table.specs.Outcomes.{phaseAfter}
-use Rattle.phase_table.specs.Table.{outcomeOf, becomes}
+use Rattle.phase_table.specs.Table.{kindOf, outcomeOf}
+use Rattle.phase_table.specs.Leads.{Entry, entryOf, outcomeAt, leadsOn, leads, trbsLead}
+use Rattle.phase_table.proofs.LeadsLaws.{leads-rest}
 use Rattle.standard.specs.Control.{Kind, setupStageTrb, dataStageTrb, statusStageTrb, normalTrb, eventDataTrb, IsDataRest, last-normal, last-event, more-normal, more-event, IsDataTd, data-alone, data-chained, IsStatusTd, status-alone, status-event, IsControl, without-data, with-data}
-use Rattle.conformance.specs.Phases.{isEmpty, leadsOn, leads, OfKind, is-setup, is-data, is-status, is-normal, is-event, OfKinds, none, more, endsUnchained}
+use Rattle.conformance.specs.Phases.{OfKind, is-setup, is-data, is-status, is-normal, is-event, OfKinds, none, more, endsUnchained}
 
 -- ---- The table on kinds
 
-abbrev takenAs : ControlTransferState → Kind → Outcome
-takenAs phase setupStageTrb = outcomeOf phase kind.SetupStage false
-takenAs phase (dataStageTrb chain) = outcomeOf phase kind.DataStage chain
-takenAs phase (statusStageTrb chain) = outcomeOf phase kind.StatusStage chain
-takenAs phase (normalTrb chain) = outcomeOf phase kind.Normal chain
-takenAs phase (eventDataTrb chain) = outcomeOf phase kind.EventData chain
+-- what the table reads of a kind
+abbrev kindEntry : Kind → Entry
+kindEntry setupStageTrb = record { kind = kind.SetupStage; chain = false }
+kindEntry (dataStageTrb chain) = record { kind = kind.DataStage; chain = chain }
+kindEntry (statusStageTrb chain) = record { kind = kind.StatusStage; chain = chain }
+kindEntry (normalTrb chain) = record { kind = kind.Normal; chain = chain }
+kindEntry (eventDataTrb chain) = record { kind = kind.EventData; chain = chain }
 
 abbrev kindsLead : ControlTransferState → List Kind → Bool
-kindsLead phase [] = false
-kindsLead phase (k ∷ ks) = leadsOn (takenAs phase k) (isEmpty ks) (kindsLead (phaseAfter phase (takenAs phase k)) ks)
+kindsLead phase ks = leads phase (map kindEntry ks)
 
-becomes-takenAs : (phase : ControlTransferState) {v : TransferTrbVariant} {k : Kind} → OfKind v k → becomes phase v ≡ takenAs phase k
-unfolding becomes
-becomes-takenAs phase is-setup = refl
-becomes-takenAs phase is-data = refl
-becomes-takenAs phase is-status = refl
-becomes-takenAs phase is-normal = refl
-becomes-takenAs phase is-event = refl
+-- a TRB of a kind is read as the kind is
+variant-kindEntry : {v : TransferTrbVariant} {k : Kind} → OfKind v k → record { kind = kindOf v; chain = chainOf v } ≡ kindEntry k
+variant-kindEntry is-setup = refl
+variant-kindEntry is-data = refl
+variant-kindEntry is-status = refl
+variant-kindEntry is-normal = refl
+variant-kindEntry is-event = refl
 
-isEmpty-kinds : {ts : List TransferTrb} {ks : List Kind} → OfKinds ts ks → isEmpty ts ≡ isEmpty ks
-isEmpty-kinds none = refl
-isEmpty-kinds (more h hs) = refl
+entries-kinds : {ts : List TransferTrb} {ks : List Kind} → OfKinds ts ks → map entryOf ts ≡ map kindEntry ks
+entries-kinds none = refl
+entries-kinds (more h hs) = ap₂ (λ (e : Entry) (es : List Entry). e ∷ es) (variant-kindEntry h) (entries-kinds hs)
 
-leads-kindsLead : (phase : ControlTransferState) {ts : List TransferTrb} {ks : List Kind} → OfKinds ts ks → leads phase ts ≡ kindsLead phase ks
-leads-kindsLead phase none = refl
-leads-kindsLead phase (more {k = k} h hs) =
-    rw (becomes-takenAs phase h, isEmpty-kinds hs, leads-kindsLead (phaseAfter phase (takenAs phase k)) hs)
+leads-kindsLead : (phase : ControlTransferState) {ts : List TransferTrb} {ks : List Kind} → OfKinds ts ks → trbsLead phase ts ≡ kindsLead phase ks
+leads-kindsLead phase hs = ap (leads phase) (entries-kinds hs)
 
 -- ---- Each transfer of the grammar is taken
 
@@ -70,7 +68,7 @@ transfer-taken : {ks : List Kind} → IsControl ks → kindsLead ExpectSetupStag
 transfer-taken (without-data s) = status-taken-first s
 transfer-taken (with-data {ss = ss} d s) = data-taken ss d (status-taken s)
 
-pub isControl-leads : {ts : List TransferTrb} {ks : List Kind} → OfKinds ts ks → IsControl ks → leads ExpectSetupStageTrb ts ≡ true
+pub isControl-leads : {ts : List TransferTrb} {ks : List Kind} → OfKinds ts ks → IsControl ks → trbsLead ExpectSetupStageTrb ts ≡ true
 isControl-leads hs c = leads-kindsLead ExpectSetupStageTrb hs ∙ transfer-taken c
 
 -- ---- And no other, where the last TRB has its Chain bit off
@@ -151,13 +149,12 @@ transfer-only (statusStageTrb c ∷ ks) h u = absurd (false≢true h)
 transfer-only (normalTrb c ∷ ks) h u = absurd (false≢true h)
 transfer-only (eventDataTrb c ∷ ks) h u = absurd (false≢true h)
 
-pub leads-isControl : {ts : List TransferTrb} {ks : List Kind} → OfKinds ts ks → leads ExpectSetupStageTrb ts ≡ true → endsUnchained ks ≡ true → IsControl ks
+pub leads-isControl : {ts : List TransferTrb} {ks : List Kind} → OfKinds ts ks → trbsLead ExpectSetupStageTrb ts ≡ true → endsUnchained ks ≡ true → IsControl ks
 leads-isControl {ks = ks} hs h u = transfer-only ks (rw (leads-kindsLead ExpectSetupStageTrb hs) at h) u
 
 -- ---- TRBs that lead to a request are of these kinds
 
-kind-of : (phase : ControlTransferState) (v : TransferTrbVariant) (last rest : Bool) → leadsOn (becomes phase v) last rest ≡ true → (k : Kind) × OfKind v k
-unfolding becomes
+kind-of : (phase : ControlTransferState) (v : TransferTrbVariant) (last rest : Bool) → leadsOn (outcomeOf phase (kindOf v) (chainOf v)) last rest ≡ true → (k : Kind) × OfKind v k
 kind-of phase (SetupStage t) last rest h = (setupStageTrb, is-setup)
 kind-of phase (DataStage t) last rest h = (dataStageTrb (t .chain), is-data)
 kind-of phase (StatusStage t) last rest h = (statusStageTrb (t .chain), is-status)
@@ -167,25 +164,13 @@ kind-of phase (NoOp t) last rest h = absurd (false≢true h)
 kind-of phase Isoch last rest h = absurd (false≢true h)
 kind-of phase Unrecognized last rest h = absurd (false≢true h)
 
--- of a TRB that is not the last
-leads-rest : (o : Outcome) (rest : Bool) → leadsOn o false rest ≡ true → rest ≡ true
-leads-rest StartTransfer rest h = h
-leads-rest RestartTransfer rest h = absurd (false≢true h)
-leads-rest TakeData rest h = h
-leads-rest TakeLastData rest h = h
-leads-rest TakeChainedStatus rest h = h
-leads-rest SubmitRequest rest h = absurd (false≢true h)
-leads-rest outcome.Unexpected rest h = absurd (false≢true h)
-leads-rest outcome.Unsupported rest h = absurd (false≢true h)
-leads-rest outcome.Unrecognized rest h = absurd (false≢true h)
-
-pub leads-ofKinds : (phase : ControlTransferState) (ts : List TransferTrb) → leads phase ts ≡ true → (ks : List Kind) × OfKinds ts ks
+pub leads-ofKinds : (phase : ControlTransferState) (ts : List TransferTrb) → trbsLead phase ts ≡ true → (ks : List Kind) × OfKinds ts ks
 leads-ofKinds phase [] h = absurd (false≢true h)
 leads-ofKinds phase (t ∷ []) h =
     let k : (k : Kind) × OfKind (t .variant) k = kind-of phase (t .variant) true false h in
     (k .0 ∷ [], more (k .1) none)
 leads-ofKinds phase (t ∷ u ∷ ts) h =
-    let next : ControlTransferState = phaseAfter phase (becomes phase (t .variant)) in
-    let k : (k : Kind) × OfKind (t .variant) k = kind-of phase (t .variant) false (leads next (u ∷ ts)) h in
-    let ks : (ks : List Kind) × OfKinds (u ∷ ts) ks = leads-ofKinds next (u ∷ ts) (leads-rest (becomes phase (t .variant)) (leads next (u ∷ ts)) h) in
+    let next : ControlTransferState = phaseAfter phase (outcomeAt phase (entryOf t)) in
+    let k : (k : Kind) × OfKind (t .variant) k = kind-of phase (t .variant) false (trbsLead next (u ∷ ts)) h in
+    let ks : (ks : List Kind) × OfKinds (u ∷ ts) ks = leads-ofKinds next (u ∷ ts) (leads-rest phase (entryOf t) (entryOf u) (map entryOf ts) h) in
     (k .0 ∷ ks .0, more (k .1) (ks .1))

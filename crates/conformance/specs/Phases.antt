@@ -1,7 +1,6 @@
--- The phase table as a reader of TRB sequences, and the kinds of xHCI 1.2, 4.11.2.2. Assumes nothing.
+-- The kinds of xHCI 1.2, 4.11.2.2, of a list of TRBs. Assumes nothing.
 use mathlib.Core.Bool.{Bool, true, false}
 use mathlib.Core.List.{List, [], _∷_}
-use Rattle.trb.specs.declared.ControlTransferState.{ControlTransferState}
 use Rattle.trb.specs.declared.DataStageTrb.{DataStageTrb}
 use Rattle.trb.specs.declared.EventDataTrb.{EventDataTrb}
 use Rattle.trb.specs.declared.NormalTrb.{NormalTrb}
@@ -10,36 +9,7 @@ use Rattle.trb.specs.declared.StatusStageTrb.{StatusStageTrb}
 use Rattle.trb.specs.declared.TransferTrb.{TransferTrb}
 use Rattle.trb.specs.declared.TransferTrbVariant.{TransferTrbVariant}
 use Rattle.trb.specs.declared.TransferTrbVariant.the-variants.{SetupStage, DataStage, StatusStage, Normal, EventData}
-use Rattle.phase_table.specs.declared.Outcome.{Outcome}
-use Rattle.phase_table.specs.declared.Outcome.the-variants.{StartTransfer, RestartTransfer, TakeData, TakeLastData, TakeChainedStatus, SubmitRequest, Unexpected, Unsupported, Unrecognized}
-use Rattle.phase_table.specs.Outcomes.{phaseAfter}
-use Rattle.phase_table.specs.Table.{becomes}
 use Rattle.standard.specs.Control.{Kind, setupStageTrb, dataStageTrb, statusStageTrb, normalTrb, eventDataTrb}
-
--- ---- What the table takes
-
-abbrev pub isEmpty : {T : Type 0} → List T → Bool
-isEmpty [] = true
-isEmpty (t ∷ ts) = false
-
--- a TRB that is taken leads on; a request is to be made at the last. A second Setup begins another transfer
-abbrev pub leadsOn : Outcome → (last rest : Bool) → Bool
-leadsOn StartTransfer last rest = rest
-leadsOn RestartTransfer last rest = false
-leadsOn TakeData last rest = rest
-leadsOn TakeLastData last rest = rest
-leadsOn TakeChainedStatus last rest = rest
-leadsOn SubmitRequest last rest = last
-leadsOn Unexpected last rest = false
-leadsOn Unsupported last rest = false
-leadsOn Unrecognized last rest = false
-
--- do the TRBs lead, from this phase, to a request at the last of them, and to none before?
-abbrev pub leads : ControlTransferState → List TransferTrb → Bool
-leads phase [] = false
-leads phase (t ∷ ts) = leadsOn (becomes phase (t .variant)) (isEmpty ts) (leads (phaseAfter phase (becomes phase (t .variant))) ts)
-
--- ---- The kinds of a list of TRBs
 
 pub data OfKind : TransferTrbVariant → Kind → Type 0 where
   is-setup : {t : SetupStageTrb} → OfKind (SetupStage t) setupStageTrb

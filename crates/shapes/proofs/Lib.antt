@@ -1,0 +1,6 @@
+pub mod Words
+pub mod Order
+pub mod Theorems
+pub mod Spelt
+pub mod Counts
+pub mod LinesLaws
