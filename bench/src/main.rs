@@ -64,6 +64,7 @@ fn tables(measure: &mut dyn Measure) {
     print_tables("The TD's completion, per TRB", &names_and_row, &completions);
     control_table(bytes, measure);
     carry_out_table(bytes, measure);
+    raw_table(measure);
 }
 
 /// All sides answer the same. A row answers what the whole TD has beyond its submissions.
@@ -177,4 +178,41 @@ fn copy_frame(data: &[u8], memory: &mut [u8], repeats: u32) -> u64 {
         std::hint::black_box(&mut *memory);
     }
     u64::from(repeats)
+}
+
+/// Raw TRBs of one type, or of all in turn, that both sides take: no reserved bit is set.
+fn raw_trbs(types: &[u8]) -> Vec<u8> {
+    let word = |k: usize| {
+        let mut word = [0; 16];
+        let kind = types[k % types.len()];
+        if ![4, 8].contains(&kind) {
+            word[..8].copy_from_slice(&(k as u64 * 0x1_0000).to_le_bytes());
+        }
+        if [1, 2, 3].contains(&kind) {
+            word[9] = 2;
+        }
+        word[12] = (k % 2) as u8 | 0x20;
+        word[13] = kind << 2;
+        word
+    };
+    (0..RAW_TRBS as usize).flat_map(word).collect()
+}
+
+const RAW_TRBS: u32 = 64;
+
+fn raw_table(measure: &mut dyn Measure) {
+    println!("\nRaw TRBs decoded, per TRB\n\n| TRBs | the Rust's parser | decode | ratio |\n|---|---|---|---|");
+    let rows: [(&str, &[u8]); 3] =
+        [("Normal", &[1]), ("Setup, Data, Status", &[2, 3, 4]), ("of every type, and one unknown", &[1, 2, 3, 4, 5, 7, 8, 6])];
+    for (name, types) in rows {
+        let trbs = raw_trbs(types);
+        let mut sides: [Calls; 2] = [
+            Box::new(|repeats| unchanged::calls::parse(&trbs, repeats)),
+            Box::new(|repeats| product::decode(&trbs, repeats)),
+        ];
+        let sums: Vec<u64> = sides.iter_mut().map(|calls| calls(2)).collect();
+        assert!(sums[0] == sums[1], "{name}: the answers differ: {sums:?}");
+        let costs = measure.measure(RAW_TRBS, &mut sides);
+        println!("| {name} | {:.1} | {:.1} | {:.2} |", costs[0], costs[1], costs[1] / costs[0]);
+    }
 }

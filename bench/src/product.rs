@@ -42,6 +42,8 @@ extern "C" {
         repeats: u32,
     ) -> u64;
 
+    fn bench_raw_decode(trbs: *const u8, trbs_length: usize, repeats: u32) -> u64;
+
     fn bench_calls_control(
         log: *mut u8,
         log_length: usize,
@@ -167,4 +169,9 @@ pub fn carry_out(log: &[u8], data: &[u8], base: u64, memory: &mut [u8], repeats:
             repeats,
         )
     }
+}
+
+/// Decodes a row of raw TRBs, 16 bytes each.
+pub fn decode(trbs: &[u8], repeats: u32) -> u64 {
+    unsafe { bench_raw_decode(trbs.as_ptr(), trbs.len(), repeats) }
 }

@@ -120,6 +120,7 @@ pub enum Call {
     CreateIn { endpoint: u8, slot: u8 },
     CreateControl { endpoint: u8, slot: u8 },
     Submit(Trb),
+    SubmitRaw { address: u64, bytes: [u8; 16] },
     CompleteWithResult { status: Status, length: u64 },
     CompleteWithout { length: u64 },
     Cancel,
@@ -150,6 +151,7 @@ impl Display for Call {
             Self::CreateIn { endpoint, slot } => write!(f, "i {endpoint:x} {slot:x}"),
             Self::CreateControl { endpoint, slot } => write!(f, "c {endpoint:x} {slot:x}"),
             Self::Submit(trb) => write!(f, "s {trb}"),
+            Self::SubmitRaw { address, bytes } => write!(f, "u {address:x} {}", digits_of(bytes)),
             Self::CompleteWithResult { status, length } => write!(f, "d {:x} {length:x}", *status as u8),
             Self::CompleteWithout { length } => write!(f, "l {length:x}"),
             Self::Cancel => write!(f, "x"),
@@ -174,6 +176,19 @@ fn number(field: &str, limit: u64) -> Option<u64> {
         return None;
     }
     u64::from_str_radix(field, 16).ok().filter(|number| *number <= limit)
+}
+
+/// The bytes of a raw TRB: 32 digits in lower-case hex.
+pub fn raw_bytes(field: &str) -> Option<[u8; 16]> {
+    let digits = field.bytes().all(|digit| matches!(digit, b'0'..=b'9' | b'a'..=b'f'));
+    if !digits || field.len() != 32 {
+        return None;
+    }
+    u128::from_str_radix(field, 16).ok().map(u128::to_be_bytes)
+}
+
+pub fn digits_of(bytes: &[u8]) -> String {
+    bytes.iter().map(|byte| format!("{byte:02x}")).collect()
 }
 
 fn trb(fields: &[&str]) -> Option<Trb> {
@@ -212,6 +227,7 @@ pub fn parse(line: &str) -> Option<Call> {
             Call::CreateControl { endpoint, slot }
         }
         ["s", ..] => Call::Submit(trb(&fields[1..])?),
+        ["u", address, raw] => Call::SubmitRaw { address: number(address, u64::MAX)?, bytes: raw_bytes(raw)? },
         ["d", status, length] => Call::CompleteWithResult {
             status: *Status::ALL.get(number(status, 4)? as usize)?,
             length: number(length, MAX_DATA)?,

@@ -7,11 +7,13 @@ use crate::{
     device::xhci::{
         interrupter::EventSender,
         real_endpoint_handle::{ControlRequestProcessingResult, InTrbProcessingResult, InTrbProcessingStatus},
+        trb::RawTrb,
     },
     effects::{Effect, EffectLog},
     endpoint::{Connections, Endpoint, ResultFields},
     guest_memory::GuestMemory,
     questions::{self, Buffers, MAX_HELD, MAX_TRB_LENGTH},
+    raw_trb::{has_reserved_bit, parsed},
     record::{records, Surroundings},
     scripted_device::{DeviceResult, ScriptedDevice},
 };
@@ -161,6 +163,10 @@ impl Driver {
                 self.submit(&trb)?;
                 return self.answer_quietly().map(Some);
             }
+            Call::SubmitRaw { address, bytes } => {
+                self.submit_raw(RawTrb { address, buffer: bytes })?;
+                return self.answer_quietly().map(Some);
+            }
             Call::CompleteWithResult { status, length } => return self.complete(Some(status), length).map(Some),
             Call::CompleteWithout { length } => return self.complete(None, length).map(Some),
         }
@@ -183,6 +189,17 @@ impl Driver {
         let endpoint = self.endpoint.as_mut().ok_or(Stop::BadLine)?;
         asked(questions::of_submission(endpoint, trb, self.buffers, &self.memory))?;
         endpoint.submit(trb);
+        Ok(())
+    }
+
+    /// The Rust's own parser decodes the TRB.
+    fn submit_raw(&mut self, raw: RawTrb) -> Result<(), Stop> {
+        let endpoint = self.endpoint.as_mut().ok_or(Stop::BadLine)?;
+        if has_reserved_bit(&raw.buffer) {
+            return Err(Stop::Unasked("the Rust asks no reserved bit".to_string()));
+        }
+        asked(questions::of_submission(endpoint, &parsed(&raw), self.buffers, &self.memory))?;
+        endpoint.submit_raw(raw);
         Ok(())
     }
 

@@ -20,6 +20,7 @@ use crate::{
             },
             hotplug_endpoint_handle::BaseEndpointHandle,
             interrupter::EventSender,
+            trb::RawTrb,
         },
     },
     raw_trb::encode,
@@ -78,12 +79,16 @@ impl Endpoint {
     }
 
     pub fn submit(&mut self, trb: &Trb) {
+        self.submit_raw(encode(trb));
+    }
+
+    pub fn submit_raw(&mut self, raw: RawTrb) {
         let submitted = match self {
             Self::In(In { handle, submission_due }) => {
                 *submission_due = false;
-                handle.submit_trb(encode(trb))
+                handle.submit_trb(raw)
             }
-            Self::Control(Control { handle }) => handle.submit_trb(encode(trb)),
+            Self::Control(Control { handle }) => handle.submit_trb(raw),
         };
         submitted.expect("the Rust reports no error of its own");
     }

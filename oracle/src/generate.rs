@@ -2,12 +2,13 @@
 
 use crate::{
     call::{
-        Call, Kind, Status, Trb, CHAIN, CYCLE, DIRECTION, IMMEDIATE_DATA, INTERRUPT_ON_COMPLETION, INTERRUPT_ON_SHORT,
+        parse, Call, Kind, Status, Trb, CHAIN, CYCLE, DIRECTION, IMMEDIATE_DATA, INTERRUPT_ON_COMPLETION, INTERRUPT_ON_SHORT,
         MAX_COLLECT, MAX_DATA, MAX_LOG, MAX_WINDOW,
     },
     model::{Due, Model, Phase, Script, PHASES},
     questions::{MAX_ENDPOINT, MAX_HELD, MAX_TRB_LENGTH, MIN_COLLECT},
     random::Random,
+    raw_trb::{encode, with_unheld},
 };
 
 const LENGTHS: [u32; 18] = [0, 1, 2, 3, 7, 8, 9, 16, 64, 511, 512, 513, 4096, 65_535, 65_536, 131_070, 131_071, 100];
@@ -377,4 +378,17 @@ impl Generator {
         }
         trb
     }
+}
+
+/// The same script with each submission raw, and anything in the fields that the decoded form does not hold.
+pub fn raw_script(seed: u64, count: usize) -> String {
+    let mut random = Random::new(!seed);
+    let mut raw = |line: &str| match parse(line) {
+        Some(Call::Submit(trb)) => {
+            let bytes = with_unheld(&encode(&trb).buffer, &mut random);
+            format!("{}\n", Call::SubmitRaw { address: trb.address, bytes })
+        }
+        _ => format!("{line}\n"),
+    };
+    script(seed, count).lines().map(&mut raw).collect()
 }

@@ -44,6 +44,13 @@ fn bad_lines() {
         "s 5 0 4 0 0",
         "s 1 0 0 0 100000000",
         "h 1 0 40 0 0",
+        "u 0",
+        "u 0 0000000000000000000000000020000",
+        "u 0 000000000000000000000000002000000",
+        "u 0 0000000000000000000000000020000A",
+        "u 00 00000000000000000000000000200000",
+        "u 00000000000000000000000000200000",
+        "u 0 0 00000000000000000000000000200000",
         "x\r",
         "d 0",
         "l",
@@ -94,6 +101,8 @@ fn refused_calls() {
         ("c 3 2\nh 8 0 0 0 0\n", 2, "the Rust cannot hold this TRB in this state"),
         ("i 3 2\ns 0 0 0 0 0\nh 8 0 0 0 0\n", 3, "the Rust cannot hold this TRB in this state"),
         ("i 3 2\nh 1 0 0 0 20000\n", 2, "the Rust decodes no such length"),
+        ("i 3 2\nu 0 00000000000000000000000080200000\n", 2, "the Rust asks no reserved bit"),
+        ("i 3 2\nu 0 00700000000000000100000000040000\n", 2, "question 6"),
     ];
     for (script, line, reason) in cases {
         assert_eq!(stop(script), unasked(line, reason), "{script:?}");
@@ -137,4 +146,13 @@ fn carry_out() {
     assert_ne!(written[3], untouched[3]);
     // The device's bytes 5, 16 and 27: 5 + 2 * 16 + 3 * 27.
     assert_eq!(written[3], "ok 0 - - -\nst control status collecting 1 out 0 3 76 0 000000000000\n");
+}
+
+/// A raw TRB is what the Rust's own parser makes of it: a submission answers the same either way.
+#[test]
+fn raw_trbs() {
+    let decoded = run(b"i 3 2\ns 1 1000 d 8000 200\nd 0 258\n");
+    let raw = run(b"i 3 2\nu 1000 0080000000000000000240ff2f060000\nd 0 258\n");
+    assert_eq!(raw.stopped, None);
+    assert_eq!(raw.answers, decoded.answers);
 }

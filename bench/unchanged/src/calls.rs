@@ -16,7 +16,7 @@ use crate::{
         xhci::{
             endpoint_handle::{ControlEndpointHandle, EndpointHandle, TdBasedInEndpointHandle, TrbProcessingResult},
             interrupter::EventSender,
-            trb::RawTrb,
+            trb::{RawTrb, TransferTrbVariant},
         },
     },
     surroundings::{Device, Memory, Records},
@@ -129,4 +129,27 @@ pub fn control_transfer(data: &'static [u8], length: u32, repeats: u32) -> u64 {
         _ => raw_trb(i, STATUS_STAGE, 0, 0, INTERRUPT_ON_COMPLETION, 0),
     };
     (0..repeats).map(|_| run_td(&mut endpoint, &records, 3, true, stage)).sum()
+}
+
+/// Parses a row of raw TRBs, 16 bytes each, and sums what `bench_raw` sums.
+pub fn parse(trbs: &[u8], repeats: u32) -> u64 {
+    let mut sum = 0u64;
+    for _ in 0..repeats {
+        for bytes in std::hint::black_box(trbs).chunks_exact(16) {
+            let buffer: [u8; 16] = bytes.try_into().expect("a TRB has 16 bytes");
+            let cycle_bit = buffer[12] & 0x1 != 0;
+            let number = match TransferTrbVariant::parse(buffer) {
+                TransferTrbVariant::SetupStage(t) => u64::from(t.length),
+                TransferTrbVariant::DataStage(t) => t.data_pointer.wrapping_add(t.transfer_length.into()),
+                TransferTrbVariant::StatusStage(t) => u64::from(t.direction),
+                TransferTrbVariant::Normal(t) => t.data_pointer.wrapping_add(t.transfer_length.into()),
+                TransferTrbVariant::EventData(t) => t.event_data,
+                TransferTrbVariant::NoOp(t) => u64::from(t.interrupt_on_completion),
+                TransferTrbVariant::Isoch => 5,
+                TransferTrbVariant::Unrecognized(..) => 6,
+            };
+            sum = sum.wrapping_add(number).wrapping_add(u64::from(cycle_bit));
+        }
+    }
+    sum
 }

@@ -1,12 +1,12 @@
 -- Laws of little-endian numbers, over the width. Assumes nothing.
-use Prim.Native.Nat.{ℕ, zero, suc, _+_, _*_, _/_, _<_, _≤_, _^_}
+use Prim.Native.Nat.{ℕ, zero, suc, _+_, _*_, _/_, _%_, _<_, _≤_, _^_}
 use mathlib.Core.Path.{_≡_, refl, ap, _∙_}
 use mathlib.Core.List.{List, [], _∷_, _++_}
 use native.Mathlib.Nat.{pow-suc, div-lt-iff-lt-mul, div-add-mod, zero-lt-suc, mul-add, mul-comm, mul-assoc}
 use native.Mathlib.Omega.{arith}
 use lib.ListN.{length, take, drop, getD, length-drop}
 use lib.Seq.{length-take-le, take-add, drop-drop, drop-cons}
-use Rattle.buffers.specs.LittleEndian.{leBytes, leNumber, leField}
+use Rattle.buffers.specs.LittleEndian.{leBytes, leNumber, leField, AllBytes}
 
 pub length-leBytes : (n x : ℕ) → length (leBytes n x) ≡ n
 length-leBytes zero x = refl
@@ -33,3 +33,28 @@ leField-add at m n l h =
 -- a field of one byte
 pub leField-one : (at : ℕ) (l : List ℕ) → at < length l → leField at 1 l ≡ getD l at 0
 leField-one at l h = rw (drop-cons l at 0 h) (omega arith)
+
+pub AllBytes-take : (n : ℕ) (l : List ℕ) → AllBytes l → AllBytes (take n l)
+AllBytes-take zero l h = tt
+AllBytes-take (suc n) [] h = tt
+AllBytes-take (suc n) (b ∷ l) h = (h .0, AllBytes-take n l (h .1))
+
+pub AllBytes-drop : (n : ℕ) (l : List ℕ) → AllBytes l → AllBytes (drop n l)
+AllBytes-drop zero l h = h
+AllBytes-drop (suc n) [] h = tt
+AllBytes-drop (suc n) (b ∷ l) h = AllBytes-drop n l (h .1)
+
+pub leBytes-leNumber : (bs : List ℕ) → AllBytes bs → leBytes (length bs) (leNumber bs) ≡ bs
+leBytes-leNumber [] h = refl
+leBytes-leNumber (b ∷ bs) h =
+    let byte : b < 256 = h .0 in
+    let low : (b + 256 * leNumber bs) % 256 ≡ b = omega arith in
+    let high : (b + 256 * leNumber bs) / 256 ≡ leNumber bs = omega arith in
+    rw (low, high, leBytes-leNumber bs (h .1))
+
+pub leNumber-lt : (bs : List ℕ) → AllBytes bs → leNumber bs < 256 ^ length bs
+leNumber-lt [] h = omega arith
+leNumber-lt (b ∷ bs) h =
+    let byte : b < 256 = h .0 in
+    let rest : leNumber bs < 256 ^ length bs = leNumber-lt bs (h .1) in
+    rw pow-suc (omega arith)

@@ -1,9 +1,12 @@
-// The numbers of a call script: lower-case hex with no leading zeros.
+// The numbers of a call script, lower-case hex with no leading zeros, and its raw TRBs, lower-case hex byte by byte.
 ghost use mathlib.Core.Path.{_≡_};
+ghost use mathlib.Core.List.{_++_};
 ghost use Prim.Native.Nat.{_≤_};
 ghost use lib.ListN.{length};
+ghost use Rattle.numerals.specs.Digits.{digits};
 ghost use Rattle.numerals.specs.Widths.{hexPlaces};
 ghost use Rattle.call_number.specs.Numbers.{digitValue, digitsFrom, hasLeadingZero, numberOf};
+ghost use Rattle.call_number.specs.RawBytes.{rawPlaces, noRawBytes, joined, halvesOf, rawOf};
 
 pub enum Number {
     Is(u64),
@@ -71,4 +74,84 @@ pub fn read_number(field: &[u8]) -> Number
         return Number::Bad;
     }
     read_digits(field)
+}
+
+// ---- Raw TRBs
+
+// Digits of a raw TRB: sixteen bytes of two digits each.
+pub const RAW_PLACES: usize = 32;
+
+// The bytes of a raw TRB; zeros where the field is none.
+pub struct RawBytes {
+    pub good: bool,
+    pub bytes: [u8; 16],
+}
+
+fn no_raw_bytes() -> RawBytes
+    ensures { λ r. ⌜ r ≡ noRawBytes ⌝ }
+{
+    RawBytes {
+        good: false,
+        bytes: [0; 16],
+    }
+}
+
+// The bytes of two numbers, of each the highest place first.
+fn bytes_of(first: u64, second: u64) -> [u8; 16]
+    ensures { λ r. ⌜ r ≡ digits 256 8 first ++ digits 256 8 second ⌝ }
+{
+    [
+        (first / 0x100000000000000 % 256) as u8,
+        (first / 0x1000000000000 % 256) as u8,
+        (first / 0x10000000000 % 256) as u8,
+        (first / 0x100000000 % 256) as u8,
+        (first / 0x1000000 % 256) as u8,
+        (first / 0x10000 % 256) as u8,
+        (first / 0x100 % 256) as u8,
+        (first % 256) as u8,
+        (second / 0x100000000000000 % 256) as u8,
+        (second / 0x1000000000000 % 256) as u8,
+        (second / 0x10000000000 % 256) as u8,
+        (second / 0x100000000 % 256) as u8,
+        (second / 0x1000000 % 256) as u8,
+        (second / 0x10000 % 256) as u8,
+        (second / 0x100 % 256) as u8,
+        (second % 256) as u8,
+    ]
+}
+
+fn joined(first: Number, second: Number) -> RawBytes
+    ensures { λ r. ⌜ r ≡ joined first second ⌝ }
+{
+    match first {
+        Number::Is(high) => match second {
+            Number::Is(low) => RawBytes {
+                good: true,
+                bytes: bytes_of(high, low),
+            },
+            Number::Bad => no_raw_bytes(),
+        },
+        Number::Bad => no_raw_bytes(),
+    }
+}
+
+fn read_halves(field: &[u8]) -> RawBytes
+    requires { ⌜ length (now field) ≡ rawPlaces ⌝ }
+    ensures { λ r. ⌜ r ≡ halvesOf (now (field .entry)) ⌝ }
+{
+    let half = numerals::HEX_PLACES;
+    let first = read_digits(&field[..half]);
+    let second = read_digits(&field[half..]);
+    joined(first, second)
+}
+
+// The bytes whose digits the field is, in the order of the bytes.
+pub fn read_raw(field: &[u8]) -> RawBytes
+    ensures { λ r. ⌜ r ≡ rawOf (now (field .entry)) ⌝ }
+{
+    if field.len() == RAW_PLACES {
+        read_halves(field)
+    } else {
+        no_raw_bytes()
+    }
 }

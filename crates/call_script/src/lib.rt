@@ -1,5 +1,6 @@
 // One line of a call script: the call that it asks for.
 use call_number::Number;
+use raw_trb::DecodedTrb;
 use trb::ControlSubmissionState;
 use trb::ControlTransferState;
 use trb::DataStageTrb;
@@ -168,6 +169,47 @@ fn read_fields(line: &[u8]) -> Fields {
     }
 }
 
+// A line whose last field is a raw TRB: its letter, the numbers between them, and the TRB's bytes.
+struct RawFields {
+    good: bool,
+    letter: u8,
+    count: usize,
+    first: u64,
+    bytes: [u8; 16],
+}
+
+fn no_raw_fields() -> RawFields {
+    RawFields {
+        good: false,
+        letter: 0,
+        count: 0,
+        first: 0,
+        bytes: [0; 16],
+    }
+}
+
+fn read_raw_fields(line: &[u8]) -> RawFields {
+    if line.len() <= call_number::RAW_PLACES {
+        return no_raw_fields();
+    }
+    let from = line.len() - call_number::RAW_PLACES;
+    let end = from - 1;
+    if line[end] != b' ' {
+        return no_raw_fields();
+    }
+    let fields = read_fields(&line[..end]);
+    let numbers = fields.numbers;
+    let raw = call_number::read_raw(&line[from..]);
+    let bytes = raw.bytes;
+    RawFields {
+        good: fields.good & raw.good,
+        letter: fields.letter,
+        count: fields.count,
+        first: numbers[0],
+        bytes: bytes,
+    }
+}
+
 // ---- TRBs
 
 enum ScriptTrb {
@@ -199,17 +241,17 @@ fn has_flag(flags: u64, flag: u64) -> bool {
     flags & flag != 0
 }
 
-const CYCLE: u64 = 1;
+pub const CYCLE: u64 = 1;
 
-const CHAIN: u64 = 2;
+pub const CHAIN: u64 = 2;
 
-const INTERRUPT_ON_COMPLETION: u64 = 4;
+pub const INTERRUPT_ON_COMPLETION: u64 = 4;
 
-const INTERRUPT_ON_SHORT: u64 = 8;
+pub const INTERRUPT_ON_SHORT: u64 = 8;
 
-const IMMEDIATE_DATA: u64 = 16;
+pub const IMMEDIATE_DATA: u64 = 16;
 
-const DIRECTION: u64 = 32;
+pub const DIRECTION: u64 = 32;
 
 fn with_variant(fields: TrbFields, variant: TransferTrbVariant) -> ScriptTrb {
     let t = TransferTrb {
@@ -432,6 +474,31 @@ fn submission(fields: Fields) -> Call
     }
 }
 
+// A raw TRB, decoded. No number of a script has so many digits, so that a line which has one has no numbers alone.
+fn raw_submission(line: &[u8]) -> Call
+    ensures { λ r. ⌜ WithinLimits r ⌝ }
+{
+    let fields = read_raw_fields(line);
+    if !fields.good {
+        return Call::Bad;
+    }
+    if fields.letter != b'u' {
+        return Call::Bad;
+    }
+    if fields.count != 1 {
+        return Call::Bad;
+    }
+    let bytes = fields.bytes;
+    let decoded = raw_trb::decode(bytes);
+    let variant = decoded.variant;
+    let t = TransferTrb {
+        variant: variant,
+        addr: fields.first,
+        cycle_bit: decoded.cycle_bit,
+    };
+    Call::Submit(t)
+}
+
 fn holding(fields: Fields) -> Call
     ensures { λ r. ⌜ WithinLimits r ⌝ }
 {
@@ -568,7 +635,7 @@ pub fn read_call(line: &[u8]) -> Call
 {
     let fields = read_fields(line);
     if !fields.good {
-        return Call::Bad;
+        return raw_submission(line);
     }
     let letter = fields.letter;
     match letter {
@@ -584,4 +651,61 @@ pub fn read_call(line: &[u8]) -> Call
         b'p' => made_up(fields),
         _ => Call::Bad,
     }
+}
+
+// ---- Lines of the program `raw_trbs`
+
+pub enum RawLine {
+    Decode(DecodedTrb),
+    Encode(TransferTrb),
+    Bad,
+}
+
+// `d RAW`: the TRB is decoded here, since an enum holds no array.
+fn decoding(line: &[u8]) -> RawLine {
+    let fields = read_raw_fields(line);
+    if !fields.good {
+        return RawLine::Bad;
+    }
+    if fields.letter != b'd' {
+        return RawLine::Bad;
+    }
+    if fields.count != 0 {
+        return RawLine::Bad;
+    }
+    let bytes = fields.bytes;
+    let decoded = raw_trb::decode(bytes);
+    RawLine::Decode(decoded)
+}
+
+// `e KIND FLAGS A B`
+fn encoding(fields: Fields) -> RawLine {
+    if fields.letter != b'e' {
+        return RawLine::Bad;
+    }
+    if fields.count != 4 {
+        return RawLine::Bad;
+    }
+    let numbers = fields.numbers;
+    let parts = TrbFields {
+        kind: numbers[0],
+        addr: 0,
+        flags: numbers[1],
+        a: numbers[2],
+        b: numbers[3],
+    };
+    let t = script_trb(parts);
+    match t {
+        ScriptTrb::Is(t) => RawLine::Encode(t),
+        ScriptTrb::Bad => RawLine::Bad,
+    }
+}
+
+// What a line, which comes without its line feed, asks of `raw_trbs`.
+pub fn read_raw_line(line: &[u8]) -> RawLine {
+    let fields = read_fields(line);
+    if !fields.good {
+        return decoding(line);
+    }
+    encoding(fields)
 }

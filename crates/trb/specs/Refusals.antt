@@ -1,9 +1,9 @@
--- The numbers of document 01's questions. Assumes nothing.
+-- The numbers of the questions of documents 01 and 02. Assumes nothing.
 use Prim.Native.Nat.{ℕ}
 use Rattle.trb.specs.declared.Refusal.{Refusal}
-use Rattle.trb.specs.declared.Refusal.the-variants.{BufferTooShort, UnsoundBlock, OutOfTurn, TransferTooLong, TooManyHeld, OutsideGuestMemory, TooMuchCollected, DeviceResultMismatch, DataTooLong, MalformedLog, WriteOutOfRange, IdOutOfRange}
+use Rattle.trb.specs.declared.Refusal.the-variants.{BufferTooShort, UnsoundBlock, OutOfTurn, TransferTooLong, TooManyHeld, OutsideGuestMemory, TooMuchCollected, DeviceResultMismatch, DataTooLong, MalformedLog, WriteOutOfRange, IdOutOfRange, NotEncodable}
 
--- 01, Questions asked
+-- 01, Questions asked; 02, R-6
 abbrev pub refusalNumber : Refusal → ℕ
 refusalNumber BufferTooShort = 1
 refusalNumber UnsoundBlock = 2
@@ -17,3 +17,4 @@ refusalNumber DataTooLong = 9
 refusalNumber MalformedLog = 10
 refusalNumber WriteOutOfRange = 11
 refusalNumber IdOutOfRange = 12
+refusalNumber NotEncodable = 23

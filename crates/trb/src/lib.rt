@@ -287,7 +287,7 @@ pub enum TdBasedNormalSubmissionState {
 
 // ---- Answers
 
-// The questions of document 01: a case for each no.
+// The questions of documents 01 and 02: a case for each no.
 pub enum Refusal {
     BufferTooShort,
     UnsoundBlock,
@@ -301,6 +301,7 @@ pub enum Refusal {
     MalformedLog,
     WriteOutOfRange,
     IdOutOfRange,
+    NotEncodable,
 }
 
 pub fn refusal_number(refusal: Refusal) -> u8
@@ -319,6 +320,7 @@ pub fn refusal_number(refusal: Refusal) -> u8
         Refusal::MalformedLog => 10,
         Refusal::WriteOutOfRange => 11,
         Refusal::IdOutOfRange => 12,
+        Refusal::NotEncodable => 23,
     }
 }
 

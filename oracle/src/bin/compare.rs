@@ -14,6 +14,7 @@ use oracle::{
 
 const USAGE: &str = "\
 compare FIRST LAST COUNT       for each seed from FIRST to LAST, COUNT calls
+compare raw FIRST LAST COUNT   the same with each TRB raw
 compare NAME [FIRST LAST]      exhaustive-control, exhaustive-in or wrap, all parts or those from FIRST to LAST
 compare FILE.calls ..          call scripts
 The product's program is named by REPLAY.
@@ -87,6 +88,12 @@ fn main() -> io::Result<()> {
         [first, last, count] if first.parse::<u64>().is_ok() => {
             for seed in number(first)..=number(last) {
                 comparison.take(&format!("seed {seed}"), &generate::script(seed, number(count) as usize))?;
+            }
+        }
+        ["raw", first, last, count] => {
+            for seed in number(first)..=number(last) {
+                let script = generate::raw_script(seed, number(count) as usize);
+                comparison.take(&format!("raw seed {seed}"), &script)?;
             }
         }
         ref files => {

@@ -6,6 +6,7 @@ use oracle::{exhaustive, generate};
 
 const USAGE: &str = "\
 generate SEED COUNT                 a random script of COUNT calls
+generate raw SEED COUNT             the same with each TRB raw
 generate exhaustive-control [PART]  all control chains of up to five TRBs
 generate exhaustive-in [PART]       all IN TDs of up to three TRBs
 generate wrap                       the request length past 2^32 by Unrecognized TRBs
@@ -26,6 +27,9 @@ fn main() -> io::Result<()> {
         ["parts", name] => writeln!(out, "{}", family_named(name).parts),
         [seed, count] if seed.bytes().all(|digit| digit.is_ascii_digit()) => {
             out.write_all(generate::script(number(seed), number(count) as usize).as_bytes())
+        }
+        ["raw", seed, count] => {
+            out.write_all(generate::raw_script(number(seed), number(count) as usize).as_bytes())
         }
         [name] => {
             let family = family_named(name);

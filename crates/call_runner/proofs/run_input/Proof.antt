@@ -1,5 +1,5 @@
--- `call_runner::run_input` meets its contract. The loop's invariant: the bytes held lie in the input, and the lent buffers keep their lengths.
--- The measure is the number of turns left. Assumes nothing.
+-- `call_runner::run_input` is safe and ends. The loop's invariant: what is left of the input lies in its buffer, and the lent buffers keep their
+-- lengths. The measure is the number of turns left. Assumes nothing.
 use Prim.Native.Nat.{_≤_}
 use mathlib.Core.Path.{_≡_, _∙_}
 use native.Mathlib.Omega.{arith}
@@ -9,10 +9,12 @@ use Rattle.call_runner.proofs.run_input.Statement.{statement}
 use Rattle.call_runner.proofs.run_input.Tie as tie
 
 abbrev Inv-loop : tie.InvT-loop
-Inv-loop text₀ input₀ log₀ collect₀ «data» window₀ progress₀ held₀ turns₀ text input log collect window progress held turns = (held ≤ length input₀) × ((length text ≡ length text₀) × ((length input ≡ length input₀) × ((length log ≡ length log₀) × ((length collect ≡ length collect₀) × (length window ≡ length window₀)))))
+Inv-loop text₀ input₀ log₀ collect₀ «data» window₀ progress₀ from₀ filled₀ turns₀ text input log collect window progress from filled turns =
+    (from ≤ filled) × ((filled ≤ length input₀) × ((length text ≡ length text₀) × ((length input ≡ length input₀)
+    × ((length log ≡ length log₀) × ((length collect ≡ length collect₀) × (length window ≡ length window₀))))))
 
 abbrev μ-loop : tie.MeasureT-loop
-μ-loop text₀ input₀ log₀ collect₀ «data» window₀ progress₀ held₀ turns₀ text input log collect window progress held turns = turns
+μ-loop text₀ input₀ log₀ collect₀ «data» window₀ progress₀ from₀ filled₀ turns₀ text input log collect window progress from filled turns = turns
 
 started-requires : tie.Need-started-requires Inv-loop μ-loop
 started-requires c κs = search needs
@@ -20,8 +22,11 @@ started-requires c κs = search needs
 loop-holds : tie.Need-loop-holds Inv-loop μ-loop
 loop-holds c = search needs
 
-run-turn-requires : tie.Need-run-turn-requires Inv-loop μ-loop
-run-turn-requires c κs = search needs
+next-line-requires : tie.Need-next-line-requires Inv-loop μ-loop
+next-line-requires c κs = search needs
+
+run-step-requires : tie.Need-run-step-requires Inv-loop μ-loop
+run-step-requires c κs = search needs
 
 turns-left-requires : tie.Need-turns-left-requires Inv-loop μ-loop
 turns-left-requires c κs = search needs
@@ -31,16 +36,20 @@ loop-less c = search needs
 
 loop-again : tie.Need-loop-again Inv-loop μ-loop
 loop-again c =
-    let t = c .before .before .before .before .before .before .before .before .before .before .before .before .run-turn in
-    let kept = c .before .before .before .before .before .before .before .before .before .before .before .before .before .before .before .before .before .before .before .loop .inv .1 in (
-      omega (arith, t .ensures, kept .1 .0),
+    let t = c .before .before .before .before .before .before .before .before .before .run-step in
+    let n = c .before .before .before .before .before .before .before .before .before .before .before .before .before .before .before .before .before .next-line in
+    let kept = c .before .before .before .before .before .before .before .before .before .before .before .before .before .before .before .before .before .before .before .before .loop .inv .1 .1 in (
+      n .ensures .left,
       (
-        t .kept .0 ∙ kept .0,
+        omega (arith, n .ensures .room, kept .1 .0),
         (
-          t .kept .1 .1 .0 ∙ kept .1 .0,
+          t .kept .0 ∙ kept .0,
           (
-            t .kept .1 .1 .1 .1 .0 ∙ kept .1 .1 .0,
-            (t .kept .1 .1 .1 .1 .1 .0 ∙ kept .1 .1 .1 .0, t .kept .1 .1 .1 .1 .1 .1 .1 .0 ∙ kept .1 .1 .1 .1),
+            n .kept .0 ∙ kept .1 .0,
+            (
+              t .kept .1 .1 .1 .1 .0 ∙ kept .1 .1 .0,
+              (t .kept .1 .1 .1 .1 .1 .0 ∙ kept .1 .1 .1 .0, t .kept .1 .1 .1 .1 .1 .1 .1 .0 ∙ kept .1 .1 .1 .1),
+            ),
           ),
         ),
       ),
@@ -72,7 +81,8 @@ run-input-spec =
     μ-loop
     started-requires
     loop-holds
-    run-turn-requires
+    next-line-requires
+    run-step-requires
     turns-left-requires
     loop-less
     loop-again
