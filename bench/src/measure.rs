@@ -37,7 +37,7 @@ impl Measure for Nanoseconds {
 pub struct Dumps;
 
 /// Enough that what a call does once, as creating the endpoint, does not count.
-const REPEATS_COUNTED: u32 = 200;
+const REPEATS_COUNTED: u32 = 20;
 
 impl Measure for Dumps {
     fn measure(&mut self, _units: u32, sides: &mut [Calls]) -> Vec<f64> {

@@ -3,10 +3,13 @@
 /// The essence frame of document 00 is twenty Normals of this length.
 pub const TRANSFER_LENGTH: u32 = 65536;
 pub const FRAME_TRBS: u32 = 20;
-pub const SIZES: [u32; 4] = [1, 3, FRAME_TRBS, 64];
+/// The TRBs that an endpoint can hold.
+pub const MAX_HELD: u32 = 512;
+pub const SIZES: [u32; 5] = [1, 3, FRAME_TRBS, 64, MAX_HELD];
 pub const CONTROL_TRBS: u32 = 3;
 pub const CONTROL_LENGTH: u32 = 18;
-pub const LOG_BYTES: usize = 4096;
+/// Two records of 32 bytes for each of them.
+pub const LOG_BYTES: usize = 2 * 32 * MAX_HELD as usize;
 pub const COLLECT_BYTES: usize = 65535;
 
 #[derive(Clone, Copy, PartialEq)]

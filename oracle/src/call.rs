@@ -2,6 +2,8 @@
 
 use std::fmt::{self, Display, Formatter};
 
+use crate::questions::MIN_LOG;
+
 #[derive(Debug, Clone, Copy, PartialEq, Eq)]
 pub enum Kind {
     Unrecognized,
@@ -165,7 +167,7 @@ impl Display for Call {
 }
 
 pub const MAX_WINDOW: u64 = 0x40000;
-pub const MAX_LOG: u64 = 0x1000;
+pub const MAX_LOG: u64 = MIN_LOG;
 pub const MAX_COLLECT: u64 = 0x10000;
 pub const MAX_DATA: u64 = 0x100000;
 

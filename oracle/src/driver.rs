@@ -3,7 +3,7 @@
 use std::sync::Arc;
 
 use crate::{
-    call::{parse, Call, Status, Trb, MAX_WINDOW},
+    call::{parse, Call, Status, Trb, MAX_LOG, MAX_WINDOW},
     device::xhci::{
         interrupter::EventSender,
         real_endpoint_handle::{ControlRequestProcessingResult, InTrbProcessingResult, InTrbProcessingStatus},
@@ -77,7 +77,7 @@ struct Driver {
 }
 
 const FIRST_BASE: u64 = 0x8000;
-const FIRST_BUFFERS: Buffers = Buffers { log: 0x1000, collect: 0xffff };
+const FIRST_BUFFERS: Buffers = Buffers { log: MAX_LOG, collect: 0xffff };
 
 fn asked(question: Option<u8>) -> Result<(), Stop> {
     question.map_or(Ok(()), |number| Err(Stop::Unasked(format!("question {number}"))))

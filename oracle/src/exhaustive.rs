@@ -210,7 +210,7 @@ fn in_part(part: usize) -> String {
 }
 
 /// Setup and Data IN of the longest length, chained; then Normals of that length, with an Unrecognized TRB whenever
-/// 64 are held, which lets them go and keeps phase and length, until the length has passed 2^32.
+/// no place is left, which lets them go and keeps phase and length, until the length has passed 2^32.
 fn wrap(_part: usize) -> String {
     let mut script = Script::default();
     let mut length = u64::from(MAX_TRB_LENGTH);

@@ -63,7 +63,7 @@ impl Style {
             longest: random.pick(&[9, 600, 600, MAX_TRB_LENGTH]),
             at_longest: random.pick(&[0, 0, 0, 90]),
             disturbed: random.pick(&[0, 5, 60, 150]),
-            calls: random.pick(&[10, 40, 150, 300]),
+            calls: random.pick(&[10, 10, 40, 40, 150, 150, 300, 300, 3 * MAX_HELD as u64]),
         }
     }
 }
@@ -233,7 +233,7 @@ impl Generator {
             self.script.call(Call::Buffers { log: MAX_LOG, collect });
         }
         if self.model().held.len() <= 1 {
-            self.target = self.random.pick(&[1, 1, 2, 3, 4, 6, 20, MAX_HELD - 1, MAX_HELD, MAX_HELD + 1]);
+            self.target = self.random.pick(&[1, 1, 2, 3, 4, 6, 20, 64, MAX_HELD - 1, MAX_HELD - 1, MAX_HELD, MAX_HELD + 1]);
         }
         let trb = self.submitted_trb(kind);
         self.script.call(Call::Submit(trb));

@@ -67,7 +67,7 @@ impl Model {
         }
     }
 
-    /// Can the TRB come without being the 65th held?
+    /// Can the TRB come without being one too many?
     pub fn has_room(&self, kind: Kind) -> bool {
         let clears = kind == Kind::SetupStage && self.phase != Some(Phase::Setup);
         !self.would_hold(kind) || clears || self.held.len() < MAX_HELD

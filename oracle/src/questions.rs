@@ -11,10 +11,11 @@ use crate::{
     guest_memory::GuestMemory,
 };
 
-pub const MIN_LOG: u64 = 4096;
 pub const MIN_COLLECT: u64 = 65_535;
 pub const MAX_TRB_LENGTH: u32 = 131_071;
-pub const MAX_HELD: usize = 64;
+pub const MAX_HELD: usize = 512;
+/// Two records of 32 bytes for each TRB held.
+pub const MIN_LOG: u64 = 32 * 2 * MAX_HELD as u64;
 pub const MAX_COLLECTED: usize = 65_535;
 pub const MAX_ENDPOINT: u8 = 31;
 

@@ -1,6 +1,9 @@
 //! What the driver does not ask of the Rust: bad lines, and calls that document 01 refuses.
 
-use oracle::driver::{run, Stop};
+use oracle::{
+    driver::{run, Stop},
+    questions::MAX_HELD,
+};
 
 fn stop(script: &str) -> Option<(usize, Stop)> {
     run(script.as_bytes()).stopped
@@ -30,7 +33,7 @@ fn bad_lines() {
         "w 00 1",
         "w 0A 1",
         "w 10000000000000000 1",
-        "b 1001 0",
+        "b 8001 0",
         "b 0 10001",
         "s 6 0 0 0 0",
         "s 1 0 20 0 0",
@@ -68,8 +71,8 @@ fn bad_lines() {
     }
     assert_eq!(stop("i 3 2\nx"), Some((2, Stop::BadLine)), "no line feed at the end");
     assert_eq!(run(b"i 3 2\n\xff\n").stopped, Some((2, Stop::BadLine)));
-    let full = format!("i 3 2\n{}", "h 8 0 0 0 0\n".repeat(65));
-    assert_eq!(stop(&full), Some((66, Stop::BadLine)), "a 65th made-up TRB");
+    let full = format!("i 3 2\n{}", "h 8 0 0 0 0\n".repeat(MAX_HELD + 1));
+    assert_eq!(stop(&full), Some((MAX_HELD + 2, Stop::BadLine)), "one made-up TRB too many");
     assert_eq!(stop(""), None);
 }
 
@@ -79,9 +82,9 @@ fn refused_calls() {
         ("i 0 2\n", 1, "question 12"),
         ("i 20 2\n", 1, "question 12"),
         ("c 3 0\n", 1, "question 12"),
-        ("i 3 2\nb fff ffff\ns 8 0 0 0 0\n", 3, "question 1"),
-        ("c 3 2\nb 1000 fffe\ns 8 0 0 0 0\n", 3, "question 1"),
-        ("i 3 2\ns 8 0 0 0 0\nb fff ffff\nl 0\n", 4, "question 1"),
+        ("i 3 2\nb 7fff ffff\ns 8 0 0 0 0\n", 3, "question 1"),
+        ("c 3 2\nb 8000 fffe\ns 8 0 0 0 0\n", 3, "question 1"),
+        ("i 3 2\ns 8 0 0 0 0\nb 7fff ffff\nl 0\n", 4, "question 1"),
         ("i 3 2\np 2\nd 0 0\n", 3, "question 2"),
         ("i 3 2\np 2\ns 8 0 0 0 0\n", 3, "question 2"),
         ("i 3 2\nl 0\n", 2, "question 3"),
@@ -107,9 +110,9 @@ fn refused_calls() {
     for (script, line, reason) in cases {
         assert_eq!(stop(script), unasked(line, reason), "{script:?}");
     }
-    let full = "h 8 0 0 0 0\n".repeat(64);
-    assert_eq!(stop(&format!("i 3 2\n{full}s 8 0 0 0 0\n")), unasked(66, "question 5"));
-    assert_eq!(stop(&format!("i 3 2\n{full}s 0 0 0 0 0\n")), None, "not held, so not the 65th");
+    let full = "h 8 0 0 0 0\n".repeat(MAX_HELD);
+    assert_eq!(stop(&format!("i 3 2\n{full}s 8 0 0 0 0\n")), unasked(MAX_HELD + 2, "question 5"));
+    assert_eq!(stop(&format!("i 3 2\n{full}s 0 0 0 0 0\n")), None, "not held, so not one too many");
 }
 
 #[test]
@@ -123,7 +126,7 @@ fn accepted_at_the_limits() {
         "c 3 2\np 2 0 0 0\ns 1 0 0 8000 ffff\n",
         "c 3 2\np 2 0 0 0\ns 1 0 10 0 1ffff\n",
         "i 3 2\nb 0 0\nx\n",
-        "i 3 2\nb 1000 0\ns 8 0 0 0 0\n",
+        "i 3 2\nb 8000 0\ns 8 0 0 0 0\n",
     ];
     for script in cases {
         assert_eq!(stop(script), None, "{script:?}");

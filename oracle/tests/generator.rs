@@ -7,6 +7,7 @@ use oracle::{
     driver::run,
     exhaustive::FAMILIES,
     generate::script,
+    questions::MAX_HELD,
 };
 
 #[test]
@@ -74,8 +75,8 @@ fn seen(script: &str) -> BTreeSet<String> {
             }
         }
         let held = if state[1] == "in" { &state[3] } else { &state[4] };
-        if held == "64" {
-            seen.insert(format!("{} {} with 64", state[1], awaited(&state)));
+        if *held == MAX_HELD.to_string() {
+            seen.insert(format!("{} {} full", state[1], awaited(&state)));
         }
         if text.contains("\nout 11\n") {
             seen.insert(format!("{} out 11", state[1]));
@@ -101,7 +102,7 @@ fn seen(script: &str) -> BTreeSet<String> {
 
 #[test]
 fn random_scripts_reach_every_case() {
-    let seen: BTreeSet<String> = (1..=150).flat_map(|seed| seen(&script(seed, 500))).collect();
+    let seen: BTreeSet<String> = (1..=150).flat_map(|seed| seen(&script(seed, 3000))).collect();
     let kinds = ["Unrecognized", "Normal", "SetupStage", "DataStage", "StatusStage", "Isoch", "EventData", "NoOp"];
     let statuses = ["Success", "Stall", "TransactionError", "Disconnect"];
     let mut wanted: Vec<String> = vec![];
@@ -117,7 +118,7 @@ fn random_scripts_reach_every_case() {
     wanted.extend(["submit", "collecting", "real", "local", "unsupported"].map(|due| format!("in cancel in {due}")));
     let control_due = ["submit", "collecting", "parser", "unexpected", "request"];
     wanted.extend(control_due.map(|due| format!("control cancel in {due}")));
-    wanted.extend(["in collecting with 64", "in real with 64", "control request with 64"].map(str::to_string));
+    wanted.extend(["in collecting full", "in real full", "control request full"].map(str::to_string));
     wanted
         .extend(["in out 11", "control out 11", "collected 65535", "write in a window past 2^64"].map(str::to_string));
     wanted.push("request length past 2^32".to_string());

@@ -21,8 +21,8 @@ use crate::device::{
     },
 };
 
-/// The records of one call are at most 128.
-const PLACES: usize = 256;
+/// The records of one call are at most 1,024.
+const PLACES: usize = 2048;
 
 #[derive(Debug)]
 struct Log {

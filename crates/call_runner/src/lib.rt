@@ -3,7 +3,7 @@ use script_lines::Found;
 use script_lines::Step;
 use session::Session;
 ghost use mathlib.Core.Path.{_≡_};
-ghost use Prim.Native.Nat.{_≤_};
+ghost use Prim.Native.Nat.{_*_, _≤_};
 ghost use lib.ListN.{length};
 ghost use Rattle.trb.specs.Limits.{minLog};
 ghost use Rattle.call_script.specs.Limits.{maxWindow, maxLentLog, maxLentCollect, maxScriptData};
@@ -143,6 +143,15 @@ fn run_input(
 
 // ---- Buffers
 
+// Bytes of the text that is not yet written out: room for two answers at least.
+const TEXT: usize = 2 * state_text::MAX_ANSWER;
+
+fn text_buffer() -> [u8; TEXT]
+    ensures { λ r. ⌜ length r ≡ 2 * maxAnswer ⌝ }
+{
+    [0u8; TEXT]
+}
+
 fn log_buffer() -> [u8; call_script::MAX_LENT_LOG]
     ensures { λ r. ⌜ length r ≡ maxLentLog ⌝ }
 {
@@ -170,7 +179,7 @@ fn data_buffer() -> [u8; call_script::MAX_SCRIPT_DATA]
 // Runs the call script on standard input and prints the answers.
 pub fn run() {
     let mut input = io::large_buffer();
-    let mut text = io::large_buffer();
+    let mut text = text_buffer();
     let mut log = log_buffer();
     let mut collect = collect_buffer();
     let mut window = window_buffer();

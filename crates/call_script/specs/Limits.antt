@@ -1,5 +1,6 @@
 -- The limits of a call script. `script_limits` in src/lib.rt proves that the code's constants are these. Assumes nothing.
 use Prim.Native.Nat.{ℕ, _≤_}
+use Rattle.trb.specs.Limits.{minLog}
 use Rattle.call_script.specs.declared.ScriptLimits.{ScriptLimits}
 use Rattle.call_script.specs.declared.Call.{Call}
 use Rattle.call_script.specs.declared.Call.the-variants.{Window, Buffers, CreateIn, CreateControl, Submit, CompleteWithResult, CompleteWithout, Cancel, Hold, MakeUpIn, MakeUpControl, Bad}
@@ -8,9 +9,9 @@ use Rattle.call_script.specs.declared.Call.the-variants.{Window, Buffers
 abbrev pub maxWindow : ℕ
 maxWindow = 0x40000
 
--- bytes of the lent log
+-- bytes of the lent log: as many as a call may ask for
 abbrev pub maxLentLog : ℕ
-maxLentLog = 0x1000
+maxLentLog = minLog
 
 -- bytes of the lent collect buffer
 abbrev pub maxLentCollect : ℕ

@@ -24,8 +24,8 @@ ghost use Rattle.call_script.specs.Limits.{scriptLimits, WithinLimits};
 // Bytes of the guest window.
 pub const MAX_WINDOW: usize = 0x40000;
 
-// Bytes of the lent log.
-pub const MAX_LENT_LOG: usize = 0x1000;
+// Bytes of the lent log: as many as a call may ask for.
+pub const MAX_LENT_LOG: usize = trb::MIN_LOG;
 
 // Bytes of the lent collect buffer.
 pub const MAX_LENT_COLLECT: usize = 0x10000;

@@ -40,6 +40,6 @@ factsOf b = record {
   sound = heldSound Control (heldOf b);
 }
 
--- ids in range; at most 64 TRBs held; collected count at most 65,535; all held of kinds this endpoint supports, each length at most 131,071
+-- ids in range; at most 512 TRBs held; collected count at most 65,535; all held of kinds this endpoint supports, each length at most 131,071
 unfoldable pub soundBlock : BlockFacts → Bool
 soundBlock f = idsInRange (f .«endpoint_id») (f .«slot_id») && (leb (f .held) maxHeld && (leb (f .collected) maxCollected && f .sound))

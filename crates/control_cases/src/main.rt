@@ -182,9 +182,13 @@ fn device_result(state: ControlSubmissionState) -> ControlRequestProcessingResul
     }
 }
 
+fn log_buffer() -> [u8; trb::MIN_LOG] {
+    [0u8; trb::MIN_LOG]
+}
+
 // Completes, and prints what comes of it.
 fn complete(block: ControlBlock) -> ControlBlock {
-    let mut log = io::buffer();
+    let mut log = log_buffer();
     let device = [7u8; 18];
     let state = block.state;
     let result = device_result(state);
@@ -198,7 +202,7 @@ fn complete(block: ControlBlock) -> ControlBlock {
 
 // Submits a TRB, and prints what comes of it.
 fn submit(window: &[u8], block: ControlBlock, t: TransferTrb) -> ControlBlock {
-    let mut log = io::buffer();
+    let mut log = log_buffer();
     let mut collect = io::large_buffer();
     let submitted = control_endpoint::submit_trb(&mut log, &mut collect, block, t, 0, window);
     let answer = submitted.answer;
@@ -223,7 +227,7 @@ fn run(window: &[u8], block: ControlBlock, trbs: [TransferTrb; ROW], count: usiz
 
 // Submits and completes a TRB, and prints nothing.
 fn pass(window: &[u8], block: ControlBlock, t: TransferTrb) -> ControlBlock {
-    let mut log = io::buffer();
+    let mut log = log_buffer();
     let mut collect = io::large_buffer();
     let submitted = control_endpoint::submit_trb(&mut log, &mut collect, block, t, 0, window);
     let between = submitted.block;
@@ -272,7 +276,7 @@ fn collected_limit() -> [TransferTrb; ROW] {
     ]
 }
 
-// The 64th TRB may be held, the 65th is refused; a Setup is then the only one held.
+// The 512th TRB may be held, the 513th is refused; a Setup is then the only one held.
 fn held_limit() -> [TransferTrb; ROW] {
     [
         normal(8192, 0, true),
@@ -306,13 +310,13 @@ fn started(window: &[u8], length: u32) -> ControlBlock {
     pass(window, block, data_stage(4112, length, true))
 }
 
-// So many rounds of an Unrecognized TRB and 64 Normals of 131,071 bytes.
+// So many rounds of an Unrecognized TRB and as many Normals of 131,071 bytes as can be held.
 fn lengthened(window: &[u8], block: ControlBlock, rounds: usize) -> ControlBlock {
     let mut next = block;
     let mut i = 0;
     while i < rounds {
         let cleared = pass(window, next, unrecognized(4128));
-        next = pass_often(window, cleared, normal(4144, 131071, true), 64);
+        next = pass_often(window, cleared, normal(4144, 131071, true), trb::MAX_HELD);
         i += 1;
     }
     next
@@ -323,12 +327,17 @@ fn run_rows(window: &[u8]) {
     run(window, fresh(), unrecognized_in_a_chain(), 4);
     print(b"65,536 bytes, 65,535, one more, none more\n");
     run(window, fresh(), collected_limit(), 5);
-    print(b"The 64th held TRB, the 65th, and Setup\n");
-    let full = pass_often(window, started(window, 0), normal(4128, 0, true), 61);
+    print(b"The 512th held TRB, the 513th, and Setup\n");
+    let full = pass_often(
+        window,
+        started(window, 0),
+        normal(4128, 0, true),
+        trb::MAX_HELD - 3,
+    );
     run(window, full, held_limit(), 5);
     // 32,769 TRBs of 131,071 bytes ask for 4,295,065,599 bytes, which is 98,303 modulo 2^32.
     print(b"A request length past 2^32\n");
-    let long = lengthened(window, started(window, 131071), 512);
+    let long = lengthened(window, started(window, 131071), 64);
     run(window, long, after_unrecognized(), 3);
 }
 

@@ -1,4 +1,4 @@
--- Laws of what a completion logs: it is a walk over the TRBs that are freed, and one event more at most; 128 records at most.
+-- Laws of what a completion logs: it is a walk over the TRBs that are freed, and one event more at most; 1,024 records at most.
 -- Assumes nothing.
 use Prim.Native.Nat.{ℕ, _+_, _*_, _≤_}
 use mathlib.Core.Path.{_≡_, refl, ap}
@@ -62,7 +62,7 @@ module _ (a : ℕ) (e : EndpointId) (s : SlotId) (ts : List TransferTrb) (n : �
   walk-ending (Fail c r) = ap (λ (rs : List Record). rs ++ (eventOf a c e s ∷ [])) (walk-silent atStart (take n ts))
   walk-ending (Realize input m) = append-nil _
 
--- 01, The log: a call writes at most 128 records
+-- 01, The log: a call writes at most 1,024 records
 module _ (a : ℕ) (e : EndpointId) (s : SlotId) (ts : List TransferTrb) (few : length ts ≤ maxHeld) where
   pub length-ending : (x : Ending) → length (endingRecords x a e s ts) ≤ maxRecords
   unfolding endingRecords

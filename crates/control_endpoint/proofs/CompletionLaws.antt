@@ -1,4 +1,4 @@
--- Laws of completion: what it comes to by the number of its answer, the places behind it, and that it logs at most 128 records.
+-- Laws of completion: what it comes to by the number of its answer, the places behind it, and that it logs at most 1,024 records.
 -- Assumes nothing.
 use Prim.Native.Nat.{ℕ, zero, suc, _+_, _-_, _≤_}
 use mathlib.Core.Path.{_≡_, refl, sym, ap, _∙_}
@@ -109,7 +109,7 @@ module _ (b : ControlBlock) (x : Ending) (td : TdInfo) (d : ℕ) (own : td ≡ i
         length-ending (b .request .address) (b .«endpoint_id») (b .«slot_id») (heldOf b) (omega (arith, few, length-take (b .held) (b .trbs))) x,
       )
 
--- 01, The log: a call writes at most 128 records
+-- 01, The log: a call writes at most 1,024 records
 pub length-completion : (log : ℕ) (b : ControlBlock) (d : ControlRequestProcessingResult) (n : ℕ) → length (completion log b d n .records) ≤ maxRecords
 unfolding completion accepted
 length-completion log b d n = by (firstNo (completionQuestions log (factsOf b) d n)) refl

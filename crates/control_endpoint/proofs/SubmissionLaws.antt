@@ -1,4 +1,4 @@
--- Laws of submission: what it comes to by the number of its answer, the places after it, and that it logs at most 128 records.
+-- Laws of submission: what it comes to by the number of its answer, the places after it, and that it logs at most 1,024 records.
 -- Assumes nothing.
 use Prim.Native.Nat.{ℕ, zero, suc, _+_, _-_, _<_, _≤_}
 use mathlib.Core.Path.{_≡_, refl, sym, ap, _∙_}
@@ -146,7 +146,7 @@ module _ (b : ControlBlock) (o : Outcome) (d : ℕ) (drops : d ≡ placesDropped
         dropped-held (restarts o) (b .held),
       )
 
--- 01, The log: a call writes at most 128 records
+-- 01, The log: a call writes at most 1,024 records
 length-recordsOf : (b : ControlBlock) (o : Outcome) → b .held ≤ maxHeld → length (recordsOf o b) ≤ maxRecords
 length-recordsOf b o few =
     let d : ℕ = placesDropped (restarts o) (b .held) in

@@ -15,11 +15,11 @@ use Rattle.control_transfer.specs.declared.TrbData.{TrbData}
 use Rattle.control_transfer.specs.Data.{dataOf, inReach}
 use Rattle.control_transfer.specs.Transfers.{collectable}
 
--- is the log at least 4,096 bytes and the collect buffer at least 65,535?
+-- is the log at least 32,768 bytes and the collect buffer at least 65,535?
 abbrev pub longEnough : ℕ → ℕ → Bool
 longEnough log collect = leb minLog log && leb maxCollected collect
 
--- if this TRB would be held, are then at most 64 held?
+-- if this TRB would be held, are then at most 512 held?
 unfoldable pub hasRoom : Outcome → ℕ → Bool
 hasRoom o held = askedIf (holds o) (leb (cond (restarts o) 1 (held + 1)) maxHeld)
 

@@ -17,7 +17,7 @@ ghost use Rattle.control_questions.specs.Submission.{hasRoom, reaches, s
 
 // ---- Submission
 
-// Question 5: if this TRB would be held, are then at most 64 held?
+// Question 5: if this TRB would be held, are then at most 512 held?
 fn is_room(outcome: Outcome, held: usize) -> bool
     requires { ⌜ held ≤ maxHeld ⌝ }
     ensures { λ r. ⌜ r ≡ hasRoom outcome held ⌝ }

@@ -66,7 +66,7 @@ factsOf b = record { «endpoint_id» = b .«endpoint_id»; «slot_id» = b .«sl
 
 -- ---- Question 2
 
--- ids in range; at most 64 TRBs held, all of kinds this endpoint supports, each length at most 131,071; a block awaiting the
+-- ids in range; at most 512 TRBs held, all of kinds this endpoint supports, each length at most 131,071; a block awaiting the
 -- device holds a Normal
 unfoldable pub soundBlock : BlockFacts → Bool
 soundBlock f =

@@ -19,7 +19,7 @@ use Rattle.in_request.specs.Requests.{inGuestMemory}
 -- ---- Submission
 
 -- of a TRB behind h others that are held, with a guest window of size bytes at base: is the length of a Normal TRB at most 131,071?
--- If it would be held, are then at most 64 held, and does its range lie in the guest window?
+-- If it would be held, are then at most 512 held, and does its range lie in the guest window?
 abbrev pub trbQuestions : ℕ → TransferTrbVariant → ℕ → ℕ → List (Bool × ℕ)
 trbQuestions h v base size =
     (leb (transferLength v) maxTransferLength, 4)
@@ -27,7 +27,7 @@ trbQuestions h v base size =
     ∷ (askedIf (supported In v) (inGuestMemory v base size), 6)
     ∷ []
 
--- with a log of l bytes: is it at least 4,096 bytes, is the block sound, is a submission due?
+-- with a log of l bytes: is it at least 32,768 bytes, is the block sound, is a submission due?
 unfoldable pub submissionQuestions : ℕ → BlockFacts → TransferTrb → ℕ → ℕ → List (Bool × ℕ)
 submissionQuestions l f t base size =
     (leb minLog l, 1) ∷ (soundBlock f, 2) ∷ (submissionDue (f .state), 3) ∷ trbQuestions (f .held) (t .variant) base size
@@ -39,7 +39,7 @@ isGiven NoneGiven = false
 isGiven (Given st) = true
 
 -- with a log of l bytes and n bytes of data: is a completion due, is a device result given exactly when the block awaits one, is the
--- data at most 16,777,215 bytes?
+-- data at most 67,108,352 bytes?
 unfoldable pub completionQuestions : ℕ → BlockFacts → InTrbProcessingResult → ℕ → List (Bool × ℕ)
 completionQuestions l f r n =
     (leb minLog l, 1)

@@ -3,9 +3,9 @@
 use Prim.Native.Nat.{ℕ, _*_}
 use Rattle.trb.specs.declared.LimitTable.{LimitTable}
 
--- 01, Submission: at most 64 TRBs held
+-- 01, Submission, with 02, R-5: at most 512 TRBs held
 abbrev pub maxHeld : ℕ
-maxHeld = 64
+maxHeld = 512
 
 -- 01, Submission: the length of a DataStage or Normal TRB at most 131,071
 abbrev pub maxTransferLength : ℕ
@@ -15,9 +15,9 @@ maxTransferLength = 131071
 abbrev pub maxCollected : ℕ
 maxCollected = 65535
 
--- 01, Completion: the device's data at most 16,777,215 bytes
+-- 01, Completion, with 02, R-5: the device's data at most 67,108,352 bytes, as many as the TRBs held can take
 abbrev pub maxData : ℕ
-maxData = 16777215
+maxData = maxHeld * maxTransferLength
 
 -- 01, Creation: the endpoint id 1 to 31
 abbrev pub maxEndpointId : ℕ
@@ -27,11 +27,11 @@ maxEndpointId = 31
 abbrev pub recordLength : ℕ
 recordLength = 32
 
--- 01, The log: a call writes at most 128 records, two for each TRB held
+-- 01, The log, with 02, R-5: a call writes at most 1,024 records, two for each TRB held
 abbrev pub maxRecords : ℕ
 maxRecords = 2 * maxHeld
 
--- 01, Submission: the log at least 4,096 bytes, room for that many records
+-- 01, Submission, with 02, R-5: the log at least 32,768 bytes, room for that many records
 abbrev pub minLog : ℕ
 minLog = recordLength * maxRecords
 

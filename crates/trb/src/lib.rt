@@ -12,7 +12,7 @@ ghost use Rattle.trb.specs.Trbs.{transferLength, chainOf};
 // ---- Limits: each has this name here and one in specs/Limits.antt; `limits` ties the two.
 
 // TRBs that a block holds.
-pub const MAX_HELD: usize = 64;
+pub const MAX_HELD: usize = 512;
 
 // The length of a DataStage or Normal TRB, a field of 17 bits.
 pub const MAX_TRANSFER_LENGTH: u32 = 131071;
@@ -20,8 +20,8 @@ pub const MAX_TRANSFER_LENGTH: u32 = 131071;
 // Bytes that a control OUT transfer collects.
 pub const MAX_COLLECTED: usize = 65535;
 
-// Bytes of a device result.
-pub const MAX_DATA: usize = 16777215;
+// Bytes of a device result: as many as the TRBs held can take.
+pub const MAX_DATA: usize = MAX_HELD * (MAX_TRANSFER_LENGTH as usize);
 
 // Endpoint ids run from 1 to this; slot ids from 1 to the largest byte.
 pub const MAX_ENDPOINT_ID: u8 = 31;

@@ -67,7 +67,7 @@ start k = k .before .before .before .before .before .before .before .before .bef
 abbrev asked-before : AtFreed → AtAsked
 asked-before c = c .before .before .before .before .before .before
 
--- a block has 64 places
+-- a block has 512 places
 len : (s : Start) → length (s .args .block .trbs) ≡ maxHeld
 len s = simp length-map at (s .good .1 .0 .1 .1 .1 .1 .1 .1 .1 .1 .1 .1 .0 .1 .0 .1)
 

@@ -73,7 +73,7 @@ outcome k = k .before .becomes .result
 abbrev asked-before : AtDropped → AtAsked
 asked-before f = f .before .before .before .before .before
 
--- a block has 64 places
+-- a block has 512 places
 len : (s : Start) → length (s .args .block .trbs) ≡ maxHeld
 len s = simp length-map at (s .good .1 .1 .0 .1 .1 .1 .1 .1 .1 .1 .1 .1 .1 .0 .1 .0 .1)
 

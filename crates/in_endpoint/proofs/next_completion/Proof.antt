@@ -50,7 +50,7 @@ abbrev μ-loop2 : tie.MeasureT-loop2
 
 -- ---- Question 2's loop
 
--- a block has 64 places
+-- a block has 512 places
 len : (s : tie.Start Inv-loop μ-loop Inv-loop2 μ-loop2) → length (s .args .block .trbs) ≡ maxHeld
 len s = simp length-map at (s .good .1 .0 .1 .1 .1 .1 .1 .1 .0 .1 .0 .1)
 

@@ -38,7 +38,7 @@ abbrev μ-loop : tie.MeasureT-loop
 
 -- ---- Question 2's loop
 
--- a block has 64 places
+-- a block has 512 places
 len : (s : tie.Start Inv-loop μ-loop) → length (s .args .block .trbs) ≡ maxHeld
 len s = simp length-map at (s .good .1 .0 .1 .1 .1 .1 .1 .1 .0 .1 .0 .1)
 

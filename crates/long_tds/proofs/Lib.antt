@@ -1,0 +1,4 @@
+mod PartLaws
+mod WalkLaws
+pub mod Laws
+pub mod Examples
