@@ -120,7 +120,8 @@ pub enum Call {
     Window { base: u64, length: u64 },
     Buffers { log: u64, collect: u64 },
     CreateIn { endpoint: u8, slot: u8 },
-    CreateControl { endpoint: u8, slot: u8 },
+    /// For guests of the release named; where none is, of release 4.
+    CreateControl { endpoint: u8, slot: u8, release: Option<u8> },
     Submit(Trb),
     SubmitRaw { address: u64, bytes: [u8; 16] },
     CompleteWithResult { status: Status, length: u64 },
@@ -151,7 +152,10 @@ impl Display for Call {
             Self::Window { base, length } => write!(f, "w {base:x} {length:x}"),
             Self::Buffers { log, collect } => write!(f, "b {log:x} {collect:x}"),
             Self::CreateIn { endpoint, slot } => write!(f, "i {endpoint:x} {slot:x}"),
-            Self::CreateControl { endpoint, slot } => write!(f, "c {endpoint:x} {slot:x}"),
+            Self::CreateControl { endpoint, slot, release: None } => write!(f, "c {endpoint:x} {slot:x}"),
+            Self::CreateControl { endpoint, slot, release: Some(release) } => {
+                write!(f, "c {endpoint:x} {slot:x} {release:x}")
+            }
             Self::Submit(trb) => write!(f, "s {trb}"),
             Self::SubmitRaw { address, bytes } => write!(f, "u {address:x} {}", digits_of(bytes)),
             Self::CompleteWithResult { status, length } => write!(f, "d {:x} {length:x}", *status as u8),
@@ -226,7 +230,11 @@ pub fn parse(line: &str) -> Option<Call> {
         }
         ["c", endpoint, slot] => {
             let (endpoint, slot) = ids(endpoint, slot)?;
-            Call::CreateControl { endpoint, slot }
+            Call::CreateControl { endpoint, slot, release: None }
+        }
+        ["c", endpoint, slot, release @ ("4" | "5")] => {
+            let (endpoint, slot) = ids(endpoint, slot)?;
+            Call::CreateControl { endpoint, slot, release: release.parse().ok() }
         }
         ["s", ..] => Call::Submit(trb(&fields[1..])?),
         ["u", address, raw] => Call::SubmitRaw { address: number(address, u64::MAX)?, bytes: raw_bytes(raw)? },

@@ -150,7 +150,10 @@ impl Driver {
                 self.endpoint = Some(Endpoint::new_in(endpoint, slot, self.connections.clone()));
                 return self.answer_quietly().map(Some);
             }
-            Call::CreateControl { endpoint, slot } => {
+            Call::CreateControl { release: Some(5), .. } => {
+                return Err(Stop::Unasked("the Rust has the rule of release 4 alone".to_string()));
+            }
+            Call::CreateControl { endpoint, slot, .. } => {
                 asked(questions::of_creation(endpoint, slot))?;
                 self.endpoint = Some(Endpoint::new_control(endpoint, slot, self.connections.clone()));
                 return self.answer_quietly().map(Some);

@@ -136,7 +136,7 @@ fn control_ends(requested: u64) -> Vec<(Status, u64)> {
 fn control_part(part: usize) -> String {
     let first = CONTROL_SYMBOLS[part / CONTROL_SYMBOLS.len()];
     let second = CONTROL_SYMBOLS[part % CONTROL_SYMBOLS.len()];
-    let create = Call::CreateControl { endpoint: ENDPOINT, slot: SLOT };
+    let create = Call::CreateControl { endpoint: ENDPOINT, slot: SLOT, release: None };
     let mut script = Script::default();
     for length in 2..=LONGEST_CHAIN {
         for row in rows(&[first, second], &CONTROL_SYMBOLS, length) {
@@ -216,7 +216,7 @@ fn wrap(_part: usize) -> String {
     let mut length = u64::from(MAX_TRB_LENGTH);
     let mut position = 2;
     script.call(Call::Window { base: FIRST_BYTE, length: MAX_WINDOW });
-    script.call(Call::CreateControl { endpoint: ENDPOINT, slot: SLOT });
+    script.call(Call::CreateControl { endpoint: ENDPOINT, slot: SLOT, release: None });
     let long = |kind, position: usize| Trb { a: FIRST_BYTE, ..symbol(kind, CHAIN, 0, MAX_TRB_LENGTH).at(position) };
     let start = [symbol(Kind::SetupStage, 0, 0x80, 0).at(0), long(Kind::DataStage, 1)];
     let submit = |script: &mut Script, trb: Trb| {

@@ -113,7 +113,7 @@ impl Generator {
         let any_slot = 1 + self.random.below(255) as u8;
         let slot = self.random.pick(&[1, 2, 255, any_slot]);
         self.script.call(if self.style.is_control {
-            Call::CreateControl { endpoint, slot }
+            Call::CreateControl { endpoint, slot, release: None }
         } else {
             Call::CreateIn { endpoint, slot }
         });

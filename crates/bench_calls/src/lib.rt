@@ -1,5 +1,6 @@
 // What bench/ times: the product on repeated work, over numbers and lent bytes alone. Each function answers a checksum.
 // One call site for each timed function, as a program has that drives an endpoint.
+use control_block::GuestRelease;
 use trb::ControlRequestProcessingResult;
 use trb::DataStageTrb;
 use trb::EndpointId;
@@ -126,7 +127,7 @@ pub extern "C" fn bench_calls_control(
     transfer_length: u32,
     repeats: u32,
 ) -> u64 {
-    let created = control_endpoint::create(EndpointId(1), SlotId(2));
+    let created = control_endpoint::create(EndpointId(1), SlotId(2), GuestRelease::Release4);
     let mut block = created.block;
     let mut sum = 0;
     let mut k = 0;

@@ -1,5 +1,6 @@
 // One line of a call script: the call that it asks for.
 use call_number::Number;
+use control_block::GuestRelease;
 use raw_trb::DecodedTrb;
 use trb::ControlSubmissionState;
 use trb::ControlTransferState;
@@ -81,7 +82,7 @@ pub enum Call {
     Window(u64, usize),
     Buffers(usize, usize),
     CreateIn(EndpointId, SlotId),
-    CreateControl(EndpointId, SlotId),
+    CreateControl(EndpointId, SlotId, GuestRelease),
     Submit(TransferTrb),
     CompleteWithResult(DeviceStatus, usize),
     CompleteWithout(usize),
@@ -440,7 +441,7 @@ fn buffers(fields: Fields) -> Call
     Call::Buffers(log, collect)
 }
 
-fn creation(fields: Fields, control: bool) -> Call
+fn in_creation(fields: Fields) -> Call
     ensures { λ r. ⌜ WithinLimits r ⌝ }
 {
     let numbers = fields.numbers;
@@ -455,10 +456,41 @@ fn creation(fields: Fields, control: bool) -> Call
     if MAX_BYTE < slot {
         return Call::Bad;
     }
-    if control {
-        return Call::CreateControl(EndpointId(endpoint as u8), SlotId(slot as u8));
-    }
     Call::CreateIn(EndpointId(endpoint as u8), SlotId(slot as u8))
+}
+
+// For guests of the release of this number.
+fn control_creation_for(endpoint_id: EndpointId, slot_id: SlotId, release: u64) -> Call
+    ensures { λ r. ⌜ WithinLimits r ⌝ }
+{
+    match release {
+        4 => Call::CreateControl(endpoint_id, slot_id, GuestRelease::Release4),
+        5 => Call::CreateControl(endpoint_id, slot_id, GuestRelease::Release5),
+        _ => Call::Bad,
+    }
+}
+
+// A line that names no release is for release 4.
+fn control_creation(fields: Fields) -> Call
+    ensures { λ r. ⌜ WithinLimits r ⌝ }
+{
+    let numbers = fields.numbers;
+    let count = fields.count;
+    let endpoint = numbers[0];
+    let slot = numbers[1];
+    if MAX_BYTE < endpoint {
+        return Call::Bad;
+    }
+    if MAX_BYTE < slot {
+        return Call::Bad;
+    }
+    let endpoint_id = EndpointId(endpoint as u8);
+    let slot_id = SlotId(slot as u8);
+    match count {
+        2 => control_creation_for(endpoint_id, slot_id, 4),
+        3 => control_creation_for(endpoint_id, slot_id, numbers[2]),
+        _ => Call::Bad,
+    }
 }
 
 fn submission(fields: Fields) -> Call
@@ -641,8 +673,8 @@ pub fn read_call(line: &[u8]) -> Call
     match letter {
         b'w' => window(fields),
         b'b' => buffers(fields),
-        b'i' => creation(fields, false),
-        b'c' => creation(fields, true),
+        b'i' => in_creation(fields),
+        b'c' => control_creation(fields),
         b's' => submission(fields),
         b'd' => completion_with_result(fields),
         b'l' => completion_without(fields),

@@ -12,3 +12,4 @@ pub mod IdTheorems
 pub mod ChainTheorems
 pub mod CallTheorems
 pub mod ControlOutTheorems
+pub mod ReleaseTheorems

@@ -11,11 +11,12 @@ use Rattle.trb.specs.declared.InTrbProcessingStatus.the-variants as status
 use Rattle.trb.specs.declared.TransferTrbVariant.the-variants.{Unrecognized}
 use Rattle.log.specs.Records.{requestKind}
 use Rattle.log.specs.declared.Record.{Record}
-use Rattle.standard.specs.Control.{Kind, dataStage, statusStage, setupStage, transferred, dataFailed, controlEvents, immediateAllowed}
+use Rattle.control_block.specs.declared.GuestRelease.the-variants.{Release4, Release5}
+use Rattle.standard.specs.Control.{Kind, ControlTransfer, dataStage, statusStage, setupStage, transferred, dataFailed, statusFailed, controlEvents, immediateAllowed}
 use Rattle.standard.specs.Usb.{Setup, setupBytes}
 use Rattle.standard.specs.Xhci.{normal, eventData, noOp, transferEvent, ownResidual, succeeded, stalled, unanswered, ended, events, delivery, isTd}
 use Rattle.conformance.specs.Phases.{OfKind}
-use Rattle.conformance.specs.Runs.{seen, standardSeen, inCall, inRun, controlCall, ControlRan, controlRun, normalTrb, eventDataTrb, noOpTrb, setupStageTrb, dataStageTrb, statusStageTrb, unrecognizedTrb}
+use Rattle.conformance.specs.Runs.{seen, standardSeen, inCall, inRun, ControlCall, controlCall, ControlRan, controlRunFor, controlRun, normalTrb, eventDataTrb, noOpTrb, setupStageTrb, dataStageTrb, statusStageTrb, unrecognizedTrb}
 use Rattle.conformance.specs.Translate.{runsOn, halts, haltsAt, told}
 
 -- USB 2.0, 9.4.3: GET_DESCRIPTOR with wLength 64
@@ -129,21 +130,45 @@ final-code-standard = refl
 
 -- ---- 5: Setup with IOC, Data IN of 18, Status; Stall, in the data stage and with no byte
 
-pub control-stall-engine :
-    told (controlRun (
+abbrev stalledCalls : List ControlCall
+stalledCalls =
     controlCall (setupStageTrb 0x1000 getDescriptor true) device.NoneGiven 0
     ∷ controlCall (dataStageTrb 0x1010 0x8000 18 false false false false) device.NoneGiven 0
     ∷ controlCall (statusStageTrb 0x1020 false false) device.Stall 0
     ∷ []
-    ) .records) ≡ transferEvent 6 false 0x1000 0 ∷ []
-unfolding controlRun
+
+pub control-stall-engine : told (controlRunFor Release4 stalledCalls .records) ≡ transferEvent 6 false 0x1000 0 ∷ []
+unfolding controlRunFor
 control-stall-engine = refl
 
-pub control-stall-standard :
-    controlEvents ownResidual
-    (record { setupTrb = setupStage 0x1000 true; dataTrbs = dataStage 0x1010 0x8000 18 false false ∷ []; statusTrbs = statusStage 0x1020 false ∷ [] })
-    (dataFailed 6 0) ≡ transferEvent 1 false 0x1000 0 ∷ transferEvent 6 false 0x1010 18 ∷ []
+pub control-stall-release-5-engine : told (controlRunFor Release5 stalledCalls .records) ≡ transferEvent 6 false 0x1010 0 ∷ []
+unfolding controlRunFor
+control-stall-release-5-engine = refl
+
+abbrev stalledTds : ControlTransfer
+stalledTds = record { setupTrb = setupStage 0x1000 true; dataTrbs = dataStage 0x1010 0x8000 18 false false ∷ []; statusTrbs = statusStage 0x1020 false ∷ [] }
+
+pub control-stall-standard : controlEvents ownResidual stalledTds (dataFailed 6 0) ≡ transferEvent 1 false 0x1000 0 ∷ transferEvent 6 false 0x1010 18 ∷ []
 control-stall-standard = refl
+
+-- the same where it is the status stage that fails: of this the engine knows nothing
+pub status-stall-standard : controlEvents ownResidual stalledTds (statusFailed 6 18) ≡ transferEvent 1 false 0x1000 0 ∷ transferEvent 6 false 0x1020 0 ∷ []
+status-stall-standard = refl
+
+-- without a data stage, and Setup without IOC: release 5's is the standard's
+pub no-data-stall-engine :
+    told (controlRunFor Release5 (
+    controlCall (setupStageTrb 0x1000 getDescriptor false) device.NoneGiven 0
+    ∷ controlCall (statusStageTrb 0x1010 false false) device.Stall 0
+    ∷ []
+    ) .records) ≡ transferEvent 6 false 0x1010 0 ∷ []
+unfolding controlRunFor
+no-data-stall-engine = refl
+
+pub no-data-stall-standard :
+    controlEvents ownResidual (record { setupTrb = setupStage 0x1000 false; dataTrbs = []; statusTrbs = statusStage 0x1010 false ∷ [] }) (statusFailed 6 0)
+    ≡ transferEvent 6 false 0x1010 0 ∷ []
+no-data-stall-standard = refl
 
 -- ---- 6: a No Op with IOC
 

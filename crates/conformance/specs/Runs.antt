@@ -33,7 +33,10 @@ use Rattle.walks.specs.Walk.{walk}
 use Rattle.phase_table.specs.Table.{becomes}
 use Rattle.control_block.specs.Blocks.{freshBlock as freshControl}
 use Rattle.control_block.specs.declared.ControlBlock.{ControlBlock}
+use Rattle.control_block.specs.declared.GuestRelease.{GuestRelease}
+use Rattle.control_block.specs.declared.GuestRelease.the-variants.{Release4}
 use Rattle.control_block.specs.Facts.{soundBlock as soundControl}
+use Rattle.control_block.specs.Stages.{firstAt, errorAddress}
 use Rattle.control_chain.specs.Chain.{moveOut, realizeDataStage, realizeNormal, realizeTrb}
 use Rattle.control_chain.specs.Dropped.{successes}
 use Rattle.control_chain.specs.Endings.{endingRecords}
@@ -120,9 +123,16 @@ controlFrom ran (controlCall t r n ∷ calls) =
       halt = haltAnswered (p .state .answer);
     }) calls
 
+-- on an endpoint created for guests of this release
+unfoldable pub controlRunFor : GuestRelease → List ControlCall → ControlRan
+unfolding controlFrom submissionControl firstNo submissionQuestions hasRoom reaches collects inReach rangeInside windowBytes bytesOf bytesCollected acceptedSubmission blockAfter recordsOf transferAfter becomes successes completionControl completionQuestions acceptedCompletion blockBehind errorAddress firstAt endingRecords realizeTrb realizeDataStage realizeNormal moveOut idsInRange soundControl soundTrb all placeOf cleared walk putDma realizeDma
+controlRunFor release calls =
+    controlFrom (record { block = freshControl (record { 0 = 3 }) (record { 0 = 2 }) release; records = []; collected = []; halt = runsOn }) calls
+
+-- of release 4
 unfoldable pub controlRun : List ControlCall → ControlRan
-unfolding controlFrom submissionControl firstNo submissionQuestions hasRoom reaches collects inReach rangeInside windowBytes bytesOf bytesCollected acceptedSubmission blockAfter recordsOf transferAfter becomes successes completionControl completionQuestions acceptedCompletion blockBehind endingRecords realizeTrb realizeDataStage realizeNormal moveOut idsInRange soundControl soundTrb all placeOf cleared walk putDma realizeDma
-controlRun calls = controlFrom (record { block = freshControl (record { 0 = 3 }) (record { 0 = 2 }); records = []; collected = []; halt = runsOn }) calls
+unfolding controlRunFor
+controlRun calls = controlRunFor Release4 calls
 
 -- ---- TRBs: address, then what the kind has; cycle bit on
 

@@ -107,3 +107,8 @@ abbrev pub chainEvents : (n : ℕ) → ControlTransfer → List TransferEvent
 chainEvents n t =
     events repeatedResidual ended 0 (t .setupTrb ∷ [])
     ++ (events repeatedResidual ended n (t .dataTrbs) ++ recoded (finalCode n (asked (t .dataTrbs))) (events repeatedResidual ended 0 (t .statusTrbs)))
+
+-- 01, Control endpoint: the event of a failed transfer has residual 0; here with this length in its place
+abbrev pub sized : (length : ℕ) → List TransferEvent → List TransferEvent
+sized length [] = []
+sized length (transferEvent code ed pointer old ∷ es) = transferEvent code ed pointer length ∷ sized length es

@@ -1,1 +1,2 @@
 pub mod BlockLaws
+pub mod StageLaws

@@ -15,12 +15,14 @@ use Rattle.trb.specs.declared.UsbRequest.{UsbRequest}
 use Rattle.held.specs.Places.{blankTrb, cleared}
 use Rattle.control_block.specs.declared.ControlBlock.{ControlBlock}
 use Rattle.control_block.specs.declared.ControlTransfer.{ControlTransfer}
+use Rattle.control_block.specs.declared.GuestRelease.{GuestRelease}
 
 -- every block of these definitions is built here
-abbrev pub blockOf : EndpointId → SlotId → ControlTransfer → ControlSubmissionState → ℕ → List TransferTrb → ControlBlock
-blockOf e s transfer state held trbs = record {
+abbrev pub blockOf : EndpointId → SlotId → GuestRelease → ControlTransfer → ControlSubmissionState → ℕ → List TransferTrb → ControlBlock
+blockOf e s release transfer state held trbs = record {
   «endpoint_id» = e;
   «slot_id» = s;
+  release = release;
   phase = transfer .phase;
   state = state;
   direction = transfer .direction;
@@ -32,7 +34,7 @@ blockOf e s transfer state held trbs = record {
 
 -- the block b with these in place of its own; what its creation gave it stays
 abbrev pub changed : ControlBlock → ControlTransfer → ControlSubmissionState → ℕ → List TransferTrb → ControlBlock
-changed b transfer state held trbs = blockOf (b .«endpoint_id») (b .«slot_id») transfer state held trbs
+changed b transfer state held trbs = blockOf (b .«endpoint_id») (b .«slot_id») (b .release) transfer state held trbs
 
 abbrev pub transferOf : ControlBlock → ControlTransfer
 transferOf b = record { phase = b .phase; direction = b .direction; request = b .request; collected = b .collected }
@@ -48,9 +50,9 @@ noRequest = record { address = 0; «request_type» = 0; request = 0; value = 0; 
 abbrev pub noTransfer : ControlTransfer
 noTransfer = record { phase = ExpectSetupStageTrb; direction = false; request = noRequest; collected = 0 }
 
--- 01, Questions asked: a fresh block has only blanks; a submission due
-abbrev pub freshBlock : EndpointId → SlotId → ControlBlock
-freshBlock e s = blockOf e s noTransfer NoTrbSubmitted 0 (replicate maxHeld blankTrb)
+-- 01, Questions asked: a fresh block has only blanks; a submission due. 02, R-11: it is created for one of the rules
+abbrev pub freshBlock : EndpointId → SlotId → GuestRelease → ControlBlock
+freshBlock e s release = blockOf e s release noTransfer NoTrbSubmitted 0 (replicate maxHeld blankTrb)
 
 -- the TRBs that are held, in order
 abbrev pub heldOf : ControlBlock → List TransferTrb

@@ -1,3 +1,4 @@
 pub mod Blocks
 pub mod Facts
+pub mod Stages
 pub mod Endings

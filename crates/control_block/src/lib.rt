@@ -1,4 +1,5 @@
-// The block of a control endpoint: made and changed; the facts of it that the questions ask about; and what a completion does.
+// The block of a control endpoint: made and changed; the facts of it that the questions ask about; what a completion does; and where the
+// event of a failed transfer goes.
 use trb::CompletionCode;
 use trb::ControlRequestProcessingResult;
 use trb::ControlSubmissionState;
@@ -6,6 +7,7 @@ use trb::ControlTransferState;
 use trb::EndpointId;
 use trb::SlotId;
 use trb::TransferTrb;
+use trb::TransferTrbVariant;
 use trb::TrbProcessingResult;
 use trb::UsbRequest;
 ghost use mathlib.Core.Path.{_≡_};
@@ -14,10 +16,20 @@ ghost use Rattle.trb.specs.Limits.{maxHeld};
 ghost use Rattle.control_block.specs.Blocks.{noTransfer, atPhase, freshBlock, stored, advanced};
 ghost use Rattle.control_block.specs.Facts.{soundBlock, submissionDue, awaitsDevice};
 ghost use Rattle.control_block.specs.Endings.{requestEnding, endingOf, resultOf, placesFreed, phaseBehind};
+ghost use Rattle.control_block.specs.Stages.{isDataStage, isStatusStage, addressFor, noStage, stageWith};
+
+// Whose rule a block is created for: where its guest looks for the event of a failed transfer.
+pub enum GuestRelease {
+    // At the Setup TRB.
+    Release4,
+    // At the TRB of the stage.
+    Release5,
+}
 
 pub struct ControlBlock {
     pub endpoint_id: EndpointId,
     pub slot_id: SlotId,
+    pub release: GuestRelease,
     pub phase: ControlTransferState,
     pub state: ControlSubmissionState,
     // Of the transfer's request: is it IN?
@@ -59,8 +71,8 @@ fn no_transfer() -> ControlTransfer
 }
 
 // A block that holds nothing and knows of no transfer; a submission is due.
-pub fn fresh(endpoint_id: EndpointId, slot_id: SlotId) -> ControlBlock
-    ensures { λ r. ⌜ r ≡ freshBlock «endpoint_id» «slot_id» ⌝ }
+pub fn fresh(endpoint_id: EndpointId, slot_id: SlotId, release: GuestRelease) -> ControlBlock
+    ensures { λ r. ⌜ r ≡ freshBlock «endpoint_id» «slot_id» release ⌝ }
 {
     let transfer = no_transfer();
     let phase = transfer.phase;
@@ -69,6 +81,7 @@ pub fn fresh(endpoint_id: EndpointId, slot_id: SlotId) -> ControlBlock
     ControlBlock {
         endpoint_id: endpoint_id,
         slot_id: slot_id,
+        release: release,
         phase: phase,
         state: ControlSubmissionState::NoTrbSubmitted,
         direction: transfer.direction,
@@ -114,12 +127,14 @@ pub fn advance(
 {
     let endpoint_id = block.endpoint_id;
     let slot_id = block.slot_id;
+    let release = block.release;
     let phase = transfer.phase;
     let request = transfer.request;
     let trbs = block.trbs;
     ControlBlock {
         endpoint_id: endpoint_id,
         slot_id: slot_id,
+        release: release,
         phase: phase,
         state: state,
         direction: transfer.direction,
@@ -277,5 +292,93 @@ pub fn phase_behind(
         ControlSubmissionState::ParserError(_) => phase,
         ControlSubmissionState::UnexpectedTrb(_) => ControlTransferState::ExpectSetupStageTrb,
         ControlSubmissionState::AwaitingControlRequest => phase,
+    }
+}
+
+// ---- Where the event of a failed transfer goes
+
+fn is_data_stage(variant: TransferTrbVariant) -> bool
+    ensures { λ r. ⌜ r ≡ isDataStage variant ⌝ }
+{
+    match variant {
+        TransferTrbVariant::SetupStage(_) => false,
+        TransferTrbVariant::DataStage(_) => true,
+        TransferTrbVariant::StatusStage(_) => false,
+        TransferTrbVariant::Normal(_) => false,
+        TransferTrbVariant::EventData(_) => false,
+        TransferTrbVariant::NoOp(_) => false,
+        TransferTrbVariant::Isoch => false,
+        TransferTrbVariant::Unrecognized => false,
+    }
+}
+
+fn is_status_stage(variant: TransferTrbVariant) -> bool
+    ensures { λ r. ⌜ r ≡ isStatusStage variant ⌝ }
+{
+    match variant {
+        TransferTrbVariant::SetupStage(_) => false,
+        TransferTrbVariant::DataStage(_) => false,
+        TransferTrbVariant::StatusStage(_) => true,
+        TransferTrbVariant::Normal(_) => false,
+        TransferTrbVariant::EventData(_) => false,
+        TransferTrbVariant::NoOp(_) => false,
+        TransferTrbVariant::Isoch => false,
+        TransferTrbVariant::Unrecognized => false,
+    }
+}
+
+// The stage found among the TRBs held so far: the first Data Stage TRB, failing that the first Status Stage TRB.
+pub struct StageFound {
+    pub data_stage: bool,
+    pub status_stage: bool,
+    // Of that TRB; where there is none, of the Setup TRB.
+    pub addr: u64,
+}
+
+pub fn no_stage(setup_address: u64) -> StageFound
+    ensures { λ r. ⌜ r ≡ noStage «setup_address» ⌝ }
+{
+    StageFound {
+        data_stage: false,
+        status_stage: false,
+        addr: setup_address,
+    }
+}
+
+// One TRB more is looked at.
+pub fn stage_with(so_far: StageFound, t: TransferTrb) -> StageFound
+    ensures { λ r. ⌜ r ≡ stageWith «so_far» t ⌝ }
+{
+    let variant = t.variant;
+    if so_far.data_stage {
+        return so_far;
+    }
+    if is_data_stage(variant) {
+        return StageFound {
+            data_stage: true,
+            status_stage: so_far.status_stage,
+            addr: t.addr,
+        };
+    }
+    if so_far.status_stage {
+        return so_far;
+    }
+    if is_status_stage(variant) {
+        return StageFound {
+            data_stage: false,
+            status_stage: true,
+            addr: t.addr,
+        };
+    }
+    so_far
+}
+
+// Where the event goes, by the block's rule.
+pub fn address_for(release: GuestRelease, setup_address: u64, stage_address: u64) -> u64
+    ensures { λ r. ⌜ r ≡ addressFor release «setup_address» «stage_address» ⌝ }
+{
+    match release {
+        GuestRelease::Release4 => setup_address,
+        GuestRelease::Release5 => stage_address,
     }
 }

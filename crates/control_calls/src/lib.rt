@@ -3,6 +3,7 @@ use call_script::Call;
 use call_script::DeviceStatus;
 use control_block::ControlBlock;
 use control_block::ControlTransfer;
+use control_block::GuestRelease;
 use state_text::ControlStanding;
 use trb::Answer;
 use trb::ControlRequestProcessingResult;
@@ -82,12 +83,13 @@ pub fn create(
     at: usize,
     endpoint_id: EndpointId,
     slot_id: SlotId,
+    release: GuestRelease,
     collect: &[u8],
 ) -> ControlRan
     requires { ⌜ at + maxAnswer ≤ length (now text) ⌝ }
     ensures { λ r. ⌜ r .end ≤ at + maxAnswer ⌝ }
 {
-    let created = control_endpoint::create(endpoint_id, slot_id);
+    let created = control_endpoint::create(endpoint_id, slot_id, release);
     let answer = created.answer;
     let block = created.block;
     let next = call_answer::put_answer(text, at, answer, 0, &[]);
@@ -230,7 +232,7 @@ pub fn run(
         Call::Window(_, _) => bad(block, at),
         Call::Buffers(_, _) => bad(block, at),
         Call::CreateIn(_, _) => bad(block, at),
-        Call::CreateControl(_, _) => bad(block, at),
+        Call::CreateControl(_, _, _) => bad(block, at),
         Call::Submit(t) => submit(text, at, log, collect, lent, block, t, base, window),
         Call::CompleteWithResult(status, n) => {
             let given = call_script::least(n, data.len());

@@ -2,6 +2,7 @@
 // completed; where the endpoint then awaits the device, that sends 18 bytes. A line has the TRB's address and the answer, or the
 // result of the completion; the records that the call logged stand below it: kind, code, address, length, start, request type.
 use control_block::ControlBlock;
+use control_block::GuestRelease;
 use libc::STDOUT_FILENO;
 use trb::Answer;
 use trb::CompletionAnswer;
@@ -299,7 +300,7 @@ fn after_unrecognized() -> [TransferTrb; ROW] {
 }
 
 fn fresh() -> ControlBlock {
-    let created = control_endpoint::create(EndpointId(3), SlotId(2));
+    let created = control_endpoint::create(EndpointId(3), SlotId(2), GuestRelease::Release4);
     let block = created.block;
     block
 }

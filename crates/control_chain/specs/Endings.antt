@@ -26,8 +26,8 @@ eventOf a c e s = transferEvent a 0 c false e s
 abbrev pub transferTd : EndpointId → SlotId → Bool → ℕ → ControlTd
 transferTd e s input n = record { info = record { «endpoint_id» = e; «slot_id» = s; «data_length» = n }; input = input }
 
--- the TRBs held are ts, the Setup address is a. A bad TRB: Success for held TRBs with IOC, then code 5 at the bad TRB. A failure: one
--- event at the Setup address. Otherwise the walk over the held TRBs
+-- the TRBs held are ts. A bad TRB: Success for held TRBs with IOC, then code 5 at the bad TRB. A failure: one event, at the address a.
+-- Otherwise the walk over the held TRBs
 unfoldable pub endingRecords : Ending → ℕ → EndpointId → SlotId → List TransferTrb → List Record
 endingRecords KeepCollecting a e s ts = []
 endingRecords (ReportBadTrb bad) a e s ts = successes e s ts ++ (eventOf bad TrbError e s ∷ [])

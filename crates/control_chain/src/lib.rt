@@ -267,18 +267,18 @@ fn put_event(
     count + 1
 }
 
-// The event behind those of the TRBs held: of the bad TRB, or of the transfer that failed, at the address of its Setup TRB. Returns how
-// many records there are then. Ports `handle_processing_error`.
+// The event behind those of the TRBs held: of the bad TRB, or of the transfer that failed, which goes to `error_address`. Returns how many
+// records there are then. Ports `handle_processing_error`.
 pub fn log_ending(
     log: &mut [u8],
     count: usize,
     ending: Ending,
-    setup_address: u64,
+    error_address: u64,
     endpoint_id: EndpointId,
     slot_id: SlotId,
 ) -> usize
-    requires { ⌜ recordLength * (count + length (lastRecords ending «setup_address» «endpoint_id» «slot_id»)) ≤ length (now log) ⌝ }
-    ensures { λ r. ⌜ Meets (counted count (lastRecords ending «setup_address» «endpoint_id» «slot_id»)) count (now (log .entry)) r (now (log .exit)) ⌝ }
+    requires { ⌜ recordLength * (count + length (lastRecords ending «error_address» «endpoint_id» «slot_id»)) ≤ length (now log) ⌝ }
+    ensures { λ r. ⌜ Meets (counted count (lastRecords ending «error_address» «endpoint_id» «slot_id»)) count (now (log .entry)) r (now (log .exit)) ⌝ }
 {
     match ending {
         Ending::KeepCollecting => count,
@@ -290,7 +290,7 @@ pub fn log_ending(
             endpoint_id,
             slot_id,
         ),
-        Ending::Fail(code, _) => put_event(log, count, setup_address, code, endpoint_id, slot_id),
+        Ending::Fail(code, _) => put_event(log, count, error_address, code, endpoint_id, slot_id),
         Ending::Realize(_, _) => count,
     }
 }

@@ -34,6 +34,7 @@ use Rattle.control_block.specs.declared.Ending.the-variants.{KeepCollecting, Re
 use Rattle.control_block.specs.Blocks.{blockOf, transferOf, atPhase, changed, heldOf, advanced}
 use Rattle.control_block.specs.Endings.{endingOf, resultOf, placesFreed, phaseBehind}
 use Rattle.control_block.specs.Facts.{factsOf}
+use Rattle.control_block.specs.Stages.{errorAddress}
 use Rattle.control_chain.specs.Chain.{never}
 use Rattle.control_chain.specs.Endings.{endingRecords, infoOf, nextTrb, lastRecords}
 use Rattle.control_chain.proofs.EndingLaws.{walk-ending, length-ending}
@@ -59,7 +60,7 @@ module _ (b : ControlBlock) (d : ControlRequestProcessingResult) (n : ℕ) (l : 
       (meets (answered-no questions (refused b) (accepted (endingOf (b .state) d n) b) (asked.Refused q) numbered refl) (meets-silent 0 l (rw (refusalOf-number q))))
 
   pub completes-accepted : (x : Ending) → x ≡ endingOf (b .state) d n → firstNo questions ≡ 0 → (r : Completed) (l' : List ℕ) → r ≡ accepted x b .state
-      → Put l 0 (endingRecords x (b .request .address) (b .«endpoint_id») (b .«slot_id») (heldOf b)) l' → Completes b d n l r l'
+      → Put l 0 (endingRecords x (errorAddress b) (b .«endpoint_id») (b .«slot_id») (heldOf b)) l' → Completes b d n l r l'
   unfolding completion accepted
   completes-accepted x ends none r l' e p =
       completes-by r l' (ap (λ (y : Completed). completionNumber (y .answer)) e ∙ sym none)
@@ -76,16 +77,16 @@ module _ (b : ControlBlock) where
 
   -- the answer, the records and the block that a completion leaves
   pub completed-by : (x : Ending) (result : TrbProcessingResult) (n : ℕ) (phase : ControlTransferState) (freed : ℕ) (ts : List TransferTrb) → result ≡ resultOf x
-      → n ≡ length (endingRecords x (b .request .address) (b .«endpoint_id») (b .«slot_id») (heldOf b)) → phase ≡ phaseBehind (b .state) (b .phase) → freed ≡ placesFreed x (b .held)
+      → n ≡ length (endingRecords x (errorAddress b) (b .«endpoint_id») (b .«slot_id») (heldOf b)) → phase ≡ phaseBehind (b .state) (b .phase) → freed ≡ placesFreed x (b .held)
       → ts ≡ cleared freed (b .trbs)
-      → _≡_ {A = Completed} (record { answer = answer.Completed result; records = n; block = blockOf (b .«endpoint_id») (b .«slot_id») (atPhase phase (transferOf b)) NoTrbSubmitted (b .held - freed) ts })
+      → _≡_ {A = Completed} (record { answer = answer.Completed result; records = n; block = blockOf (b .«endpoint_id») (b .«slot_id») (b .release) (atPhase phase (transferOf b)) NoTrbSubmitted (b .held - freed) ts })
       (accepted x b .state)
   unfolding accepted blockBehind
   completed-by x result n phase freed ts end count at frees blank =
       rw (end, count, at, blank, frees)
       (ap (λ (y : ControlBlock). record {
         answer = answer.Completed (resultOf x);
-        records = length (endingRecords x (b .request .address) (b .«endpoint_id») (b .«slot_id») (heldOf b));
+        records = length (endingRecords x (errorAddress b) (b .«endpoint_id») (b .«slot_id») (heldOf b));
         block = advanced y (atPhase (phaseBehind (b .state) (b .phase)) (transferOf b)) NoTrbSubmitted;
       }) (sym (freed-block x)))
 
@@ -97,16 +98,16 @@ module _ (b : ControlBlock) (x : Ending) (td : TdInfo) (d : ℕ) (own : td ≡ i
   freedRecords = walk (nextTrb x td) never atStart (take d (b .trbs)) .records
 
   -- their records, and the event behind them
-  pub walk-endingRecords : freedRecords ++ lastRecords x (b .request .address) (b .«endpoint_id») (b .«slot_id») ≡ endingRecords x (b .request .address) (b .«endpoint_id») (b .«slot_id») (heldOf b)
-  walk-endingRecords = rw (own, frees) (walk-ending (b .request .address) (b .«endpoint_id») (b .«slot_id») (b .trbs) (b .held) x)
+  pub walk-endingRecords : freedRecords ++ lastRecords x (errorAddress b) (b .«endpoint_id») (b .«slot_id») ≡ endingRecords x (errorAddress b) (b .«endpoint_id») (b .«slot_id») (heldOf b)
+  walk-endingRecords = rw (own, frees) (walk-ending (errorAddress b) (b .«endpoint_id») (b .«slot_id») (b .trbs) (b .held) x)
 
-  pub length-freed : b .held ≤ maxHeld → length freedRecords + length (lastRecords x (b .request .address) (b .«endpoint_id») (b .«slot_id»)) ≤ maxRecords
+  pub length-freed : b .held ≤ maxHeld → length freedRecords + length (lastRecords x (errorAddress b) (b .«endpoint_id») (b .«slot_id»)) ≤ maxRecords
   length-freed few =
       omega (
         arith,
-        length-append freedRecords (lastRecords x (b .request .address) (b .«endpoint_id») (b .«slot_id»)),
+        length-append freedRecords (lastRecords x (errorAddress b) (b .«endpoint_id») (b .«slot_id»)),
         ap length walk-endingRecords,
-        length-ending (b .request .address) (b .«endpoint_id») (b .«slot_id») (heldOf b) (omega (arith, few, length-take (b .held) (b .trbs))) x,
+        length-ending (errorAddress b) (b .«endpoint_id») (b .«slot_id») (heldOf b) (omega (arith, few, length-take (b .held) (b .trbs))) x,
       )
 
 -- 01, The log: a call writes at most 1,024 records
@@ -120,5 +121,5 @@ length-completion log b d n = by (firstNo (completionQuestions log (factsOf b) d
     by : (m : ℕ) → firstNo (completionQuestions log (factsOf b) d n) ≡ m → length (cond (eqb m 0) (accepted x b) (refused b m) .records) ≤ maxRecords
     by zero none =
         let few = passed (factsOf b) d n log none .held in
-        length-ending (b .request .address) (b .«endpoint_id») (b .«slot_id») (heldOf b) (omega (arith, few, length-take (b .held) (b .trbs))) x
+        length-ending (errorAddress b) (b .«endpoint_id») (b .«slot_id») (heldOf b) (omega (arith, few, length-take (b .held) (b .trbs))) x
     by (suc m) no-to = rw (ne-eqb (suc m) 0 (λ z. omega arith)) (lit≤ tt)

@@ -8,14 +8,15 @@ use Rattle.trb.specs.declared.Answer.the-variants.{Accepted, Refused}
 use Rattle.trb.specs.declared.EndpointId.{EndpointId}
 use Rattle.trb.specs.declared.Refusal.the-variants.{IdOutOfRange}
 use Rattle.trb.specs.declared.SlotId.{SlotId}
+use Rattle.control_block.specs.declared.GuestRelease.{GuestRelease}
 use Rattle.control_block.specs.Blocks.{freshBlock}
 use Rattle.control_endpoint.specs.Creation.{Creates}
 
-module _ (e : EndpointId) (s : SlotId) where
-  pub creates : idsInRange e s ≡ true → Creates e s (record { answer = Accepted; block = freshBlock e s })
+module _ (e : EndpointId) (s : SlotId) (release : GuestRelease) where
+  pub creates : idsInRange e s ≡ true → Creates e s release (record { answer = Accepted; block = freshBlock e s release })
   unfolding firstNo
   creates ids = record { number = rw ids; met = rw ids }
 
-  pub creates-not : idsInRange e s ≡ false → Creates e s (record { answer = Refused IdOutOfRange; block = freshBlock (record { 0 = 0 }) (record { 0 = 0 }) })
+  pub creates-not : idsInRange e s ≡ false → Creates e s release (record { answer = Refused IdOutOfRange; block = freshBlock (record { 0 = 0 }) (record { 0 = 0 }) release })
   unfolding firstNo refusalOf
   creates-not ids = record { number = rw ids; met = rw ids }

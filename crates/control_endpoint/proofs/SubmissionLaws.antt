@@ -107,7 +107,7 @@ module _ (b : ControlBlock) (t : TransferTrb) (o : Outcome) where
   -- the answer, the records and the block that a TRB leaves
   pub submitted-by : (answer : Answer) (n : ℕ) (w : ControlTransfer) (state : ControlSubmissionState) (held : ℕ) (ts : List TransferTrb) → answer ≡ Accepted → n ≡ length (recordsOf o b)
       → w ≡ transferAfter o (t .variant) (t .addr) (transferOf b) → state ≡ stateAfter o (t .addr) → leaves held ts
-      → _≡_ {A = Submitted} (record { answer = answer; records = n; block = blockOf (b .«endpoint_id») (b .«slot_id») w state held ts }) (accepted o b t .state)
+      → _≡_ {A = Submitted} (record { answer = answer; records = n; block = blockOf (b .«endpoint_id») (b .«slot_id») (b .release) w state held ts }) (accepted o b t .state)
   unfolding accepted blockAfter
   submitted-by answer n w state held ts accepts count at now places =
       rw (accepts, count, at, now)

@@ -16,6 +16,7 @@ use Rattle.control_block.specs.declared.Ending.the-variants.{KeepCollecting, Re
 use Rattle.control_block.specs.Blocks.{transferOf, heldOf, atPhase, emptied, advanced}
 use Rattle.control_block.specs.Endings.{endingOf, resultOf, phaseBehind}
 use Rattle.control_block.specs.Facts.{factsOf}
+use Rattle.control_block.specs.Stages.{errorAddress}
 use Rattle.control_chain.specs.Endings.{endingRecords}
 use Rattle.control_questions.specs.Completion.{completionQuestions}
 use Rattle.control_endpoint.specs.declared.Completed.{Completed as CompletedCall}
@@ -42,7 +43,7 @@ refused b n = silent (record { answer = Refused (refusalOf n); records = 0; bloc
 -- by what it does
 unfoldable pub accepted : Ending → ControlBlock → Out CompletedCall
 accepted x b =
-    let rs = endingRecords x (b .request .address) (b .«endpoint_id») (b .«slot_id») (heldOf b) in
+    let rs = endingRecords x (errorAddress b) (b .«endpoint_id») (b .«slot_id») (heldOf b) in
     record { state = record { answer = Completed (resultOf x); records = length rs; block = blockBehind x b }; records = rs }
 
 -- with a log of this length and n bytes of device data

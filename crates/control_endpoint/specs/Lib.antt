@@ -1,3 +1,4 @@
 pub mod Creation
 pub mod Submission
 pub mod Completion
+pub mod Releases

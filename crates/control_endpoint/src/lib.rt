@@ -2,6 +2,7 @@
 use control_block::BlockFacts;
 use control_block::ControlBlock;
 use control_block::ControlTransfer;
+use control_block::GuestRelease;
 use held::EndpointKind;
 use td_part::TdInfo;
 use trb::Answer;
@@ -38,18 +39,18 @@ pub struct Completed {
 
 // ---- Creation
 
-// A fresh block for this endpoint of this slot.
-pub fn create(endpoint_id: EndpointId, slot_id: SlotId) -> Created
-    ensures { λ r. ⌜ Creates «endpoint_id» «slot_id» r ⌝ }
+// A fresh block for this endpoint of this slot, and for guests of this release.
+pub fn create(endpoint_id: EndpointId, slot_id: SlotId, release: GuestRelease) -> Created
+    ensures { λ r. ⌜ Creates «endpoint_id» «slot_id» release r ⌝ }
 {
     if trb::ids_in_range(endpoint_id, slot_id) {
-        let block = control_block::fresh(endpoint_id, slot_id);
+        let block = control_block::fresh(endpoint_id, slot_id, release);
         return Created {
             answer: Answer::Accepted,
             block: block,
         };
     }
-    let block = control_block::fresh(EndpointId(0), SlotId(0));
+    let block = control_block::fresh(EndpointId(0), SlotId(0), release);
     Created {
         answer: Answer::Refused(Refusal::IdOutOfRange),
         block: block,
@@ -79,6 +80,7 @@ pub fn submit_trb(
 {
     let endpoint_id = block.endpoint_id;
     let slot_id = block.slot_id;
+    let release = block.release;
     let mut phase = block.phase;
     let mut state = block.state;
     let mut direction = block.direction;
@@ -173,6 +175,7 @@ pub fn submit_trb(
     let next = ControlBlock {
         endpoint_id: endpoint_id,
         slot_id: slot_id,
+        release: release,
         phase: phase,
         state: state,
         direction: direction,
@@ -202,6 +205,7 @@ pub fn next_completion(
 {
     let endpoint_id = block.endpoint_id;
     let slot_id = block.slot_id;
+    let rule = block.release;
     let mut phase = block.phase;
     let mut state = block.state;
     let direction = block.direction;
@@ -211,10 +215,12 @@ pub fn next_completion(
     let mut trbs = block.trbs;
     let places = held::places_held(held);
     let mut sound = true;
+    let mut stage = control_block::no_stage(request.address);
     let mut i = 0;
     while i < places {
         let one = trbs[i];
         sound = held::and_sound(sound, EndpointKind::Control, one);
+        stage = control_block::stage_with(stage, one);
         i += 1;
     }
     let facts = BlockFacts {
@@ -248,11 +254,12 @@ pub fn next_completion(
                 j += 1;
             }
             held -= freed;
+            let error_address = control_block::address_for(rule, request.address, stage.addr);
             records = control_chain::log_ending(
                 log,
                 progress.records,
                 ending,
-                request.address,
+                error_address,
                 endpoint_id,
                 slot_id,
             );
@@ -265,6 +272,7 @@ pub fn next_completion(
     let next = ControlBlock {
         endpoint_id: endpoint_id,
         slot_id: slot_id,
+        release: rule,
         phase: phase,
         state: state,
         direction: direction,

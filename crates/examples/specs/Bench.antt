@@ -44,7 +44,7 @@ use Rattle.control_transfer.specs.Transfers.{transferAfter}
 use Rattle.control_transfer.specs.Transfers as transfers
 use Rattle.phase_table.specs.Table.{becomes}
 use Rattle.examples.specs.Control as onControlEndpoint
-use Rattle.examples.specs.Control.{onControl, setup, dataStage, status}
+use Rattle.examples.specs.Control.{onControl, onControlFor, setup, dataStage, status}
 use Rattle.examples.specs.In.{Seen, play, onIn, normal, eventData, noOp}
 
 -- ---- What is expected: records of endpoint 3, slot 2
@@ -138,5 +138,5 @@ examples =
 
 -- the definitions say of every example what document 01 says
 bench : map (λ (e : Example). e .found) examples ≡ map (λ (e : Example). e .expected) examples
-unfolding examples wrote event eventDataOf requested asked collects ends normal eventData noOp setup dataStage status walk cleared all soundTrb placeOf idsInRange putDma realizeDma onIn play creation submission inQuestions.submissionQuestions outcomeOf completion inQuestions.completionQuestions transferred soundBlock rangeInside processTrb handleNormal onControl onControlEndpoint.play becomes transferAfter controlBlock.soundBlock firstNo submissionQuestions hasRoom reaches transfers.collects inReach windowBytes bytesOf submits.submission submits.bytesCollected submits.accepted submits.recordsOf submits.blockAfter completionQuestions completes.completion completes.accepted completes.blockBehind endingRecords successes moveOut realizeDataStage realizeNormal realizeTrb
+unfolding examples wrote event eventDataOf requested asked collects ends normal eventData noOp setup dataStage status walk cleared all soundTrb placeOf idsInRange putDma realizeDma onIn play creation submission inQuestions.submissionQuestions outcomeOf completion inQuestions.completionQuestions transferred soundBlock rangeInside processTrb handleNormal onControl onControlFor onControlEndpoint.play becomes transferAfter controlBlock.soundBlock firstNo submissionQuestions hasRoom reaches transfers.collects inReach windowBytes bytesOf submits.submission submits.bytesCollected submits.accepted submits.recordsOf submits.blockAfter completionQuestions completes.completion completes.accepted completes.blockBehind endingRecords successes moveOut realizeDataStage realizeNormal realizeTrb
 bench = refl

@@ -13,6 +13,8 @@ use Rattle.trb.specs.declared.TransferTrbVariant.the-variants.{SetupStage, Data
 use Rattle.trb.specs.declared.TrbProcessingResult.the-variants.{Ok}
 use Rattle.log.specs.Calls.{Out}
 use Rattle.control_block.specs.declared.ControlBlock.{ControlBlock}
+use Rattle.control_block.specs.declared.GuestRelease.{GuestRelease}
+use Rattle.control_block.specs.declared.GuestRelease.the-variants.{Release4}
 use Rattle.control_endpoint.specs.Completion.{completion}
 use Rattle.control_endpoint.specs.Creation.{creation}
 use Rattle.control_endpoint.specs.Submission.{submission, bytesCollected}
@@ -49,9 +51,12 @@ play b (t ∷ u ∷ ts) r n =
     let p = complete o NoneGiven 0 in
     also o (collect b t) p (play (p .state .block) (u ∷ ts) r n)
 
--- endpoint 3, slot 2
+-- endpoint 3, slot 2, for guests of this release
+unfoldable pub onControlFor : GuestRelease → List TransferTrb → ControlRequestProcessingResult → ℕ → Seen
+onControlFor release ts r n = play (creation (record { 0 = 3 }) (record { 0 = 2 }) release .block) ts r n
+
 unfoldable pub onControl : List TransferTrb → ControlRequestProcessingResult → ℕ → Seen
-onControl ts r n = play (creation (record { 0 = 3 }) (record { 0 = 2 }) .block) ts r n
+onControl ts r n = onControlFor Release4 ts r n
 
 -- TRBs, with cycle bit on: address, then what the kind has
 unfoldable pub setup : ℕ → (requestType request value index length : ℕ) → (ioc : Bool) → TransferTrb

@@ -206,7 +206,7 @@ pub fn run(
         Call::Window(_, _) => bad(block, at),
         Call::Buffers(_, _) => bad(block, at),
         Call::CreateIn(_, _) => bad(block, at),
-        Call::CreateControl(_, _) => bad(block, at),
+        Call::CreateControl(_, _, _) => bad(block, at),
         Call::Submit(t) => submit(text, at, log, block, t, base, window),
         Call::CompleteWithResult(status, n) => {
             let given = call_script::least(n, data.len());

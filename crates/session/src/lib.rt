@@ -1,6 +1,7 @@
 // What a call script has come to, and what each call makes of it.
 use call_script::Call;
 use control_block::ControlBlock;
+use control_block::GuestRelease;
 use control_calls::ControlRan;
 use in_block::InBlock;
 use in_calls::InRan;
@@ -35,7 +36,11 @@ pub struct Session {
 
 pub fn new_session() -> Session {
     let in_created = in_endpoint::create(EndpointId(0), SlotId(0));
-    let control_created = control_endpoint::create(EndpointId(0), SlotId(0));
+    let control_created = control_endpoint::create(
+        EndpointId(0),
+        SlotId(0),
+        GuestRelease::Release4,
+    );
     let in_block = in_created.block;
     let control_block = control_created.block;
     Session {
@@ -241,6 +246,7 @@ fn create_control(
     session: Session,
     endpoint_id: EndpointId,
     slot_id: SlotId,
+    release: GuestRelease,
     collect: &[u8],
 ) -> Ran
     requires { ⌜ at + maxAnswer ≤ length (now text) ⌝ }
@@ -248,7 +254,7 @@ fn create_control(
 {
     after_control(
         session,
-        control_calls::create(text, at, endpoint_id, slot_id, collect),
+        control_calls::create(text, at, endpoint_id, slot_id, release, collect),
     )
 }
 
@@ -276,8 +282,8 @@ pub fn run_call(
     if let Call::CreateIn(endpoint_id, slot_id) = call {
         return create_in(text, at, session, endpoint_id, slot_id);
     }
-    if let Call::CreateControl(endpoint_id, slot_id) = call {
-        return create_control(text, at, session, endpoint_id, slot_id, collect);
+    if let Call::CreateControl(endpoint_id, slot_id, release) = call {
+        return create_control(text, at, session, endpoint_id, slot_id, release, collect);
     }
     run_on_endpoint(text, at, session, call, log, collect, data, window)
 }

@@ -14,7 +14,7 @@ fresh-requires c κs = search needs
 returns : tie.Need-returns
 returns c =
     let s = c .before .before .before .args in
-    rw (c .fresh .ensures) (creates (s .endpoint-id) (s .slot-id) (sym (c .before .before .ids-in-range .ensures) ∙ c .before .if1 .taken))
+    rw (c .fresh .ensures) (creates (s .endpoint-id) (s .slot-id) (s .release) (sym (c .before .before .ids-in-range .ensures) ∙ c .before .if1 .taken))
 
 fresh-requires-2 : tie.Need-fresh-requires-2
 fresh-requires-2 c κs = search needs
@@ -22,7 +22,7 @@ fresh-requires-2 c κs = search needs
 returns-2 : tie.Need-returns-2
 returns-2 c =
     let s = c .before .before .before .args in
-    rw (c .fresh2 .ensures) (creates-not (s .endpoint-id) (s .slot-id) (sym (c .before .before .ids-in-range .ensures) ∙ c .before .if1 .left))
+    rw (c .fresh2 .ensures) (creates-not (s .endpoint-id) (s .slot-id) (s .release) (sym (c .before .before .ids-in-range .ensures) ∙ c .before .if1 .left))
 
 pub create-spec : {M : Type 1} → statement M
 create-spec =

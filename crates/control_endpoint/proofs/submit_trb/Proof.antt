@@ -36,18 +36,18 @@ use Rattle.control_endpoint.proofs.submit_trb.Statement.{statement}
 use Rattle.control_endpoint.proofs.submit_trb.Tie as tie
 
 abbrev Inv-loop : tie.InvT-loop
-Inv-loop log collect t window-base window endpoint-id slot-id phase state direction request collected held trbs variant places sound₀ i₀ sound i =
+Inv-loop log collect t window-base window endpoint-id slot-id release phase state direction request collected held trbs variant places sound₀ i₀ sound i =
     Tested (soundTrb Control) (take places trbs) sound i × (i ≤ places)
 
 abbrev μ-loop : tie.MeasureT-loop
-μ-loop log collect t window-base window endpoint-id slot-id phase state direction request collected held trbs variant places sound₀ i₀ sound i = places - i
+μ-loop log collect t window-base window endpoint-id slot-id release phase state direction request collected held trbs variant places sound₀ i₀ sound i = places - i
 
 abbrev Inv-loop2 : tie.InvT-loop2
-Inv-loop2 log₀ collect t window-base window endpoint-id slot-id phase direction request collected held trbs₀ variant places sound i outcome answer records info blank dropped progress₀ j₀ log trbs progress j =
+Inv-loop2 log₀ collect t window-base window endpoint-id slot-id release phase direction request collected held trbs₀ variant places sound i outcome answer records info blank dropped progress₀ j₀ log trbs progress j =
     Freeing info (reportDropped info) (kept-dropped info) dropped trbs₀ log₀ log progress trbs j
 
 abbrev μ-loop2 : tie.MeasureT-loop2
-μ-loop2 log₀ collect t window-base window endpoint-id slot-id phase direction request collected held trbs₀ variant places sound i outcome answer records info blank dropped progress₀ j₀ log trbs progress j =
+μ-loop2 log₀ collect t window-base window endpoint-id slot-id release phase direction request collected held trbs₀ variant places sound i outcome answer records info blank dropped progress₀ j₀ log trbs progress j =
     dropped - j
 
 -- ---- The block, and the places of a call's code
@@ -75,7 +75,7 @@ asked-before f = f .before .before .before .before .before
 
 -- a block has 512 places
 len : (s : Start) → length (s .args .block .trbs) ≡ maxHeld
-len s = simp length-map at (s .good .1 .1 .0 .1 .1 .1 .1 .1 .1 .1 .1 .1 .1 .0 .1 .0 .1)
+len s = simp length-map at (s .good .1 .1 .0 .1 .1 .1 .1 .1 .1 .1 .1 .1 .1 .1 .0 .1 .0 .1)
 
 -- ---- The questions
 
