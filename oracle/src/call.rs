@@ -119,7 +119,8 @@ impl Status {
 pub enum Call {
     Window { base: u64, length: u64 },
     Buffers { log: u64, collect: u64 },
-    CreateIn { endpoint: u8, slot: u8 },
+    /// In the mode named; where none is, as ported.
+    CreateIn { endpoint: u8, slot: u8, mode: Option<u8> },
     /// For guests of the release named; where none is, of release 4.
     CreateControl { endpoint: u8, slot: u8, release: Option<u8> },
     Submit(Trb),
@@ -151,7 +152,8 @@ impl Display for Call {
         match self {
             Self::Window { base, length } => write!(f, "w {base:x} {length:x}"),
             Self::Buffers { log, collect } => write!(f, "b {log:x} {collect:x}"),
-            Self::CreateIn { endpoint, slot } => write!(f, "i {endpoint:x} {slot:x}"),
+            Self::CreateIn { endpoint, slot, mode: None } => write!(f, "i {endpoint:x} {slot:x}"),
+            Self::CreateIn { endpoint, slot, mode: Some(mode) } => write!(f, "i {endpoint:x} {slot:x} {mode:x}"),
             Self::CreateControl { endpoint, slot, release: None } => write!(f, "c {endpoint:x} {slot:x}"),
             Self::CreateControl { endpoint, slot, release: Some(release) } => {
                 write!(f, "c {endpoint:x} {slot:x} {release:x}")
@@ -226,7 +228,11 @@ pub fn parse(line: &str) -> Option<Call> {
         ["b", log, collect] => Call::Buffers { log: number(log, MAX_LOG)?, collect: number(collect, MAX_COLLECT)? },
         ["i", endpoint, slot] => {
             let (endpoint, slot) = ids(endpoint, slot)?;
-            Call::CreateIn { endpoint, slot }
+            Call::CreateIn { endpoint, slot, mode: None }
+        }
+        ["i", endpoint, slot, mode @ ("0" | "1")] => {
+            let (endpoint, slot) = ids(endpoint, slot)?;
+            Call::CreateIn { endpoint, slot, mode: mode.parse().ok() }
         }
         ["c", endpoint, slot] => {
             let (endpoint, slot) = ids(endpoint, slot)?;

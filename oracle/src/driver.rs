@@ -145,7 +145,10 @@ impl Driver {
                 Endpoint::Control(endpoint) => endpoint.make_up(phase, state, direction, length),
                 Endpoint::In(_) => return Err(Stop::BadLine),
             },
-            Call::CreateIn { endpoint, slot } => {
+            Call::CreateIn { mode: Some(1), .. } => {
+                return Err(Stop::Unasked("the Rust has no strict mode".to_string()));
+            }
+            Call::CreateIn { endpoint, slot, .. } => {
                 asked(questions::of_creation(endpoint, slot))?;
                 self.endpoint = Some(Endpoint::new_in(endpoint, slot, self.connections.clone()));
                 return self.answer_quietly().map(Some);

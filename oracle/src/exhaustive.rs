@@ -191,7 +191,7 @@ fn in_ends(requested: u64) -> Vec<(Status, u64)> {
 
 /// The TDs that start with a given symbol: all but the last TRB are chained, and the cycle bits alternate.
 fn in_part(part: usize) -> String {
-    let create = Call::CreateIn { endpoint: ENDPOINT, slot: SLOT };
+    let create = Call::CreateIn { endpoint: ENDPOINT, slot: SLOT, mode: None };
     let mut script = Script::default();
     for length in 1..=LONGEST_TD {
         for row in rows(&[IN_SYMBOLS[part]], &IN_SYMBOLS, length) {

@@ -115,7 +115,7 @@ impl Generator {
         self.script.call(if self.style.is_control {
             Call::CreateControl { endpoint, slot, release: None }
         } else {
-            Call::CreateIn { endpoint, slot }
+            Call::CreateIn { endpoint, slot, mode: None }
         });
     }
 

@@ -1,10 +1,10 @@
--- 00, demand 3, for every list, status and n. By induction over the list, the log of a TD is: records on which the guest does not rely,
--- whose writes are the device's bytes at their places; then an event; then no write. Either that event is a short Normal's, and the sum
--- through it less its residual is n; or no Normal was short, and it is the last TRB's Success, the log's last record. What the guest
--- reads off such a log is its account. Assumes nothing.
-use Prim.Native.Nat.{ℕ, _+_, _<_, _≤_, min}
+-- 00, demand 3, for every list, mode, status and n. By induction over the list, the log of a TD is: records on which the guest does not rely,
+-- whose writes are the device's bytes at their places; then an event; then no write. Either that event tells where the bytes ended, and the
+-- sum through it less its residual is min(n, S); or no Normal was short, and it is the last TRB's Success, the log's last record. What the
+-- guest reads off such a log is its account. Assumes nothing.
+use Prim.Native.Nat.{ℕ, _+_, _-_, _<_, _≤_, min}
 use mathlib.Core.Path.{_≡_, refl, sym, ap, _∙_}
-use mathlib.Core.Bool.{true, false, or-true}
+use mathlib.Core.Bool.{Bool, true, false, or-true}
 use mathlib.Core.List.{List, [], _∷_, _++_, append-assoc, append-nil}
 use mathlib.Core.Logic.{_⊎_, inl, inr, ⊎-elim}
 use mathlib.Core.Option.{none, some}
@@ -24,21 +24,21 @@ use Rattle.trb.proofs.TestLaws.{le-or-lt}
 use Rattle.log.specs.Records.{eventKind}
 use Rattle.log.specs.declared.Record.{Record}
 use Rattle.td_part.specs.Parts.{edtlaAfter}
-use Rattle.in_td.specs.Td.{processTd, inTd}
+use Rattle.in_td.specs.Td.{normals, failsAtLast, processTd, inTd}
+use Rattle.in_td.specs.declared.InMode.{InMode}
 use Rattle.in_td.specs.declared.InTd.{InTd}
 use Rattle.account.specs.Guest.{normalOf, normalLength, requested, through, isHeld, range, normalRange, places, Apart, Distinct, IspIfNormal, IspOnNormals, NormalWithIoc, LastNormalWithIoc, isWrite, isEvent, isUnsuccessful, any, relied, sumFor, residualIn, account, namesHeld, countBefore, before, numbered, standsFor, bytes, Account}
 use Rattle.account.proofs.GuestLaws.{length-range, take-append-range, getD-range, length-normalRange, length-places, take-places-min, apart-isHeld, length-numbered, getD-numbered, numbered-take, bytes-append, any-append, bytes-none, any-at, first-at, beforeFirst-at, beforeLast-at, first-none}
-use Rattle.account.proofs.StepLaws.{normal-or-other, leftFrom, fullWrite, fullEvent, fullRecords, quiet-full, bytes-full, missing, shortWrite, shortEvent, shortDue-isp, isUnsuccessful-shortCode}
-use Rattle.account.proofs.TdLog.{logFrom, log-none, OtherLog, other-log, full-log, ShortLog, short-log}
+use Rattle.account.proofs.StepLaws.{normal-or-other, normalCount-other, leftFrom, fullWrite, fullEvent, fullRecords, failedEvent, Fails, fails-last, isUnsuccessful-failed, quiet-full, bytes-full, missing, shortWrite, shortEvent, shortDue-isp, isUnsuccessful-shortCode}
+use Rattle.account.proofs.TdLog.{logFrom, log-none, OtherLog, other-log, full-log, failed-log, ShortLog, short-log}
 
 -- ---- What the log of a TD looks like
 
--- a short Normal's event, and the records behind it
-record Short (left : ℕ) (ts : List TransferTrb) (event : Record) (behind : List Record) : Type 0 where
+-- the event where the bytes ended, a short Normal's or, of a transfer that fails at it, the last one's; and the records behind it
+record Ended (left : ℕ) (ts : List TransferTrb) (event : Record) (behind : List Record) : Type 0 where
   unsuccessful : isUnsuccessful event ≡ true
   held : isHeld (event .address) ts ≡ true
-  sum : through (event .address) ts ≡ left + event .length
-  less : left < requested ts
+  sum : through (event .address) ts ≡ min left (requested ts) + event .length
   writeless : any isWrite behind ≡ false
 
 -- the last TRB's event, where no Normal was short
@@ -56,17 +56,16 @@ record Shape (start left : ℕ) (ts : List TransferTrb) (rs : List Record) : Typ
   kind : event .kind ≡ eventKind
   quiet : any isUnsuccessful front ≡ false
   placed : bytes front ≡ numbered start (take left (places ts))
-  ends : Short left ts event behind ⊎ Full left ts event behind
+  ends : Ended left ts event behind ⊎ Full left ts event behind
 
 -- a TRB in front whose writes fill its own range
 module _ (t : TransferTrb) (ts : List TransferTrb) (apart : Apart (t .addr) ts) (start left from rest : ℕ)
     (further : from ≡ start + normalLength t) (less : left ≡ normalLength t + rest) where
-  short-cons : (event : Record) (behind : List Record) → Short rest ts event behind → Short left (t ∷ ts) event behind
-  short-cons event behind s = record {
+  ended-cons : (event : Record) (behind : List Record) → Ended rest ts event behind → Ended left (t ∷ ts) event behind
+  ended-cons event behind s = record {
     unsuccessful = s .unsuccessful;
     held = rw (s .held) (or-true (eqb (t .addr) (event .address)));
     sum = rw (ne-eqb (t .addr) (event .address) (apart-isHeld (t .addr) (event .address) ts apart (s .held))) (omega (arith, s .sum));
-    less = omega (arith, s .less);
     writeless = s .writeless;
   }
 
@@ -86,39 +85,44 @@ module _ (t : TransferTrb) (ts : List TransferTrb) (apart : Apart (t .addr) ts) 
         kind = m .kind;
         quiet = any-append isUnsuccessful own (m .front) ∙ rw (quiet, m .quiet);
         placed = bytes-append own (m .front) ∙ rw (placed, m .placed) (sym taken);
-        ends = ⊎-elim (λ s. inl (short-cons (m .event) (m .behind) s)) (λ f. inr (full-cons (m .event) (m .behind) f)) (m .ends);
+        ends = ⊎-elim (λ s. inl (ended-cons (m .event) (m .behind) s)) (λ f. inr (full-cons (m .event) (m .behind) f)) (m .ends);
       }
 
 -- ---- The log of every TD looks so
 
 module _ (td : InTd) where
   abbrev Shaped : ℕ → List TransferTrb → Type 0
-  Shaped start ts = (edtla count : ℕ) → Shape start (leftFrom td start) ts (logFrom td start edtla count ts)
+  Shaped start ts = (edtla count left : ℕ) → left ≡ normals ts → Shape start (leftFrom td start) ts (logFrom td start edtla count left ts)
 
   module _ (start : ℕ) (t : TransferTrb) where
     shaped-other : (ts : List TransferTrb) → normalOf (t .variant) ≡ none → Apart (t .addr) ts → Shaped start ts → Shaped start (t ∷ ts)
-    shaped-other ts other apart more edtla count =
-        let o : OtherLog td start ts (logFrom td start edtla count (t ∷ ts)) = other-log td start edtla count t ts other in
+    shaped-other ts other apart more edtla count left counted =
+        let o : OtherLog td start left ts (logFrom td start edtla count left (t ∷ ts)) = other-log td start edtla count left t ts other in
         let none-moved : normalLength t ≡ 0 = rw other in
+        let behind : left ≡ normals ts = omega (arith, normalCount-other (t .variant) other) in
         rw (o .log)
-        (shape-cons t ts apart start (leftFrom td start) start (leftFrom td start) (omega arith) (omega arith) (o .own) (logFrom td start (o .edtla) (o .count) ts)
-        (o .quiet) (rw other (bytes-none (o .own) (o .writeless))) (more (o .edtla) (o .count)))
+        (shape-cons t ts apart start (leftFrom td start) start (leftFrom td start) (omega arith) (omega arith) (o .own) (logFrom td start (o .edtla) (o .count) left ts)
+        (o .quiet) (rw other (bytes-none (o .own) (o .writeless))) (more (o .edtla) (o .count) left behind))
 
     module _ (m : NormalTrb) (kind : t .variant ≡ Normal m) where
-      shaped-full : (ts : List TransferTrb) → m .«transfer_length» ≤ leftFrom td start → Apart (t .addr) ts → Shaped (start + m .«transfer_length») ts
-          → Shaped start (t ∷ ts)
-      shaped-full ts h apart more edtla count =
+      one-more : (ts : List TransferTrb) → normals (t ∷ ts) ≡ 1 + normals ts
+      one-more ts = rw kind
+
+      shaped-full : (ts : List TransferTrb) (edtla count left : ℕ) → left ≡ normals (t ∷ ts) → Fails td left false → m .«transfer_length» ≤ leftFrom td start → Apart (t .addr) ts
+          → Shaped (start + m .«transfer_length») ts → Shape start (leftFrom td start) (t ∷ ts) (logFrom td start edtla count left (t ∷ ts))
+      shaped-full ts edtla count left counted goes h apart more =
           let own : List Record = fullRecords td start m (t .addr) in
           let further : ℕ = start + m .«transfer_length» in
           let moved : normalLength t ≡ m .«transfer_length» = rw kind in
-          rw (full-log td start edtla count t ts m kind h)
+          rw (full-log td start edtla count left t ts m kind goes h)
           (shape-cons t ts apart start (leftFrom td start) further (leftFrom td further) (omega arith) (omega arith) own
-          (logFrom td further (edtlaAfter edtla (m .«transfer_length»)) (count + length own) ts)
-          (quiet-full td start m (t .addr)) (rw kind (bytes-full td start m (t .addr))) (more (edtlaAfter edtla (m .«transfer_length»)) (count + length own)))
+          (logFrom td further (edtlaAfter edtla (m .«transfer_length»)) (count + length own) (left - 1) ts)
+          (quiet-full td start m (t .addr)) (rw kind (bytes-full td start m (t .addr)))
+          (more (edtlaAfter edtla (m .«transfer_length»)) (count + length own) (left - 1) (omega (arith, one-more ts))))
 
       shaped-short : (ts : List TransferTrb) → leftFrom td start < m .«transfer_length» → m .«interrupt_on_short» ≡ true → Shaped start (t ∷ ts)
-      shaped-short ts h isp edtla count =
-          let l : ShortLog td start m (t .addr) (logFrom td start edtla count (t ∷ ts)) = short-log td start edtla count t ts m kind h in
+      shaped-short ts h isp edtla count left counted =
+          let l : ShortLog td start m (t .addr) (logFrom td start edtla count left (t ∷ ts)) = short-log td start edtla count left t ts m kind h in
           let first-bytes : take (leftFrom td start) (range (m .«data_pointer») (m .«transfer_length») ++ places ts) ≡ range (m .«data_pointer») (leftFrom td start) =
           take-append-range (m .«data_pointer») (m .«transfer_length») (leftFrom td start) (places ts) (le-of-lt h) in
           record {
@@ -133,26 +137,61 @@ module _ (td : InTd) where
               unsuccessful = isUnsuccessful-shortCode (td .info) (t .addr) (missing td start m) (td .status);
               held = rw (eq-eqb (t .addr) (t .addr) refl);
               sum = rw (kind, eq-eqb (t .addr) (t .addr) refl) (omega arith);
-              less = rw kind (omega arith);
               writeless = l .writeless;
             });
           }
 
+      -- the last TRB, full
+      module _ (h : m .«transfer_length» ≤ leftFrom td start) (ioc : m .«interrupt_on_completion» ≡ true) (edtla count left : ℕ) where
+        abbrev own-range : List ℕ
+        own-range = range (m .«data_pointer») (m .«transfer_length»)
+
+        last-placed : bytes (fullWrite td start m ∷ []) ≡ numbered start (take (leftFrom td start) (places (t ∷ [])))
+        last-placed = rw (kind, append-nil (numbered start own-range), append-nil own-range, take-all (leftFrom td start) own-range (rw length-range h))
+
+        shaped-last-by : (b : Bool) → Fails td left b → Shape start (leftFrom td start) (t ∷ []) (logFrom td start edtla count left (t ∷ []))
+        shaped-last-by true fails = record {
+          front = fullWrite td start m ∷ [];
+          event = failedEvent td (t .addr);
+          behind = [];
+          split = failed-log td start edtla count left t [] m kind fails h;
+          kind = refl;
+          quiet = refl;
+          placed = last-placed;
+          ends = inl (record {
+            unsuccessful = isUnsuccessful-failed td left fails (t .addr);
+            held = rw (eq-eqb (t .addr) (t .addr) refl);
+            sum = rw (kind, eq-eqb (t .addr) (t .addr) refl) (omega arith);
+            writeless = refl;
+          });
+        }
+        shaped-last-by false goes =
+            let further : ℕ = start + m .«transfer_length» in
+            let count-then : ℕ = count + length (fullRecords td start m (t .addr)) in
+            let none-behind : logFrom td further (edtlaAfter edtla (m .«transfer_length»)) count-then (left - 1) [] ≡ [] =
+            log-none td further (edtlaAfter edtla (m .«transfer_length»)) count-then (left - 1) in
+            record {
+              front = fullWrite td start m ∷ [];
+              event = fullEvent td (t .addr);
+              behind = [];
+              split = full-log td start edtla count left t [] m kind goes h ∙ rw (none-behind, ioc);
+              kind = refl;
+              quiet = refl;
+              placed = last-placed;
+              ends = inr (record { success = refl; last = refl; enough = rw kind (omega arith) });
+            }
+
       shaped-last : m .«transfer_length» ≤ leftFrom td start → m .«interrupt_on_completion» ≡ true → Shaped start (t ∷ [])
-      shaped-last h ioc edtla count =
-          let own : List ℕ = range (m .«data_pointer») (m .«transfer_length») in
-          let none-behind : logFrom td (start + m .«transfer_length») (edtlaAfter edtla (m .«transfer_length»)) (count + length (fullRecords td start m (t .addr))) [] ≡ [] =
-          log-none td (start + m .«transfer_length») (edtlaAfter edtla (m .«transfer_length»)) (count + length (fullRecords td start m (t .addr))) in
-          record {
-            front = fullWrite td start m ∷ [];
-            event = fullEvent td (t .addr);
-            behind = [];
-            split = full-log td start edtla count t [] m kind h ∙ rw (none-behind, ioc);
-            kind = refl;
-            quiet = refl;
-            placed = rw (kind, append-nil (numbered start own), append-nil own, take-all (leftFrom td start) own (rw length-range h));
-            ends = inr (record { success = refl; last = refl; enough = rw kind (omega arith) });
-          }
+      shaped-last h ioc edtla count left counted = shaped-last-by h ioc edtla count left (failsAtLast (td .mode) (td .status) left) refl
+
+      -- a Normal with another behind it, full
+      shaped-next : (ts : List TransferTrb) → m .«transfer_length» ≤ leftFrom td start → 0 < normals ts → Apart (t .addr) ts → Shaped (start + m .«transfer_length») ts
+          → Shaped start (t ∷ ts)
+      shaped-next ts h counted-behind apart more edtla count left counted = by-failure (failsAtLast (td .mode) (td .status) left) refl
+        where
+          by-failure : (b : Bool) → Fails td left b → Shape start (leftFrom td start) (t ∷ ts) (logFrom td start edtla count left (t ∷ ts))
+          by-failure true fails = absurd (omega (arith, fails-last (td .mode) (td .status) left fails, one-more ts))
+          by-failure false goes = shaped-full ts edtla count left counted goes h apart more
 
     -- the last TRB
     shaped-alone : IspIfNormal (normalOf (t .variant)) → NormalWithIoc (normalOf (t .variant)) → Shaped start (t ∷ [])
@@ -166,21 +205,28 @@ module _ (td : InTd) where
         (normal-or-other (t .variant))
 
     -- a TRB with others behind it
-    shaped-cons : (ts : List TransferTrb) → Apart (t .addr) ts → IspIfNormal (normalOf (t .variant)) → ((from : ℕ) → Shaped from ts) → Shaped start (t ∷ ts)
-    shaped-cons ts apart isp more =
+    shaped-cons : (ts : List TransferTrb) → 0 < normals ts → Apart (t .addr) ts → IspIfNormal (normalOf (t .variant)) → ((from : ℕ) → Shaped from ts) → Shaped start (t ∷ ts)
+    shaped-cons ts counted-behind apart isp more =
         ⊎-elim
         (λ k. ⊎-elim
-        (λ h. shaped-full (k .0) (k .1) ts h apart (more (start + k .0 .«transfer_length»)))
+        (λ h. shaped-next (k .0) (k .1) ts h counted-behind apart (more (start + k .0 .«transfer_length»)))
         (λ h. shaped-short (k .0) (k .1) ts h (rw (k .1) at isp))
         (le-or-lt (k .0 .«transfer_length») (leftFrom td start)))
         (λ other. shaped-other ts other apart (more start))
         (normal-or-other (t .variant))
 
+  -- the last TRB is a Normal
+  last-counted : (ts : List TransferTrb) → LastNormalWithIoc ts → 0 < normals ts
+  last-counted [] last = absurd last
+  last-counted (t ∷ []) last =
+      ⊎-elim (λ k. let one : normals (t ∷ []) ≡ 1 = rw (k .1) in omega arith) (λ other. absurd (rw other at last)) (normal-or-other (t .variant))
+  last-counted (t ∷ u ∷ ts) last = omega (arith, last-counted (u ∷ ts) last)
+
   shaped : (start : ℕ) (ts : List TransferTrb) → Distinct ts → IspOnNormals ts → LastNormalWithIoc ts → Shaped start ts
   shaped start [] distinct isp last = absurd last
   shaped start (t ∷ []) distinct isp last = shaped-alone start t (isp .0) last
   shaped start (t ∷ u ∷ ts) distinct isp last =
-      shaped-cons start t (u ∷ ts) (distinct .0) (isp .0) (λ from. shaped from (u ∷ ts) (distinct .1) (isp .1) last)
+      shaped-cons start t (u ∷ ts) (last-counted (u ∷ ts) last) (distinct .0) (isp .0) (λ from. shaped from (u ∷ ts) (distinct .1) (isp .1) last)
 
 -- ---- What the guest reads off such a log
 
@@ -200,12 +246,12 @@ module _ (n : ℕ) (ts : List TransferTrb) (front : List Record) (event : Record
     noneLater = rw (count, drop-append-seam front (event ∷ behind), kind) writeless;
   }
 
-  account-short : (behind : List Record) → Short n ts event behind → Account n ts (front ++ event ∷ behind)
-  account-short behind s =
+  account-ended : (behind : List Record) → Ended n ts event behind → Account n ts (front ++ event ∷ behind)
+  account-ended behind s =
       let this : relied (front ++ event ∷ behind) ≡ some event = first-at isUnsuccessful event front behind quiet (s .unsuccessful) in
       let count : countBefore (front ++ event ∷ behind) ≡ length front =
       rw (any-at isUnsuccessful event front behind (s .unsuccessful)) (beforeFirst-at isUnsuccessful event front behind quiet (s .unsuccessful)) in
-      account-at behind count (s .writeless) (rw this (s .held)) (rw this (omega (arith, s .sum))) (rw this (omega (arith, s .sum, s .less)))
+      account-at behind count (s .writeless) (rw this (s .held)) (rw this (omega (arith, s .sum))) (rw this (omega (arith, s .sum)))
 
   account-full : Full n ts event [] → Account n ts (front ++ event ∷ [])
   account-full f =
@@ -218,15 +264,15 @@ account-shape : (n : ℕ) (ts : List TransferTrb) (rs : List Record) → Shape 0
 account-shape n ts rs s =
     rw (s .split)
     (⊎-elim
-    (λ h. account-short n ts (s .front) (s .event) (s .kind) (s .quiet) (s .placed) (s .behind) h)
+    (λ h. account-ended n ts (s .front) (s .event) (s .kind) (s .quiet) (s .placed) (s .behind) h)
     (λ h. rw (h .last) (account-full n ts (s .front) (s .event) (s .kind) (s .quiet) (s .placed) (rw (h .last) at h)))
     (s .ends))
 
 -- 00, demand 3: the guest's account of an IN TD is the device's
-pub accounted : (e : EndpointId) (s : SlotId) (st : InTrbProcessingStatus) (n : ℕ) (ts : List TransferTrb)
-    → Distinct ts → IspOnNormals ts → LastNormalWithIoc ts → Account n ts (processTd (inTd e s st n) ts .records)
-accounted e s st n ts distinct isp last =
-    account-shape n ts (processTd (inTd e s st n) ts .records) (rw sub-zero at (shaped (inTd e s st n) 0 ts distinct isp last 0 0))
+pub accounted : (e : EndpointId) (s : SlotId) (mode : InMode) (st : InTrbProcessingStatus) (n : ℕ) (ts : List TransferTrb)
+    → Distinct ts → IspOnNormals ts → LastNormalWithIoc ts → Account n ts (processTd (inTd e s mode st n) ts .records)
+accounted e s mode st n ts distinct isp last =
+    account-shape n ts (processTd (inTd e s mode st n) ts .records) (rw sub-zero at (shaped (inTd e s mode st n) 0 ts distinct isp last 0 0 (normals ts) refl))
 
 -- ---- The same, byte by byte
 

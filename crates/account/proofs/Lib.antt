@@ -3,4 +3,5 @@ pub mod StepLaws
 pub mod TdLog
 pub mod Accounted
 pub mod WriteLengths
+pub mod StrictLaws
 pub mod ClaimLaws

@@ -1,14 +1,14 @@
--- What one TRB of an IN TD logs, and what it leaves of the progress: a Normal that is full, a Normal that is short, a TRB of another kind,
--- and any TRB after a short Normal. Assumes nothing.
+-- What one TRB of an IN TD logs, and what it leaves of the progress: a Normal that is full, one at which a transfer in strict mode fails, a
+-- Normal that is short, a TRB of another kind, and any TRB after a short Normal. Assumes nothing.
 use Prim.Native.Nat.{ℕ, _+_, _-_, _<_, _≤_, min}
-use mathlib.Core.Path.{_≡_, refl}
-use mathlib.Core.Bool.{Bool, true, false, _||_, or-true}
-use mathlib.Core.List.{List, _∷_, append-nil}
+use mathlib.Core.Path.{_≡_, refl, sym}
+use mathlib.Core.Bool.{Bool, true, false, _||_, or-true, true≢false}
+use mathlib.Core.List.{List, [], _∷_, append-nil}
 use mathlib.Core.Logic.{_⊎_, inl, inr, ⊎-elim}
 use mathlib.Core.Option.{none}
 use native.Mathlib.Nat.{add-zero, min-eq-left, min-eq-right, le-of-lt}
 use native.Mathlib.Omega.{arith}
-use borrow.Author.Tests.{ne-eqb}
+use borrow.Author.Tests.{eqb-true, ne-eqb}
 use lib.Dec.{eqb}
 use lib.ListN.{length}
 use Rattle.trb.specs.declared.CompletionCode.{CompletionCode}
@@ -26,10 +26,13 @@ use Rattle.td_part.specs.Parts.{edtlaAfter, putDma, realizeDma, eventAt, codeAf
 use Rattle.td_part.specs.declared.TdInfo.{TdInfo}
 use Rattle.td_part.specs.declared.TdProcessingState.{TdProcessingState}
 use Rattle.td_part.specs.declared.TdProcessingState.the-variants.{Default, ShortTransfer}
-use Rattle.in_td.specs.Td.{goingOn, goesOn, handleNormal, trbIn, processTrb}
+use Rattle.in_td.specs.Td.{normalCount, normals, goingOn, goesOn, failsAtLast, handleNormal, trbIn, processTrb, ended}
+use Rattle.in_td.specs.declared.InMode.{InMode}
+use Rattle.in_td.specs.declared.InMode.the-variants.{AsPorted, Strict}
 use Rattle.in_td.specs.declared.InTd.{InTd}
 use Rattle.in_td.specs.declared.TdProcessed.{TdProcessed}
-use Rattle.account.specs.Guest.{normalOf, range, isWrite, isUnsuccessful, any, numbered, bytes, writeLengths}
+use Rattle.account.specs.Guest.{normalOf, requested, range, isWrite, isUnsuccessful, any, numbered, bytes, writeLengths}
+use Rattle.account.specs.Strict.{failureCode, failureResult}
 use Rattle.account.proofs.GuestLaws.{bytes-none, writeLengths-none}
 
 -- a TRB is a Normal, or of another kind
@@ -43,9 +46,29 @@ normal-or-other (NoOp t) = inr refl
 normal-or-other Isoch = inr refl
 normal-or-other Unrecognized = inr refl
 
--- processing goes on, and the next write starts at the device's byte `start`
-abbrev pub reached : ℕ → ℕ → TdProcessingState → ℕ → TdProcessed
-reached start edtla state count = goingOn (record { start = start; edtla = edtla; state = state; records = count })
+-- a TRB of another kind is no Normal
+pub normalCount-other : (v : TransferTrbVariant) → normalOf v ≡ none → normalCount v ≡ 0
+normalCount-other (SetupStage t) h = refl
+normalCount-other (DataStage t) h = refl
+normalCount-other (StatusStage t) h = refl
+normalCount-other (Normal m) h = let z : _≡_ {A = ℕ} 0 1 = cc in absurd (omega arith)
+normalCount-other (EventData t) h = refl
+normalCount-other (NoOp t) h = refl
+normalCount-other Isoch h = refl
+normalCount-other Unrecognized h = refl
+
+-- without a Normal nothing is asked for
+pub requested-none : (ts : List TransferTrb) → normals ts ≡ 0 → requested ts ≡ 0
+requested-none [] h = refl
+requested-none (t ∷ ts) h =
+    ⊎-elim
+    (λ k. let one : normals (t ∷ ts) ≡ 1 + normals ts = rw (k .1) in absurd (omega arith))
+    (λ other. let none : normals (t ∷ ts) ≡ normals ts = rw (normalCount-other (t .variant) other) (omega arith) in rw (other, requested-none ts (omega arith)))
+    (normal-or-other (t .variant))
+
+-- processing goes on, the next write starts at the device's byte `start`, and so many Normals are left
+abbrev pub reached : ℕ → ℕ → TdProcessingState → ℕ → ℕ → TdProcessed
+reached start edtla state count left = goingOn left (record { start = start; edtla = edtla; state = state; records = count })
 
 pub any-when : (test : Record → Bool) (due : Bool) (r : Record) → test r ≡ false → any test (when due r) ≡ false
 any-when test true r e = rw e
@@ -57,14 +80,14 @@ any-when test false r e = refl
 pub record Passed (p : TdProcessed) (o : Out TdProcessed) : Type 0 where
   pub edtla : ℕ
   pub count : ℕ
-  pub next : o .state ≡ reached (p .progress .start) edtla (p .progress .state) count
+  pub next : o .state ≡ reached (p .progress .start) edtla (p .progress .state) count (p .«normals_left»)
   pub quiet : any isUnsuccessful (o .records) ≡ false
   pub writeless : any isWrite (o .records) ≡ false
 
-passed-silent : (p : TdProcessed) → Passed p (goesOn (silent (p .progress)))
+passed-silent : (p : TdProcessed) → Passed p (goesOn (p .«normals_left») (silent (p .progress)))
 passed-silent p = record { edtla = p .progress .edtla; count = p .progress .records; next = refl; quiet = refl; writeless = refl }
 
-passed-kind : (td : InTd) (p : TdProcessed) (v : TransferTrbVariant) (a : ℕ) (cycle : Bool) → normalOf v ≡ none → Passed p (trbIn v td (p .progress) a cycle)
+passed-kind : (td : InTd) (p : TdProcessed) (v : TransferTrbVariant) (a : ℕ) (cycle : Bool) → normalOf v ≡ none → Passed p (trbIn v td p a cycle)
 passed-kind td p (Normal m) a cycle h = let z : _≡_ {A = ℕ} 0 1 = cc in absurd (omega arith)
 passed-kind td p (EventData t) a cycle h =
     let ioc : Bool = t .«interrupt_on_completion» in
@@ -138,27 +161,67 @@ pub record Shortened (td : InTd) (start : ℕ) (m : NormalTrb) (a : ℕ) (o : Ou
   pub records : o .records ≡ shortWrite td start m ∷ when (shortDue (td .status) m) (shortEvent td start m a)
   pub next : o .state .progress .state ≡ ShortTransfer (missing td start m)
 
-module _ (td : InTd) (start edtla count : ℕ) (t : TransferTrb) (m : NormalTrb) (kind : t .variant ≡ Normal m) where
-  pub full-step : m .«transfer_length» ≤ leftFrom td start
-      → processTrb td (reached start edtla Default count) t
+-- full, and the transfer fails at it: it writes its length, and the event has the status's code
+abbrev pub failedEvent : InTd → ℕ → Record
+failedEvent td a = eventAt (td .info) a 0 (failureCode (td .status))
+
+pub record Failed (td : InTd) (start : ℕ) (t : TransferTrb) (m : NormalTrb) (o : Out TdProcessed) : Type 0 where
+  pub records : o .records ≡ fullWrite td start m ∷ failedEvent td (t .addr) ∷ []
+  pub result : o .state .result ≡ failureResult (td .status) (t .addr) (t .«cycle_bit»)
+  pub over : ended (o .state) ≡ true
+
+-- whether a transfer fails at its last Normal
+abbrev pub Fails : InTd → ℕ → Bool → Type 0
+Fails td left b = failsAtLast (td .mode) (td .status) left ≡ b
+
+-- one that succeeds does not
+fails-success : (mode : InMode) (left : ℕ) → failsAtLast mode status.Success left ≡ true → ⊥
+fails-success AsPorted left h = true≢false (sym h)
+fails-success Strict left h = true≢false (sym h)
+
+-- and where one does, the last Normal it is
+pub fails-last : (mode : InMode) (st : InTrbProcessingStatus) (left : ℕ) → failsAtLast mode st left ≡ true → left ≡ 1
+fails-last AsPorted st left h = absurd (true≢false (sym h))
+fails-last Strict status.Success left h = absurd (true≢false (sym h))
+fails-last Strict status.Stall left h = eqb-true left 1 h
+fails-last Strict status.TransactionError left h = eqb-true left 1 h
+fails-last Strict status.Disconnect left h = eqb-true left 1 h
+
+module _ (td : InTd) (start edtla count left : ℕ) (t : TransferTrb) (m : NormalTrb) (kind : t .variant ≡ Normal m) where
+  pub full-step : Fails td left false → m .«transfer_length» ≤ leftFrom td start
+      → processTrb td (reached start edtla Default count left) t
       ≡ record {
-        state = reached (start + m .«transfer_length») (edtlaAfter edtla (m .«transfer_length»)) Default (count + length (fullRecords td start m (t .addr)));
+        state = reached (start + m .«transfer_length») (edtlaAfter edtla (m .«transfer_length»)) Default (count + length (fullRecords td start m (t .addr))) (left - 1);
         records = fullRecords td start m (t .addr);
       }
   unfolding processTrb handleNormal realizeDma putDma
-  full-step h =
+  full-step goes h =
       let none-missing : m .«transfer_length» - min (m .«transfer_length») (leftFrom td start) ≡ 0 = omega arith in
-      rw (kind, none-missing, min-eq-left h)
+      rw (kind, none-missing, goes, min-eq-left h)
+
+  failed-under : (st : InTrbProcessingStatus) → td .status ≡ st → failsAtLast (td .mode) st left ≡ true → min (m .«transfer_length») (leftFrom td start) ≡ m .«transfer_length»
+      → m .«transfer_length» - min (m .«transfer_length») (leftFrom td start) ≡ 0 → Failed td start t m (processTrb td (reached start edtla Default count left) t)
+  unfolding processTrb handleNormal putDma
+  failed-under status.Success e fails all-moved none-missing = absurd (fails-success (td .mode) left fails)
+  failed-under status.Stall e fails all-moved none-missing =
+      record { records = rw (kind, e, none-missing, fails, all-moved); result = rw (kind, e, none-missing, fails); over = rw (kind, e, none-missing, fails) }
+  failed-under status.TransactionError e fails all-moved none-missing =
+      record { records = rw (kind, e, none-missing, fails, all-moved); result = rw (kind, e, none-missing, fails); over = rw (kind, e, none-missing, fails) }
+  failed-under status.Disconnect e fails all-moved none-missing =
+      record { records = rw (kind, e, none-missing, fails, all-moved); result = rw (kind, e, none-missing, fails); over = rw (kind, e, none-missing, fails) }
+
+  pub failed-step : Fails td left true → m .«transfer_length» ≤ leftFrom td start → Failed td start t m (processTrb td (reached start edtla Default count left) t)
+  failed-step fails h = failed-under (td .status) refl fails (min-eq-left h) (omega arith)
 
   short-under : (st : InTrbProcessingStatus) → td .status ≡ st → min (m .«transfer_length») (leftFrom td start) ≡ leftFrom td start
-      → eqb (missing td start m) 0 ≡ false → Shortened td start m (t .addr) (processTrb td (reached start edtla Default count) t)
+      → eqb (missing td start m) 0 ≡ false → Shortened td start m (t .addr) (processTrb td (reached start edtla Default count left) t)
   unfolding processTrb handleNormal realizeDma putDma
   short-under status.Success e all-left some = record { records = rw (kind, e, all-left, some); next = rw (kind, e, all-left, some) }
   short-under status.Stall e all-left some = record { records = rw (kind, e, all-left, some); next = rw (kind, e, all-left, some) }
   short-under status.TransactionError e all-left some = record { records = rw (kind, e, all-left, some); next = rw (kind, e, all-left, some) }
   short-under status.Disconnect e all-left some = record { records = rw (kind, e, all-left, some); next = rw (kind, e, all-left, some) }
 
-  pub short-step : leftFrom td start < m .«transfer_length» → Shortened td start m (t .addr) (processTrb td (reached start edtla Default count) t)
+  pub short-step : leftFrom td start < m .«transfer_length» → Shortened td start m (t .addr) (processTrb td (reached start edtla Default count left) t)
   short-step h = short-under (td .status) refl (min-eq-right (le-of-lt h)) (ne-eqb (missing td start m) 0 (λ q. omega arith))
 
 -- what the guest reads off the records of a full Normal: nothing to rely on, and its range
@@ -189,6 +252,16 @@ isUnsuccessful-shortCode td a residual status.Success = refl
 isUnsuccessful-shortCode td a residual status.Stall = refl
 isUnsuccessful-shortCode td a residual status.TransactionError = refl
 isUnsuccessful-shortCode td a residual status.Disconnect = refl
+
+-- and so it does on the event of a Normal at which the transfer fails
+pub isUnsuccessful-failed : (td : InTd) (left : ℕ) → Fails td left true → (a : ℕ) → isUnsuccessful (failedEvent td a) ≡ true
+isUnsuccessful-failed td left fails a = by-status (td .status) fails
+  where
+    by-status : (st : InTrbProcessingStatus) → failsAtLast (td .mode) st left ≡ true → isUnsuccessful (eventAt (td .info) a 0 (failureCode st)) ≡ true
+    by-status status.Success h = absurd (fails-success (td .mode) left h)
+    by-status status.Stall h = refl
+    by-status status.TransactionError h = refl
+    by-status status.Disconnect h = refl
 
 -- ---- Any TRB after a short Normal
 

@@ -19,6 +19,8 @@ use Rattle.log.specs.declared.Record.{Record}
 use Rattle.td_part.specs.Parts.{putDma, realizeDma}
 use Rattle.walks.specs.Walk.{walk}
 use Rattle.in_td.specs.Td.{handleNormal, processTrb, processTd, inTd}
+use Rattle.in_td.specs.declared.InMode.{InMode}
+use Rattle.in_td.specs.declared.InMode.the-variants.{AsPorted, Strict}
 use Rattle.account.specs.Guest.{requested, places, isWrite, isEvent, any, relied, sumFor, residualIn, account, namesHeld, before, later, numbered, bytes}
 
 -- ---- The test
@@ -76,9 +78,9 @@ noOp a ioc = record { variant = NoOp (record { chain = true; «interrupt_on_comp
 abbrev pub tdT : List TransferTrb
 tdT = normal 0x1000 0x8000 512 true true false ∷ normal 0x1010 0x8200 512 true true false ∷ normal 0x1020 0x8400 512 true false true ∷ []
 
--- the log of a list under a status with n bytes
-abbrev logOf : InTrbProcessingStatus → ℕ → List TransferTrb → List Record
-logOf st n ts = processTd (inTd endpoint slot st n) ts .records
+-- the log of a list in a mode, under a status with n bytes
+abbrev logOf : InMode → InTrbProcessingStatus → ℕ → List TransferTrb → List Record
+logOf mode st n ts = processTd (inTd endpoint slot mode st n) ts .records
 
 abbrev write : ℕ → ℕ → ℕ → Record
 write a length start = guestWrite a length start endpoint slot
@@ -101,8 +103,8 @@ abbrev pub claimed : Claim → Bool
 claimed c = c .holds
 
 -- of the log of the walk
-abbrev walked : InTrbProcessingStatus → List TransferTrb → ℕ → Bool → Claim
-walked st ts n b = record { n = n; trbs = ts; log = logOf st n ts; holds = b }
+abbrev walked : InMode → InTrbProcessingStatus → List TransferTrb → ℕ → Bool → Claim
+walked mode st ts n b = record { n = n; trbs = ts; log = logOf mode st n ts; holds = b }
 
 -- of another log of T
 abbrev other : ℕ → List Record → Bool → Claim
@@ -114,18 +116,21 @@ lengths = 0 ∷ 1 ∷ 511 ∷ 512 ∷ 513 ∷ 600 ∷ 1024 ∷ 1535 ∷ 1536 ∷
 abbrev statuses : List InTrbProcessingStatus
 statuses = Success ∷ Stall ∷ TransactionError ∷ Disconnect ∷ []
 
-abbrev underStatus : InTrbProcessingStatus → List Claim
-underStatus st = map (λ (n : ℕ). walked st tdT n true) lengths
+abbrev underStatus : InMode → InTrbProcessingStatus → List Claim
+underStatus mode st = map (λ (n : ℕ). walked mode st tdT n true) lengths
+
+abbrev inMode : InMode → List Claim
+inMode mode = underStatus mode Success ++ (underStatus mode Stall ++ (underStatus mode TransactionError ++ underStatus mode Disconnect))
 
 abbrev pub right : List Claim
-right = underStatus Success ++ (underStatus Stall ++ (underStatus TransactionError ++ underStatus Disconnect))
+right = inMode AsPorted ++ inMode Strict
 
 abbrev pub worthless : List Claim
 worthless =
     -- the event before its write
     other 600 (write 0x8000 512 0 ∷ event ShortPacket 0x1010 424 ∷ write 0x8200 88 512 ∷ event ShortPacket 0x1020 424 ∷ []) false
     -- the same records for every TD: those of 600 bytes for 700
-    ∷ other 700 (logOf Success 600 tdT) false
+    ∷ other 700 (logOf AsPorted Success 600 tdT) false
     -- nothing
     ∷ other 600 [] false
     -- the first Normal is served, and the rest pretended
@@ -138,8 +143,8 @@ worthless =
     ∷ other 600 (write 0x8000 512 0 ∷ write 0x8200 88 512 ∷ event ShortPacket 0x1010 424 ∷ write 0x8400 0 600 ∷ []) false
     ∷ []
 
--- what the guest's account alone does not rule out: an error status where n = S, and a later Normal's own length as its residual.
--- The equation of a completion's log with the walk's rules both out: `accountedWrongly-differ`
+-- what the guest's account alone does not rule out: an error status where n = S, as ported, and a later Normal's own length as its
+-- residual. The equation of a completion's log with the walk's rules both out: `accountedWrongly-differ`
 abbrev pub accountedWrongly : List Claim
 accountedWrongly =
     other 1536 (write 0x8000 512 0 ∷ write 0x8200 512 512 ∷ write 0x8400 512 1024 ∷ event StallError 0x1020 0 ∷ []) true
@@ -170,26 +175,33 @@ withoutIoc = normal 1 100 512 true false false ∷ []
 
 abbrev pub corners : List Claim
 corners =
-    walked Success zeroLengths 512 true
-    ∷ walked Stall zeroLengths 512 true
-    ∷ walked Stall noneRequested 0 true
-    ∷ walked Stall noneRequested 7 true
-    ∷ walked Success mixed 600 true
-    ∷ walked Disconnect mixed 1024 true
+    walked AsPorted Success zeroLengths 512 true
+    ∷ walked AsPorted Stall zeroLengths 512 true
+    ∷ walked AsPorted Stall noneRequested 0 true
+    ∷ walked AsPorted Stall noneRequested 7 true
+    ∷ walked AsPorted Success mixed 600 true
+    ∷ walked AsPorted Disconnect mixed 1024 true
+    ∷ walked Strict Stall zeroLengths 1024 true
+    ∷ walked Strict Stall noneRequested 0 true
+    ∷ walked Strict TransactionError noneRequested 7 true
+    ∷ walked Strict Disconnect mixed 1024 true
     -- lists that demand 3 leaves out
-    ∷ walked Success addressTwice 600 false
-    ∷ walked Success withoutIsp 600 false
-    ∷ walked Success withoutIoc 512 false
+    ∷ walked AsPorted Success addressTwice 600 false
+    ∷ walked AsPorted Success withoutIsp 600 false
+    ∷ walked AsPorted Success withoutIoc 512 false
     -- a transfer that fails has its event without ISP
-    ∷ walked Stall withoutIsp 600 true
+    ∷ walked AsPorted Stall withoutIsp 600 true
+    -- and in strict mode without IOC
+    ∷ walked AsPorted Stall withoutIoc 512 false
+    ∷ walked Strict Stall withoutIoc 512 true
     ∷ []
 
 abbrev pub claims : List Claim
 claims = right ++ (worthless ++ (accountedWrongly ++ corners))
 
--- the claim's log has the codes and lengths of the walk's, under this status
+-- the claim's log has the codes and lengths of the walk's as ported, under this status
 abbrev isWalked : Claim → InTrbProcessingStatus → Bool
-isWalked c st = same (map codeAndLength (c .log)) (map codeAndLength (logOf st (c .n) (c .trbs)))
+isWalked c st = same (map codeAndLength (c .log)) (map codeAndLength (logOf AsPorted st (c .n) (c .trbs)))
   where
     codeAndLength : Record → ℕ × ℕ
     codeAndLength r = (r .code, r .length)

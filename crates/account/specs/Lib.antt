@@ -1,2 +1,3 @@
 pub mod Guest
+pub mod Strict
 pub mod Claims

@@ -2,6 +2,7 @@
 use by_reference::CompletionOutcome;
 use by_reference::SubmissionOutcome;
 use in_block::InBlock;
+use in_td::InMode;
 use trb::EndpointId;
 use trb::InTrbProcessingResult;
 use trb::SlotId;
@@ -35,7 +36,7 @@ fn turns_of(trbs: u32, repeats: u32) -> u64 {
 }
 
 fn fresh_block() -> InBlock {
-    let created = in_endpoint::create(EndpointId(3), SlotId(2));
+    let created = in_endpoint::create(EndpointId(3), SlotId(2), InMode::AsPorted);
     created.block
 }
 

@@ -1,4 +1,5 @@
 // What bench/ times of the TD as a lent row. A library of its own, so that here too each timed function has one call site.
+use in_td::InMode;
 use row_plan::RowCompleted;
 use trb::EndpointId;
 use trb::SlotId;
@@ -59,7 +60,15 @@ pub extern "C" fn bench_calls_in_by_row(
     let mut sum: u64 = 0;
     let mut k: u32 = 0;
     while k < repeats {
-        let completed = td_row::complete_row(log, EndpointId(3), SlotId(2), row, result, data);
+        let completed = td_row::complete_row(
+            log,
+            EndpointId(3),
+            SlotId(2),
+            InMode::AsPorted,
+            row,
+            result,
+            data,
+        );
         sum = sum_with_row(sum, completed);
         k += 1;
     }

@@ -1,6 +1,7 @@
 // What bench/ times: the product on repeated work, over numbers and lent bytes alone. Each function answers a checksum.
 // One call site for each timed function, as a program has that drives an endpoint.
 use control_block::GuestRelease;
+use in_td::InMode;
 use trb::ControlRequestProcessingResult;
 use trb::DataStageTrb;
 use trb::EndpointId;
@@ -25,7 +26,7 @@ pub extern "C" fn bench_calls_in_by_value(
     completes: bool,
     repeats: u32,
 ) -> u64 {
-    let created = in_endpoint::create(EndpointId(3), SlotId(2));
+    let created = in_endpoint::create(EndpointId(3), SlotId(2), InMode::AsPorted);
     let mut block = created.block;
     let mut sum = 0;
     let mut k = 0;

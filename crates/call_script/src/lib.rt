@@ -1,6 +1,7 @@
 // One line of a call script: the call that it asks for.
 use call_number::Number;
 use control_block::GuestRelease;
+use in_td::InMode;
 use raw_trb::DecodedTrb;
 use trb::ControlSubmissionState;
 use trb::ControlTransferState;
@@ -81,7 +82,7 @@ pub enum DeviceStatus {
 pub enum Call {
     Window(u64, usize),
     Buffers(usize, usize),
-    CreateIn(EndpointId, SlotId),
+    CreateIn(EndpointId, SlotId, InMode),
     CreateControl(EndpointId, SlotId, GuestRelease),
     Submit(TransferTrb),
     CompleteWithResult(DeviceStatus, usize),
@@ -441,22 +442,38 @@ fn buffers(fields: Fields) -> Call
     Call::Buffers(log, collect)
 }
 
+// In the mode of this number.
+fn in_creation_for(endpoint_id: EndpointId, slot_id: SlotId, mode: u64) -> Call
+    ensures { λ r. ⌜ WithinLimits r ⌝ }
+{
+    match mode {
+        0 => Call::CreateIn(endpoint_id, slot_id, InMode::AsPorted),
+        1 => Call::CreateIn(endpoint_id, slot_id, InMode::Strict),
+        _ => Call::Bad,
+    }
+}
+
+// A line that names no mode is as ported.
 fn in_creation(fields: Fields) -> Call
     ensures { λ r. ⌜ WithinLimits r ⌝ }
 {
     let numbers = fields.numbers;
+    let count = fields.count;
     let endpoint = numbers[0];
     let slot = numbers[1];
-    if fields.count != 2 {
-        return Call::Bad;
-    }
     if MAX_BYTE < endpoint {
         return Call::Bad;
     }
     if MAX_BYTE < slot {
         return Call::Bad;
     }
-    Call::CreateIn(EndpointId(endpoint as u8), SlotId(slot as u8))
+    let endpoint_id = EndpointId(endpoint as u8);
+    let slot_id = SlotId(slot as u8);
+    match count {
+        2 => in_creation_for(endpoint_id, slot_id, 0),
+        3 => in_creation_for(endpoint_id, slot_id, numbers[2]),
+        _ => Call::Bad,
+    }
 }
 
 // For guests of the release of this number.

@@ -10,6 +10,7 @@ use Rattle.trb.specs.declared.SlotId.{SlotId}
 use Rattle.trb.specs.declared.InTrbProcessingStatus.the-variants as status
 use Rattle.trb.specs.declared.TransferTrb.{TransferTrb}
 use Rattle.in_td.specs.Td.{processTd, inTd}
+use Rattle.in_td.specs.declared.InMode.{InMode}
 use Rattle.standard.specs.Xhci.{Trb, normal, stage, eventData, noOp, TransferEvent, Fate, complete, cut, beyond, fate, asked, ended, repeatedResidual, accumulated, accumulatedInAll, edtla, report, eventIf, eventsAt, eventsFrom}
 use Rattle.standard.specs.Xhci as xhci
 use Rattle.standard.proofs.XhciLaws.{edtla-accumulated, accumulatedInAll-min}
@@ -100,11 +101,11 @@ module _ (n : ℕ) where
   leftOver-none before (noOp a ioc ∷ ts) h = leftOver-none (noOp a ioc ∷ before) ts h
 
 -- where the device succeeded: every Event Data TRB with IOC, the last TRB one of them, and fewer than 2^24 bytes asked for
-pub eventLengths-moved : (e : EndpointId) (s : SlotId) (n : ℕ) (ts : List TransferTrb) → asked (tdOf ts) < 2 ^ 24
+pub eventLengths-moved : (e : EndpointId) (s : SlotId) (mode : InMode) (n : ℕ) (ts : List TransferTrb) → asked (tdOf ts) < 2 ^ 24
     → everyEventDataTells (tdOf ts) ≡ true → endsInEventData (tdOf ts) ≡ true
-    → eventLengths (told (processTd (inTd e s status.Success n) ts .records)) ≡ min n (asked (tdOf ts))
-eventLengths-moved e s n ts h every last =
-    rw (told-outcomeIn e s status.Success n ts)
+    → eventLengths (told (processTd (inTd e s mode status.Success n) ts .records)) ≡ min n (asked (tdOf ts))
+eventLengths-moved e s mode n ts h every last =
+    rw (told-outcomeIn e s mode status.Success n ts tt)
     (omega (
       arith,
       tells-all n [] (tdOf ts) (omega arith) every,

@@ -1,9 +1,8 @@
 -- Every record of a walk, IN or control, has the ids of its endpoint (xHCI 1.2, 6.4.2.1): each TRB's records have. Assumes nothing.
-use Prim.Native.Nat.{ℕ}
+use Prim.Native.Nat.{ℕ, _-_}
 use mathlib.Core.Path.{refl}
 use mathlib.Core.Bool.{Bool, true, false, cond}
 use mathlib.Core.List.{List, [], _∷_, _++_}
-use lib.Dec.{eqb}
 use Rattle.trb.specs.declared.CompletionCode.{CompletionCode}
 use Rattle.trb.specs.declared.CompletionCode.the-variants.{Success, UsbTransactionError, StallError, ShortPacket}
 use Rattle.trb.specs.declared.EndpointId.{EndpointId}
@@ -25,7 +24,9 @@ use Rattle.td_part.specs.declared.TrbDmaInfo.{TrbDmaInfo}
 use Rattle.td_part.specs.Parts.{ofNormal, ofDataStage, atStart, residualOf, codeAfter, putDma, realizeDma}
 use Rattle.walks.specs.Walk.{walk}
 use Rattle.walks.proofs.WalkLaws.{walk-records}
-use Rattle.in_td.specs.Td.{goesOn, shortNormal, normalIn, handleNormal, processTrb, processTd, inTd, ended, unprocessed}
+use Rattle.in_td.specs.Td.{normals, goesOn, endingNormal, isDone, normalIn, handleNormal, processTrb, processTd, inTd, ended, unprocessed}
+use Rattle.in_td.specs.declared.InMode.{InMode}
+use Rattle.in_td.specs.declared.TdProcessed.{TdProcessed}
 use Rattle.in_td.specs.Td as td
 use Rattle.control_chain.specs.Chain.{edtlaZeroed, realizeDataStage, realizeNormal, realizeTrb, realizeChain, never, inputTd}
 use Rattle.control_chain.specs.Chain as chain
@@ -59,35 +60,36 @@ module _ (e : EndpointId) (s : SlotId) where
 
     -- ---- IN
 
-    module _ (st : InTrbProcessingStatus) (w : TdProgress) where
-      short-ids : (st : InTrbProcessingStatus) (m : NormalTrb) (a : ℕ) (cycle : Bool) → AllOf e s (shortNormal st info w m a cycle .records)
-      short-ids status.Success m a cycle = realize-ids w (ofNormal m a)
-      short-ids status.Stall m a cycle = put-ids w (ofNormal m a) true StallError
-      short-ids status.TransactionError m a cycle = put-ids w (ofNormal m a) true UsbTransactionError
-      short-ids status.Disconnect m a cycle = put-ids w (ofNormal m a) true UsbTransactionError
+    module _ (mode : InMode) (st : InTrbProcessingStatus) (left : ℕ) (w : TdProgress) where
+      ending-ids : (st : InTrbProcessingStatus) (m : NormalTrb) (a : ℕ) (cycle : Bool) → AllOf e s (endingNormal st info (left - 1) w m a cycle .records)
+      ending-ids status.Success m a cycle = realize-ids w (ofNormal m a)
+      ending-ids status.Stall m a cycle = put-ids w (ofNormal m a) true StallError
+      ending-ids status.TransactionError m a cycle = put-ids w (ofNormal m a) true UsbTransactionError
+      ending-ids status.Disconnect m a cycle = put-ids w (ofNormal m a) true UsbTransactionError
 
-      normal-ids : (state : TdProcessingState) (m : NormalTrb) (a : ℕ) (cycle : Bool) → AllOf e s (normalIn state (inTd e s st n) w m a cycle .records)
+      normal-ids : (state : TdProcessingState) (m : NormalTrb) (a : ℕ) (cycle : Bool) → AllOf e s (normalIn state (inTd e s mode st n) left w m a cycle .records)
       normal-ids (ShortTransfer missing) m a cycle = event-ids (m .«interrupt_on_completion») a missing ShortPacket false
-      normal-ids Default m a cycle = by-test (eqb (residualOf info w (m .«transfer_length»)) 0)
+      normal-ids Default m a cycle = by-test (isDone (inTd e s mode st n) left (residualOf info w (m .«transfer_length»)))
         where
-          by-test : (b : Bool) → AllOf e s (cond b (goesOn (realizeDma info w (ofNormal m a))) (shortNormal st info w m a cycle) .records)
+          by-test : (b : Bool) → AllOf e s (cond b (goesOn (left - 1) (realizeDma info w (ofNormal m a))) (endingNormal st info (left - 1) w m a cycle) .records)
           by-test true = realize-ids w (ofNormal m a)
-          by-test false = short-ids st m a cycle
+          by-test false = ending-ids st m a cycle
 
-      trb-ids : (v : TransferTrbVariant) (a : ℕ) (cycle : Bool) → AllOf e s (td.trbIn v (inTd e s st n) w a cycle .records)
-      unfolding handleNormal
-      trb-ids (Normal m) a cycle = normal-ids (w .state) m a cycle
-      trb-ids (EventData t) a cycle = event-ids (t .«interrupt_on_completion») (t .«event_data») (w .edtla) (codeAfter (w .state)) true
-      trb-ids (NoOp t) a cycle = event-ids (t .«interrupt_on_completion») a 0 Success false
-      trb-ids (SetupStage t) a cycle = tt
-      trb-ids (DataStage t) a cycle = tt
-      trb-ids (StatusStage t) a cycle = tt
-      trb-ids Isoch a cycle = tt
-      trb-ids Unrecognized a cycle = tt
+    trb-ids : (mode : InMode) (st : InTrbProcessingStatus) (p : TdProcessed) (v : TransferTrbVariant) (a : ℕ) (cycle : Bool) → AllOf e s (td.trbIn v (inTd e s mode st n) p a cycle .records)
+    unfolding handleNormal
+    trb-ids mode st p (Normal m) a cycle = normal-ids mode st (p .«normals_left») (p .progress) (p .progress .state) m a cycle
+    trb-ids mode st p (EventData t) a cycle = event-ids (t .«interrupt_on_completion») (t .«event_data») (p .progress .edtla) (codeAfter (p .progress .state)) true
+    trb-ids mode st p (NoOp t) a cycle = event-ids (t .«interrupt_on_completion») a 0 Success false
+    trb-ids mode st p (SetupStage t) a cycle = tt
+    trb-ids mode st p (DataStage t) a cycle = tt
+    trb-ids mode st p (StatusStage t) a cycle = tt
+    trb-ids mode st p Isoch a cycle = tt
+    trb-ids mode st p Unrecognized a cycle = tt
 
-    pub processTd-ids : (st : InTrbProcessingStatus) (ts : List TransferTrb) → AllOf e s (processTd (inTd e s st n) ts .records)
+    pub processTd-ids : (mode : InMode) (st : InTrbProcessingStatus) (ts : List TransferTrb) → AllOf e s (processTd (inTd e s mode st n) ts .records)
     unfolding processTrb
-    processTd-ids st ts = walk-ids (processTrb (inTd e s st n)) ended (λ p t. trb-ids st (p .progress) (t .variant) (t .addr) (t .«cycle_bit»)) unprocessed ts
+    processTd-ids mode st ts =
+        walk-ids (processTrb (inTd e s mode st n)) ended (λ p t. trb-ids mode st p (t .variant) (t .addr) (t .«cycle_bit»)) (unprocessed (normals ts)) ts
 
     -- ---- Control IN
 

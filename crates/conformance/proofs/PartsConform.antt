@@ -19,7 +19,7 @@ use Rattle.td_part.specs.declared.TdProgress.{TdProgress}
 use Rattle.td_part.specs.declared.TdProcessingState.the-variants.{Default, ShortTransfer}
 use Rattle.td_part.specs.declared.TrbDmaInfo.{TrbDmaInfo}
 use Rattle.td_part.specs.Parts.{edtlaAfter, putDma, realizeDma, repeatShort, reportSuccess, handleEventData, codeAfter, eventAt}
-use Rattle.standard.specs.Xhci.{Trb, normal, eventData, noOp, Outcome, ended, failed, complete, cut, fate, transferEvent, asked, moved, shortResidual, edtla, repeatedResidual, accumulated, report, eventsAt, eventOf, eventIf, success, iocOf, deliveryAt, halts}
+use Rattle.standard.specs.Xhci.{Trb, normal, eventData, noOp, Outcome, ended, failed, complete, cut, fate, transferEvent, asked, moved, residual, shortResidual, edtla, repeatedResidual, accumulated, report, eventsAt, eventOf, eventIf, success, iocOf, deliveryAt, halts}
 use Rattle.standard.proofs.XhciLaws.{fate-cut, fate-beyond}
 use Rattle.conformance.specs.Translate.{told, wrote}
 use Rattle.conformance.proofs.TranslateLaws.{told-when, wrote-when}
@@ -152,13 +152,19 @@ module _ (td : TdInfo) (before : List Trb) (w : TdProgress) (d : TrbDmaInfo) (be
       runs = refl;
     }
 
-    -- where the transfer failed in it, it has the error's event, the endpoint halts there, and no TRB behind it runs
-    pub failed-events : (code : CompletionCode) → fate (failed (codeNumber code)) n before (trbOf d) behind ≡ cut
-        → told (putDma td w d true code .records) ≡ eventsAt repeatedResidual (failed (codeNumber code)) n before (trbOf d) behind
-    failed-events code f = rw (short-records, f, moved-rest)
+  -- where the transfer failed in it, it has the error's event, the endpoint halts there, and no TRB behind it runs
+  module _ (at : Reached n before w) (code : CompletionCode) where
+    failed-records : putDma td w d true code .records
+        ≡ guestWrite (d .«data_pointer») (moved n before (trbOf d)) (asked before) (td .«endpoint_id») (td .«slot_id») ∷ eventAt td (d .addr) (residual n before (trbOf d)) code ∷ []
+    unfolding putDma
+    failed-records = rw (at .start)
 
-    pub failed-writes : (code : CompletionCode) → wrote (putDma td w d true code .records) ≡ deliveryAt n before (trbOf d) ++ []
-    failed-writes code = rw (short-records, moved-rest)
+    pub failed-events : fate (failed (codeNumber code)) n before (trbOf d) behind ≡ cut
+        → told (putDma td w d true code .records) ≡ eventsAt repeatedResidual (failed (codeNumber code)) n before (trbOf d) behind
+    failed-events f = rw (failed-records, f)
+
+    pub failed-writes : wrote (putDma td w d true code .records) ≡ deliveryAt n before (trbOf d) ++ []
+    failed-writes = rw failed-records
 
   -- passed after a short TRB
   module _ (at : Shortened n before w) where

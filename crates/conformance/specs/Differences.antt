@@ -9,6 +9,7 @@ use Rattle.trb.specs.declared.ControlRequestProcessingResult.the-variants as de
 use Rattle.trb.specs.declared.InTrbProcessingResult.the-variants.{Given, NoneGiven}
 use Rattle.trb.specs.declared.InTrbProcessingStatus.the-variants as status
 use Rattle.trb.specs.declared.TransferTrbVariant.the-variants.{Unrecognized}
+use Rattle.in_td.specs.declared.InMode.the-variants.{Strict}
 use Rattle.log.specs.Records.{requestKind}
 use Rattle.log.specs.declared.Record.{Record}
 use Rattle.control_block.specs.declared.GuestRelease.the-variants.{Release4, Release5}
@@ -16,7 +17,7 @@ use Rattle.standard.specs.Control.{Kind, ControlTransfer, dataStage, statusStag
 use Rattle.standard.specs.Usb.{Setup, setupBytes}
 use Rattle.standard.specs.Xhci.{normal, eventData, noOp, transferEvent, ownResidual, succeeded, stalled, unanswered, ended, events, delivery, isTd}
 use Rattle.conformance.specs.Phases.{OfKind}
-use Rattle.conformance.specs.Runs.{seen, standardSeen, inCall, inRun, ControlCall, controlCall, ControlRan, controlRunFor, controlRun, normalTrb, eventDataTrb, noOpTrb, setupStageTrb, dataStageTrb, statusStageTrb, unrecognizedTrb}
+use Rattle.conformance.specs.Runs.{seen, standardSeen, inCall, inRunIn, inRun, ControlCall, controlCall, ControlRan, controlRunFor, controlRun, normalTrb, eventDataTrb, noOpTrb, setupStageTrb, dataStageTrb, statusStageTrb, unrecognizedTrb}
 use Rattle.conformance.specs.Translate.{runsOn, halts, haltsAt, told}
 
 -- USB 2.0, 9.4.3: GET_DESCRIPTOR with wLength 64
@@ -32,7 +33,7 @@ abbrev requestLengths : List Record → List ℕ
 requestLengths [] = []
 requestLengths (r ∷ rs) = cond (eqb (r .kind) requestKind) (r .length ∷ requestLengths rs) (requestLengths rs)
 
--- ---- 1: a Normal of 0 bytes with IOC; Stall
+-- ---- 1: a Normal of 0 bytes with IOC; Stall, as ported
 
 pub stall-of-none-engine : inRun (inCall (normalTrb 0x1000 0x8000 0 false true false false) (Given status.Stall) 0 ∷ [])
     ≡ record { events = transferEvent 1 false 0x1000 0 ∷ []; writes = []; halt = runsOn }
@@ -42,6 +43,12 @@ stall-of-none-engine = refl
 pub stall-of-none-standard : standardSeen ownResidual stalled 0 (normal 0x1000 0x8000 0 true false ∷ [])
     ≡ record { events = transferEvent 6 false 0x1000 0 ∷ []; writes = []; halt = haltsAt 0x1000 }
 stall-of-none-standard = refl
+
+-- 02, R-4: in strict mode they agree
+pub stall-of-none-strict : inRunIn Strict (inCall (normalTrb 0x1000 0x8000 0 false true false false) (Given status.Stall) 0 ∷ [])
+    ≡ standardSeen ownResidual stalled 0 (normal 0x1000 0x8000 0 true false ∷ [])
+unfolding inRunIn
+stall-of-none-strict = refl
 
 -- ---- 2: a Normal of 8 bytes with IOC; 9 bytes come
 

@@ -23,6 +23,8 @@ use Rattle.in_endpoint.specs.Completion.{transferred, completion as completionI
 use Rattle.in_endpoint.specs.Submission.{submission as submissionIn}
 use Rattle.in_questions.specs.Questions.{submissionQuestions as submissionQuestionsIn, completionQuestions as completionQuestionsIn}
 use Rattle.in_td.specs.Td.{handleNormal, processTrb}
+use Rattle.in_td.specs.declared.InMode.{InMode}
+use Rattle.in_td.specs.declared.InMode.the-variants.{AsPorted}
 use Rattle.guest_memory.specs.Places.{placeOf, rangeInside}
 use Rattle.held.specs.Places.{cleared}
 use Rattle.held.specs.Sound.{soundTrb}
@@ -95,9 +97,14 @@ inFrom b rs h (inCall t r n ∷ calls) =
     let p = completionIn minLog (o .state .block) r n in
     inFrom (p .state .block) (rs ++ (o .records ++ p .records)) (haltAnswered (p .state .answer)) calls
 
-unfoldable pub inRun : List InCall → Seen
+-- in this mode
+unfoldable pub inRunIn : InMode → List InCall → Seen
 unfolding inFrom submissionIn submissionQuestionsIn outcomeOf completionIn completionQuestionsIn firstNo transferred idsInRange soundIn soundTrb all rangeInside placeOf cleared walk processTrb handleNormal putDma realizeDma
-inRun calls = inFrom (freshBlock (record { 0 = 3 }) (record { 0 = 2 })) [] runsOn calls
+inRunIn mode calls = inFrom (freshBlock (record { 0 = 3 }) (record { 0 = 2 }) mode) [] runsOn calls
+
+unfoldable pub inRun : List InCall → Seen
+unfolding inRunIn
+inRun calls = inRunIn AsPorted calls
 
 -- ---- Control
 

@@ -16,6 +16,9 @@ use Rattle.trb.specs.declared.TrbProcessingResult.{TrbProcessingResult}
 use Rattle.trb.specs.declared.TrbProcessingResult.the-variants as result
 use Rattle.log.specs.Records.{writeKind, eventKind}
 use Rattle.log.specs.declared.Record.{Record}
+use Rattle.in_td.specs.Td.{normals}
+use Rattle.in_td.specs.declared.InMode.{InMode}
+use Rattle.in_td.specs.declared.InMode.the-variants.{AsPorted, Strict}
 use Rattle.standard.specs.Xhci.{Trb, normal, stage, eventData, noOp, TransferEvent, transferEvent, Ending, succeeded, stalled, unanswered, Outcome, ended, failed, stallError, usbTransactionError, asked, shortResidual, Delivery, delivery, deliverIf}
 
 -- ---- TRBs of an IN TD
@@ -65,19 +68,37 @@ endingOf status.Stall = stalled
 endingOf status.TransactionError = unanswered
 endingOf status.Disconnect = unanswered
 
--- 01, IN endpoint: a transfer ends in error only where n < S; data beyond S is dropped
-abbrev pub outcomeIn : InTrbProcessingStatus → (n requested : ℕ) → Outcome
-outcomeIn status.Success n requested = ended
-outcomeIn status.Stall n requested = cond (leb requested n) ended (failed stallError)
-outcomeIn status.TransactionError n requested = cond (leb requested n) ended (failed usbTransactionError)
-outcomeIn status.Disconnect n requested = cond (leb requested n) ended (failed usbTransactionError)
+-- 01, IN endpoint: a transfer ends in error only where n < S; data beyond S is dropped. 02, R-4: in strict mode it ends in error
+-- however many bytes came
+abbrev pub outcomeIn : InMode → InTrbProcessingStatus → (n requested : ℕ) → Outcome
+outcomeIn mode status.Success n requested = ended
+outcomeIn AsPorted status.Stall n requested = cond (leb requested n) ended (failed stallError)
+outcomeIn AsPorted status.TransactionError n requested = cond (leb requested n) ended (failed usbTransactionError)
+outcomeIn AsPorted status.Disconnect n requested = cond (leb requested n) ended (failed usbTransactionError)
+outcomeIn Strict status.Stall n requested = failed stallError
+outcomeIn Strict status.TransactionError n requested = failed usbTransactionError
+outcomeIn Strict status.Disconnect n requested = failed usbTransactionError
 
--- the bytes of a result for which that is the standard's outcome: at most S under Success, fewer under an error
-abbrev pub Agreed : InTrbProcessingStatus → (n requested : ℕ) → Type 0
-Agreed status.Success n requested = n ≤ requested
-Agreed status.Stall n requested = n < requested
-Agreed status.TransactionError n requested = n < requested
-Agreed status.Disconnect n requested = n < requested
+-- the bytes of a result for which that is the standard's outcome: at most S under Success; under an error fewer as ported, and any
+-- number in strict mode
+abbrev pub Agreed : InMode → InTrbProcessingStatus → (n requested : ℕ) → Type 0
+Agreed mode status.Success n requested = n ≤ requested
+Agreed AsPorted status.Stall n requested = n < requested
+Agreed AsPorted status.TransactionError n requested = n < requested
+Agreed AsPorted status.Disconnect n requested = n < requested
+Agreed Strict status.Stall n requested = Unit {0}
+Agreed Strict status.TransactionError n requested = Unit {0}
+Agreed Strict status.Disconnect n requested = Unit {0}
+
+-- a TD that the device was asked for has a Normal; only a failure in strict mode has need of it
+abbrev pub HasNormal : InMode → InTrbProcessingStatus → List TransferTrb → Type 0
+HasNormal mode status.Success ts = Unit {0}
+HasNormal AsPorted status.Stall ts = Unit {0}
+HasNormal AsPorted status.TransactionError ts = Unit {0}
+HasNormal AsPorted status.Disconnect ts = Unit {0}
+HasNormal Strict status.Stall ts = 0 < normals ts
+HasNormal Strict status.TransactionError ts = 0 < normals ts
+HasNormal Strict status.Disconnect ts = 0 < normals ts
 
 -- what a result says of the endpoint: it runs on, or it halts, at the TRB that the result names, if it names one
 pub data Halt : Type 0 where

@@ -231,7 +231,7 @@ pub fn run(
     match call {
         Call::Window(_, _) => bad(block, at),
         Call::Buffers(_, _) => bad(block, at),
-        Call::CreateIn(_, _) => bad(block, at),
+        Call::CreateIn(_, _, _) => bad(block, at),
         Call::CreateControl(_, _, _) => bad(block, at),
         Call::Submit(t) => submit(text, at, log, collect, lent, block, t, base, window),
         Call::CompleteWithResult(status, n) => {

@@ -1,4 +1,4 @@
--- 01, Examples from the bench: those marked †, as one computed test on a list that holds them all. Assumes nothing.
+-- 01, Examples from the bench: those marked †, as one computed test on a list that holds them all; with them those of 02, R-4. Assumes nothing.
 use Prim.Native.Nat.{ℕ}
 use mathlib.Core.Bool.{true, false}
 use mathlib.Core.List.{List, [], _∷_, map}
@@ -45,7 +45,7 @@ use Rattle.control_transfer.specs.Transfers as transfers
 use Rattle.phase_table.specs.Table.{becomes}
 use Rattle.examples.specs.Control as onControlEndpoint
 use Rattle.examples.specs.Control.{onControl, onControlFor, setup, dataStage, status}
-use Rattle.examples.specs.In.{Seen, play, onIn, normal, eventData, noOp}
+use Rattle.examples.specs.In.{Seen, play, onIn, onStrict, normal, eventData, noOp}
 
 -- ---- What is expected: records of endpoint 3, slot 2
 
@@ -119,6 +119,38 @@ examples =
       found = onIn (normal 0x1000 0x8000 512 false false true ∷ eventData 0x1010 0xABCD true false ∷ []) (Given device.Success) 100;
       expected = ends result.Ok (requested 0x1000 512 ∷ wrote 0x8000 100 0 ∷ eventDataOf code.ShortPacket 0xABCD 100 ∷ []);
     }
+    -- 02, R-4: T, Stall, 1,536 in strict mode: code 6 at 0x1020, result Stall with 0x1020
+    ∷ record {
+      found = onStrict tdT (Given device.Stall) 1536;
+      expected = ends (result.StallAt 0x1020 true)
+          (requested 0x1000 1536
+          ∷ wrote 0x8000 512 0
+          ∷ wrote 0x8200 512 512
+          ∷ wrote 0x8400 512 1024
+          ∷ event code.StallError 0x1020 0
+          ∷ []);
+    }
+    -- T, TransactionError, 600: as ported
+    ∷ record {
+      found = onStrict tdT (Given device.TransactionError) 600;
+      expected = ends (result.TransactionErrorAt 0x1010 true)
+          (requested 0x1000 1536 ∷ wrote 0x8000 512 0 ∷ wrote 0x8200 88 512 ∷ event code.UsbTransactionError 0x1010 424 ∷ []);
+    }
+    -- a stall on a read of 0 bytes, with no flag on: code 6
+    ∷ record {
+      found = onStrict (normal 0x1000 0x8000 0 false false false ∷ []) (Given device.Stall) 0;
+      expected = ends (result.StallAt 0x1000 true) (requested 0x1000 0 ∷ wrote 0x8000 0 0 ∷ event code.StallError 0x1000 0 ∷ []);
+    }
+    -- Normals of 8 and 0 with IOC, then EventData and NoOp with IOC; Disconnect, 9 bytes: nothing behind the last Normal
+    ∷ record {
+      found = onStrict
+          (normal 0x1000 0x8000 8 false true true ∷ normal 0x1010 0x8008 0 false true true ∷ eventData 0x1020 0xABCD true true ∷ noOp 0x1030 true false ∷ [])
+          (Given device.Disconnect) 9;
+      expected = ends result.Disconnect
+          (requested 0x1000 8 ∷ wrote 0x8000 8 0 ∷ event code.Success 0x1000 0 ∷ wrote 0x8008 0 8 ∷ event code.UsbTransactionError 0x1010 0 ∷ []);
+    }
+    -- a local completion is Success
+    ∷ record { found = onStrict (noOp 0x1000 true false ∷ []) NoneGiven 0; expected = ends result.Ok (event code.Success 0x1000 0 ∷ []) }
     -- Setup 80 06, value 0x0100, wLength 64; Data IN 18; Status: request of 18
     ∷ record {
       found = onControl (setup 0x1000 0x80 6 0x0100 0 64 false ∷ dataStage 0x1010 0x8000 18 false true ∷ status 0x1020 false ∷ []) SuccessfulControlIn 18;
@@ -136,7 +168,7 @@ examples =
     }
     ∷ []
 
--- the definitions say of every example what document 01 says
+-- the definitions say of every example what the documents say
 bench : map (λ (e : Example). e .found) examples ≡ map (λ (e : Example). e .expected) examples
-unfolding examples wrote event eventDataOf requested asked collects ends normal eventData noOp setup dataStage status walk cleared all soundTrb placeOf idsInRange putDma realizeDma onIn play creation submission inQuestions.submissionQuestions outcomeOf completion inQuestions.completionQuestions transferred soundBlock rangeInside processTrb handleNormal onControl onControlFor onControlEndpoint.play becomes transferAfter controlBlock.soundBlock firstNo submissionQuestions hasRoom reaches transfers.collects inReach windowBytes bytesOf submits.submission submits.bytesCollected submits.accepted submits.recordsOf submits.blockAfter completionQuestions completes.completion completes.accepted completes.blockBehind endingRecords successes moveOut realizeDataStage realizeNormal realizeTrb
+unfolding examples wrote event eventDataOf requested asked collects ends normal eventData noOp setup dataStage status walk cleared all soundTrb placeOf idsInRange putDma realizeDma onIn onStrict play creation submission inQuestions.submissionQuestions outcomeOf completion inQuestions.completionQuestions transferred soundBlock rangeInside processTrb handleNormal onControl onControlFor onControlEndpoint.play becomes transferAfter controlBlock.soundBlock firstNo submissionQuestions hasRoom reaches transfers.collects inReach windowBytes bytesOf submits.submission submits.bytesCollected submits.accepted submits.recordsOf submits.blockAfter completionQuestions completes.completion completes.accepted completes.blockBehind endingRecords successes moveOut realizeDataStage realizeNormal realizeTrb
 bench = refl

@@ -12,6 +12,7 @@ use Rattle.trb.specs.declared.TransferTrbVariant.the-variants.{Normal, EventDat
 use Rattle.trb.specs.declared.TrbProcessingResult.the-variants.{Ok}
 use Rattle.log.specs.Calls.{Out}
 use Rattle.log.specs.declared.Record.{Record}
+use Rattle.in_td.specs.declared.InMode.the-variants.{AsPorted, Strict}
 use Rattle.in_block.specs.declared.InBlock.{InBlock}
 use Rattle.in_endpoint.specs.Completion.{completion}
 use Rattle.in_endpoint.specs.Creation.{creation}
@@ -53,7 +54,11 @@ play b (t ∷ u ∷ ts) r n =
 
 -- endpoint 3, slot 2
 unfoldable pub onIn : List TransferTrb → InTrbProcessingResult → ℕ → Seen
-onIn ts r n = play (creation (record { 0 = 3 }) (record { 0 = 2 }) .block) ts r n
+onIn ts r n = play (creation (record { 0 = 3 }) (record { 0 = 2 }) AsPorted .block) ts r n
+
+-- 02, R-4: in strict mode
+unfoldable pub onStrict : List TransferTrb → InTrbProcessingResult → ℕ → Seen
+onStrict ts r n = play (creation (record { 0 = 3 }) (record { 0 = 2 }) Strict .block) ts r n
 
 -- TRBs, with cycle bit on: address, then what the kind has
 unfoldable pub normal : ℕ → ℕ → ℕ → (isp ioc chain : Bool) → TransferTrb

@@ -1,8 +1,9 @@
 -- 01, Submission: is the block sound? Whose turn is it? Both over facts: the block's own values, and what was found of the TRBs held.
 -- Assumes nothing.
+use Prim.Native.Nat.{_+_, min}
 use mathlib.Core.Bool.{Bool, true, false, not, _&&_, _||_}
 use mathlib.Core.List.{List}
-use lib.Dec.{leb}
+use lib.Dec.{eqb, leb}
 use Rattle.trb.specs.Ids.{idsInRange}
 use Rattle.trb.specs.Limits.{maxHeld, maxTransferLength}
 use Rattle.trb.specs.Trbs.{transferLength}
@@ -10,10 +11,9 @@ use Rattle.trb.specs.declared.TdBasedNormalSubmissionState.{TdBasedNormalSubmis
 use Rattle.trb.specs.declared.TdBasedNormalSubmissionState.the-variants.{SubmissionDue, CollectingTd, AwaitingRealTransfer, AwaitingLocalCompletion, UnsupportedTrb}
 use Rattle.trb.specs.declared.TransferTrb.{TransferTrb}
 use Rattle.trb.specs.declared.TransferTrbVariant.{TransferTrbVariant}
-use Rattle.trb.specs.declared.TransferTrbVariant.the-variants.{SetupStage, DataStage, StatusStage, Normal, EventData, NoOp, Isoch, Unrecognized}
 use Rattle.held.specs.Sound.{supported, heldSound}
 use Rattle.held.specs.declared.EndpointKind.the-variants.{In}
-use Rattle.walks.specs.All.{all}
+use Rattle.in_td.specs.Td.{normalCount, normals}
 use Rattle.in_block.specs.declared.BlockFacts.{BlockFacts}
 use Rattle.in_block.specs.declared.HeldTest.{HeldTest}
 use Rattle.in_block.specs.declared.InBlock.{InBlock}
@@ -35,31 +35,19 @@ awaitsDevice AwaitingRealTransfer = true
 awaitsDevice AwaitingLocalCompletion = false
 awaitsDevice (UnsupportedTrb a) = false
 
-abbrev pub isNormal : TransferTrbVariant → Bool
-isNormal (SetupStage t) = false
-isNormal (DataStage t) = false
-isNormal (StatusStage t) = false
-isNormal (Normal t) = true
-isNormal (EventData t) = false
-isNormal (NoOp t) = false
-isNormal Isoch = false
-isNormal Unrecognized = false
-
 -- ---- What is found of the TRBs held
 
 -- of a kind that an IN endpoint supports, its length at most 131,071
 abbrev pub soundIn : TransferTrbVariant → Bool
 soundIn v = supported In v && leb (transferLength v) maxTransferLength
 
-abbrev pub noNormal : TransferTrb → Bool
-noNormal t = not (isNormal (t .variant))
-
 -- with one TRB more
 abbrev pub trbTest : HeldTest → TransferTrb → HeldTest
-trbTest r t = record { sound = r .sound && soundIn (t .variant); «no_normal» = r .«no_normal» && noNormal t }
+trbTest r t = record { sound = r .sound && soundIn (t .variant); normals = min (r .normals + normalCount (t .variant)) maxHeld }
 
+-- no more Normals are counted than a block has places
 abbrev pub heldTest : List TransferTrb → HeldTest
-heldTest ts = record { sound = heldSound In ts; «no_normal» = all noNormal ts }
+heldTest ts = record { sound = heldSound In ts; normals = min (normals ts) maxHeld }
 
 abbrev pub factsOf : InBlock → BlockFacts
 factsOf b = record { «endpoint_id» = b .«endpoint_id»; «slot_id» = b .«slot_id»; state = b .state; held = b .held; found = heldTest (heldOf b) }
@@ -71,4 +59,4 @@ factsOf b = record { «endpoint_id» = b .«endpoint_id»; «slot_id» = b .«sl
 unfoldable pub soundBlock : BlockFacts → Bool
 soundBlock f =
     idsInRange (f .«endpoint_id») (f .«slot_id»)
-    && (leb (f .held) maxHeld && (f .found .sound && (not (awaitsDevice (f .state)) || not (f .found .«no_normal»))))
+    && (leb (f .held) maxHeld && (f .found .sound && (not (awaitsDevice (f .state)) || not (eqb (f .found .normals) 0))))

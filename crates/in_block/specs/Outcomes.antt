@@ -1,6 +1,7 @@
 -- 01, IN endpoint: what becomes of a TRB that is submitted, and what a completion does. Assumes nothing.
 use Prim.Native.Nat.{ℕ}
 use mathlib.Core.Bool.{cond}
+use lib.Dec.{eqb}
 use Rattle.trb.specs.Trbs.{chainOf}
 use Rattle.trb.specs.declared.InTrbProcessingResult.{InTrbProcessingResult}
 use Rattle.trb.specs.declared.InTrbProcessingResult.the-variants.{NoneGiven, Given}
@@ -19,7 +20,7 @@ use Rattle.in_block.specs.Facts.{trbTest}
 
 -- if the TD has a Normal, a request is logged. Otherwise the completion is local
 abbrev pub endedTd : HeldTest → Outcome
-endedTd td = cond (td .«no_normal») CompleteLocally Request
+endedTd td = cond (eqb (td .normals) 0) CompleteLocally Request
 
 -- Normal, EventData and NoOp are held; any other TRB drops the held ones. A TRB with chain off ends the TD
 unfoldable pub outcomeOf : HeldTest → TransferTrb → Outcome

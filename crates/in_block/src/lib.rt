@@ -1,6 +1,7 @@
 // The block of an IN endpoint: made, stored into, emptied, and the facts of it that the questions ask about; what becomes of a TRB
 // that is submitted, and what a completion does.
 use held::EndpointKind;
+use in_td::InMode;
 use trb::EndpointId;
 use trb::InTrbProcessingResult;
 use trb::InTrbProcessingStatus;
@@ -10,28 +11,31 @@ use trb::TransferTrb;
 use trb::TransferTrbVariant;
 ghost use mathlib.Core.Path.{_≡_};
 ghost use mathlib.Core.Bool.{_&&_};
-ghost use Prim.Native.Nat.{_<_};
+ghost use Prim.Native.Nat.{_+_, _<_, min};
 ghost use Rattle.trb.specs.Limits.{maxHeld};
+ghost use Rattle.in_td.specs.Td.{isNormal, normalCount};
 ghost use Rattle.in_block.specs.Blocks.{freshBlock, withState, stored, emptied};
-ghost use Rattle.in_block.specs.Facts.{isNormal, soundIn, trbTest, submissionDue, awaitsDevice, soundBlock};
+ghost use Rattle.in_block.specs.Facts.{soundIn, trbTest, submissionDue, awaitsDevice, soundBlock};
 ghost use Rattle.in_block.specs.Outcomes.{outcomeOf, stateAfter, endingOf};
 
 pub struct InBlock {
     pub endpoint_id: EndpointId,
     pub slot_id: SlotId,
+    pub mode: InMode,
     pub state: TdBasedNormalSubmissionState,
     pub held: usize,
     pub trbs: [TransferTrb; trb::MAX_HELD],
 }
 
-pub fn fresh(endpoint_id: EndpointId, slot_id: SlotId) -> InBlock
-    ensures { λ r. ⌜ r ≡ freshBlock «endpoint_id» «slot_id» ⌝ }
+pub fn fresh(endpoint_id: EndpointId, slot_id: SlotId, mode: InMode) -> InBlock
+    ensures { λ r. ⌜ r ≡ freshBlock «endpoint_id» «slot_id» mode ⌝ }
 {
     let blank = held::blank();
     let trbs = [blank; trb::MAX_HELD];
     InBlock {
         endpoint_id: endpoint_id,
         slot_id: slot_id,
+        mode: mode,
         state: TdBasedNormalSubmissionState::SubmissionDue,
         held: 0,
         trbs: trbs,
@@ -43,10 +47,12 @@ pub fn with_state(block: InBlock, state: TdBasedNormalSubmissionState) -> InBloc
 {
     let endpoint_id = block.endpoint_id;
     let slot_id = block.slot_id;
+    let mode = block.mode;
     let trbs = block.trbs;
     InBlock {
         endpoint_id: endpoint_id,
         slot_id: slot_id,
+        mode: mode,
         state: state,
         held: block.held,
         trbs: trbs,
@@ -71,11 +77,13 @@ pub fn empty(block: InBlock, state: TdBasedNormalSubmissionState) -> InBlock
 {
     let endpoint_id = block.endpoint_id;
     let slot_id = block.slot_id;
+    let mode = block.mode;
     let trbs = block.trbs;
     let cleared = held::clear(trbs, block.held);
     InBlock {
         endpoint_id: endpoint_id,
         slot_id: slot_id,
+        mode: mode,
         state: state,
         held: 0,
         trbs: cleared,
@@ -121,13 +129,13 @@ fn is_normal(variant: TransferTrbVariant) -> bool
     }
 }
 
-// What question 2 asks of each TRB held: is every one sound, and none a Normal?
+// What question 2 asks of each TRB held: is every one sound, and how many are Normals? No more are counted than a block has places.
 pub struct HeldTest {
     pub sound: bool,
-    pub no_normal: bool,
+    pub normals: usize,
 }
 
-// Is the TRB of a kind that an IN endpoint and its length within the limit?
+// Is the TRB of a kind that an IN endpoint holds, and its length within the limit?
 fn is_sound_trb(variant: TransferTrbVariant) -> bool
     ensures { λ r. ⌜ r ≡ soundIn variant ⌝ }
 {
@@ -143,16 +151,29 @@ fn both(a: bool, b: bool) -> bool
     if a { b } else { false }
 }
 
+// The Normals counted, with this TRB.
+fn count_normal(so_far: usize, variant: TransferTrbVariant) -> usize
+    ensures { λ r. ⌜ r ≡ min («so_far» + normalCount variant) maxHeld ⌝ }
+{
+    if trb::MAX_HELD <= so_far {
+        return trb::MAX_HELD;
+    }
+    if is_normal(variant) {
+        return so_far + 1;
+    }
+    so_far
+}
+
 // One TRB more is tested.
 pub fn test_trb(so_far: HeldTest, t: TransferTrb) -> HeldTest
     ensures { λ r. ⌜ r ≡ trbTest «so_far» t ⌝ }
 {
     let variant = t.variant;
     let sound = both(so_far.sound, is_sound_trb(variant));
-    let no_normal = both(so_far.no_normal, !is_normal(variant));
+    let normals = count_normal(so_far.normals, variant);
     HeldTest {
         sound: sound,
-        no_normal: no_normal,
+        normals: normals,
     }
 }
 
@@ -175,7 +196,7 @@ pub fn is_sound(facts: BlockFacts) -> bool
     let held = facts.held;
     let found = facts.found;
     let sound = found.sound;
-    let no_normal = found.no_normal;
+    let normals = found.normals;
     if !trb::ids_in_range(endpoint_id, slot_id) {
         return false;
     }
@@ -188,7 +209,7 @@ pub fn is_sound(facts: BlockFacts) -> bool
     if !awaits_device(state) {
         return true;
     }
-    !no_normal
+    normals != 0
 }
 
 // ---- What becomes of a TRB that is taken
@@ -216,7 +237,7 @@ pub fn outcome_of(found: HeldTest, t: TransferTrb) -> Outcome
         return Outcome::Collect;
     }
     let of_td = test_trb(found, t);
-    if of_td.no_normal {
+    if of_td.normals == 0 {
         return Outcome::CompleteLocally;
     }
     Outcome::Request

@@ -2,6 +2,7 @@
 use call_script::Call;
 use call_script::DeviceStatus;
 use in_block::InBlock;
+use in_td::InMode;
 use trb::Answer;
 use trb::EndpointId;
 use trb::InTrbProcessingResult;
@@ -57,11 +58,17 @@ fn answered(text: &mut [u8], at: usize, block: InBlock) -> InRan
     }
 }
 
-pub fn create(text: &mut [u8], at: usize, endpoint_id: EndpointId, slot_id: SlotId) -> InRan
+pub fn create(
+    text: &mut [u8],
+    at: usize,
+    endpoint_id: EndpointId,
+    slot_id: SlotId,
+    mode: InMode,
+) -> InRan
     requires { ⌜ at + maxAnswer ≤ length (now text) ⌝ }
     ensures { λ r. ⌜ r .end ≤ at + maxAnswer ⌝ }
 {
-    let created = in_endpoint::create(endpoint_id, slot_id);
+    let created = in_endpoint::create(endpoint_id, slot_id, mode);
     let answer = created.answer;
     let block = created.block;
     let next = call_answer::put_answer(text, at, answer, 0, &[]);
@@ -205,7 +212,7 @@ pub fn run(
     match call {
         Call::Window(_, _) => bad(block, at),
         Call::Buffers(_, _) => bad(block, at),
-        Call::CreateIn(_, _) => bad(block, at),
+        Call::CreateIn(_, _, _) => bad(block, at),
         Call::CreateControl(_, _, _) => bad(block, at),
         Call::Submit(t) => submit(text, at, log, block, t, base, window),
         Call::CompleteWithResult(status, n) => {

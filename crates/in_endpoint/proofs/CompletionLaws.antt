@@ -26,7 +26,7 @@ use Rattle.log.specs.Calls.{Out, Meets}
 use Rattle.log.specs.Logs.{recordsIn}
 use Rattle.log.proofs.LogLaws.{recordsIn-logged}
 use Rattle.walks.proofs.WalkLaws.{walk-counts}
-use Rattle.in_td.specs.Td.{processTd, unprocessed}
+use Rattle.in_td.specs.Td.{normals, processTd, unprocessed}
 use Rattle.in_td.specs.declared.InTd.{InTd}
 use Rattle.in_td.proofs.TdLaws.{tdWalker}
 use Rattle.account.specs.Guest.{Account}
@@ -44,7 +44,7 @@ use Rattle.in_endpoint.specs.declared.Completed as call
 
 -- a walk counts its records
 pub processTd-counts : (td : InTd) (ts : List TransferTrb) → processTd td ts .state .progress .records ≡ length (processTd td ts .records)
-processTd-counts td ts = walk-counts (tdWalker td) unprocessed ts (record { within = omega arith }) ∙ zero-add _
+processTd-counts td ts = walk-counts (tdWalker td) (unprocessed (normals ts)) ts (record { within = omega arith }) ∙ zero-add _
 
 pub completedAs-by : (b : InBlock) {x y : Ending} → x ≡ y → completedAs x b ≡ completedAs y b
 completedAs-by b e = ap (λ (x : Ending). completedAs x b) e
@@ -142,7 +142,7 @@ accounted-completion l l' b res n r m waits accepts distinct isp last =
     let known : PassedCompletion (length l) (factsOf b) res n = passed-completion (length l) (factsOf b) res n none in
     let told : Told b n o = rw none
     (real-walk b (b .state) res n waits (known .agreed) (Told b n)
-    (λ st. (refl, accounted (b .«endpoint_id») (b .«slot_id») st n (heldOf b) distinct isp last))) in
+    (λ st. (refl, accounted (b .«endpoint_id») (b .«slot_id») (b .mode) st n (heldOf b) distinct isp last))) in
     rw (m .state, m .log, told .0, recordsIn-logged l 0 (o .records) (omega arith) (m .fits)) (told .1)
 
 -- the promise of a completion, by its number and what it came to

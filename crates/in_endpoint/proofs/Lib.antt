@@ -1,2 +1,3 @@
 pub mod SubmissionLaws
 pub mod CompletionLaws
+pub mod ModeLaws

@@ -6,6 +6,7 @@ use mathlib.Core.List.{List, [], _∷_}
 use native.Mathlib.Nat.{not-suc-le-zero}
 use native.Mathlib.Numerals.{add-one}
 use native.Mathlib.Omega.{arith}
+use lib.Dec.{eqb}
 use lib.ListN.{take, set, getD, length-take}
 use Rattle.trb.specs.Limits.{maxHeld, maxTransferLength}
 use Rattle.trb.specs.Trbs.{transferLength, chainOf}
@@ -64,7 +65,7 @@ supported-by false chain normal e = e
 pub supported-held : (found : HeldTest) (t : TransferTrb) (o : Outcome) → outcomeOf found t ≡ o → holds o ≡ true → supported In (t .variant) ≡ true
 unfolding outcomeOf
 supported-held found t o e h =
-    supported-by (supported In (t .variant)) (chainOf (t .variant)) (trbTest found t .«no_normal») (rw e h)
+    supported-by (supported In (t .variant)) (chainOf (t .variant)) (eqb (trbTest found t .normals) 0) (rw e h)
 
 pub submittedAs-by : (b : InBlock) (t : TransferTrb) {x y : Outcome} → x ≡ y → submittedAs x b t ≡ submittedAs y b t
 submittedAs-by b t e = ap (λ (x : Outcome). submittedAs x b t) e

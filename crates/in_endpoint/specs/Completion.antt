@@ -51,9 +51,9 @@ completed r n b = record { answer = answer.Completed r; records = n; block = emp
 abbrev pub processed : Out TdProcessed → InBlock → Out Completed
 processed o b = record { state = completed (o .state .result) (length (o .records)) b; records = o .records }
 
--- the walk over the TRBs held, with this status and n bytes
+-- the walk over the TRBs held, in the block's mode, with this status and n bytes
 unfoldable pub transferred : InBlock → InTrbProcessingStatus → ℕ → Out Completed
-transferred b st n = processed (processTd (inTd (b .«endpoint_id») (b .«slot_id») st n) (heldOf b)) b
+transferred b st n = processed (processTd (inTd (b .«endpoint_id») (b .«slot_id») (b .mode) st n) (heldOf b)) b
 
 -- 01, IN endpoint: completion then logs an event with code 5, residual 0, at its address; result TrbError
 abbrev pub unsupportedEvent : ℕ → EndpointId → SlotId → Record

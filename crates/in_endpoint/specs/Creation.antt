@@ -10,6 +10,7 @@ use Rattle.trb.specs.declared.Answer.the-variants.{Accepted, Refused}
 use Rattle.trb.specs.declared.EndpointId.{EndpointId}
 use Rattle.trb.specs.declared.SlotId.{SlotId}
 use Rattle.trb.specs.declared.TdBasedNormalSubmissionState.the-variants.{SubmissionDue}
+use Rattle.in_td.specs.declared.InMode.{InMode}
 use Rattle.in_block.specs.Blocks.{freshBlock, emptied}
 use Rattle.in_block.specs.declared.InBlock.{InBlock}
 use Rattle.in_endpoint.specs.declared.Created.{Created}
@@ -18,16 +19,16 @@ use Rattle.in_endpoint.specs.declared.Created.{Created}
 abbrev pub creationQuestions : EndpointId → SlotId → List (Bool × ℕ)
 creationQuestions e s = (idsInRange e s, 12) ∷ []
 
--- after a no the block handed back is fresh but for both ids 0
-unfoldable pub creation : EndpointId → SlotId → Created
-creation e s =
-    afterQuestions (creationQuestions e s) (λ n. record { answer = Refused (refusalOf n); block = freshBlock (record { 0 = 0 }) (record { 0 = 0 }) })
-    (record { answer = Accepted; block = freshBlock e s })
+-- after a no the block handed back is fresh but for both ids 0, in the mode that was asked for
+unfoldable pub creation : EndpointId → SlotId → InMode → Created
+creation e s mode =
+    afterQuestions (creationQuestions e s) (λ n. record { answer = Refused (refusalOf n); block = freshBlock (record { 0 = 0 }) (record { 0 = 0 }) mode })
+    (record { answer = Accepted; block = freshBlock e s mode })
 
 -- of a creation that returned r
-pub record Creates (e : EndpointId) (s : SlotId) (r : Created) : Type 0 where
+pub record Creates (e : EndpointId) (s : SlotId) (mode : InMode) (r : Created) : Type 0 where
   pub number : numberOf (r .answer) ≡ firstNo (creationQuestions e s)
-  pub met : r ≡ creation e s
+  pub met : r ≡ creation e s mode
 
 -- cancel asks nothing: on IN it empties the block and a submission is due
 abbrev pub cancelled : InBlock → InBlock

@@ -4,6 +4,7 @@ use in_block::Ending;
 use in_block::HeldTest;
 use in_block::InBlock;
 use in_block::Outcome;
+use in_td::InMode;
 use trb::Answer;
 use trb::CompletionAnswer;
 use trb::CompletionCode;
@@ -44,18 +45,18 @@ pub struct Completed {
 
 // ---- Creation
 
-// A fresh block for this endpoint of this slot.
-pub fn create(endpoint_id: EndpointId, slot_id: SlotId) -> Created
-    ensures { λ r. ⌜ Creates «endpoint_id» «slot_id» r ⌝ }
+// A fresh block for this endpoint of this slot, in this mode.
+pub fn create(endpoint_id: EndpointId, slot_id: SlotId, mode: InMode) -> Created
+    ensures { λ r. ⌜ Creates «endpoint_id» «slot_id» mode r ⌝ }
 {
     if trb::ids_in_range(endpoint_id, slot_id) {
-        let block = in_block::fresh(endpoint_id, slot_id);
+        let block = in_block::fresh(endpoint_id, slot_id, mode);
         Created {
             answer: Answer::Accepted,
             block: block,
         }
     } else {
-        let block = in_block::fresh(EndpointId(0), SlotId(0));
+        let block = in_block::fresh(EndpointId(0), SlotId(0), mode);
         Created {
             answer: Answer::Refused(Refusal::IdOutOfRange),
             block: block,
@@ -95,13 +96,14 @@ pub fn submit_trb(
 {
     let endpoint_id = block.endpoint_id;
     let slot_id = block.slot_id;
+    let kept_mode = block.mode;
     let state = block.state;
     let mut held = block.held;
     let mut trbs = block.trbs;
     let places = held::places_held(held);
     let mut found = HeldTest {
         sound: true,
-        no_normal: true,
+        normals: 0,
     };
     let mut i = 0;
     while i < places {
@@ -150,6 +152,7 @@ pub fn submit_trb(
     let next = InBlock {
         endpoint_id: endpoint_id,
         slot_id: slot_id,
+        mode: kept_mode,
         state: next_state,
         held: held,
         trbs: trbs,
@@ -201,13 +204,14 @@ pub fn next_completion(
 {
     let endpoint_id = block.endpoint_id;
     let slot_id = block.slot_id;
+    let mode = block.mode;
     let state = block.state;
     let mut held = block.held;
     let mut trbs = block.trbs;
     let places = held::places_held(held);
     let mut found = HeldTest {
         sound: true,
-        no_normal: true,
+        normals: 0,
     };
     let mut i = 0;
     while i < places {
@@ -237,9 +241,9 @@ pub fn next_completion(
     match ending {
         Ending::KeepCollecting => {}
         Ending::Transfer(status, data_length) => {
-            let td = in_td::td_of(endpoint_id, slot_id, status, data_length);
+            let td = in_td::td_of(endpoint_id, slot_id, mode, status, data_length);
             let blank = held::blank();
-            let mut processed = in_td::unprocessed();
+            let mut processed = in_td::unprocessed(found.normals);
             let mut j = 0;
             while j < held {
                 let one = trbs[j];
@@ -264,6 +268,7 @@ pub fn next_completion(
     let next = InBlock {
         endpoint_id: endpoint_id,
         slot_id: slot_id,
+        mode: mode,
         state: TdBasedNormalSubmissionState::SubmissionDue,
         held: held,
         trbs: trbs,

@@ -15,6 +15,7 @@ use Rattle.log.specs.Records.{transferEvent}
 use Rattle.log.specs.declared.Record.{Record}
 use Rattle.td_part.specs.Parts.{putDma, realizeDma}
 use Rattle.walks.specs.Walk.{walk}
+use Rattle.in_td.specs.declared.InMode.the-variants.{AsPorted}
 use Rattle.in_td.specs.Td.{handleNormal, processTrb, processTd, inTd}
 
 abbrev endpoint : EndpointId
@@ -46,7 +47,7 @@ eventData = record {
 
 -- so many Normals and Event Data, all bytes arriving: what is logged behind the Normals' writes
 abbrev toldBehind : ℕ → List Record
-toldBehind k = drop k (processTd (inTd endpoint slot status.Success (k * maxTransferLength)) (replicate k longest ++ eventData ∷ []) .records)
+toldBehind k = drop k (processTd (inTd endpoint slot AsPorted status.Success (k * maxTransferLength)) (replicate k longest ++ eventData ∷ []) .records)
 
 abbrev told : ℕ → List Record
 told edtla = transferEvent 0xABCD edtla Success true endpoint slot ∷ []

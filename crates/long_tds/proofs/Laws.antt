@@ -12,7 +12,7 @@ use Rattle.trb.specs.declared.TransferTrb.{TransferTrb}
 use Rattle.walks.specs.All.{all}
 use Rattle.walks.proofs.WalkLaws.{length-walk}
 use Rattle.td_part.specs.Parts.{edtlaAfter, atStart}
-use Rattle.in_td.specs.Td.{processTrb, processTd, inTd, ended, unprocessed}
+use Rattle.in_td.specs.Td.{normals, processTrb, processTd, inTd, ended, unprocessed}
 use Rattle.in_td.specs.declared.InTd.{InTd}
 use Rattle.in_td.specs.declared.TdProcessed.{TdProcessed}
 use Rattle.in_td.proofs.TdLaws.{tdWalker}
@@ -25,7 +25,7 @@ use Rattle.long_tds.proofs.WalkLaws.{walk-bounded}
 
 -- an IN TD
 pub td-bounded : (td : InTd) (ts : List TransferTrb) → all fitting ts ≡ true → Bounded (length ts) atStart (processTd td ts .state .progress) (processTd td ts .records)
-td-bounded td ts h = walk-bounded (processTrb td) ended (λ (p : TdProcessed). p .progress) (in-turn td) unprocessed ts h refl
+td-bounded td ts h = walk-bounded (processTrb td) ended (λ (p : TdProcessed). p .progress) (in-turn td) (unprocessed (normals ts)) ts h refl
 
 -- a control chain, either way
 pub chain-bounded : (td : ControlTd) (ts : List TransferTrb) → all fitting ts ≡ true → Bounded (length ts) atStart (realizeChain td ts .state) (realizeChain td ts .records)
@@ -35,9 +35,9 @@ chain-bounded td ts h = walk-bounded (realizeTrb td) never (λ w. w) (chain-turn
 
 pub of-tds : (m : ℕ) → OfTds m
 of-tds m = record {
-  account = λ e s st n ts few distinct isp last. accounted e s st n ts distinct isp last;
-  records = λ e s st n ts few. omega (arith, length-walk (tdWalker (inTd e s st n)) unprocessed ts (record { within = omega arith }));
-  residuals = λ e s st n ts few h. td-bounded (inTd e s st n) ts h .residuals;
+  account = λ e s mode st n ts few distinct isp last. accounted e s mode st n ts distinct isp last;
+  records = λ e s mode st n ts few. omega (arith, length-walk (tdWalker (inTd e s mode st n)) (unprocessed (normals ts)) ts (record { within = omega arith }));
+  residuals = λ e s mode st n ts few h. td-bounded (inTd e s mode st n) ts h .residuals;
 }
 
 pub of-64 : OfTds 64

@@ -1,5 +1,5 @@
 -- What one TRB does to the EDTLA and to residuals, on IN and on control. Assumes nothing.
-use Prim.Native.Nat.{ℕ, _+_, _≤_}
+use Prim.Native.Nat.{ℕ, _+_, _-_, _≤_}
 use mathlib.Core.Path.{_≡_, refl}
 use mathlib.Core.Bool.{Bool, true, false, cond}
 use native.Mathlib.Omega.{arith}
@@ -80,40 +80,44 @@ module _ (td : TdInfo) (w : TdProgress) (k : keptFits (w .state) ≡ true) where
 
 -- ---- IN
 
-module _ (td : InTd) (w : TdProgress) (k : keptFits (w .state) ≡ true) where
+module _ (td : InTd) (left : ℕ) (w : TdProgress) (k : keptFits (w .state) ≡ true) where
   abbrev Turn : Out TdProcessed → Type 0
   Turn o = Bounded 1 w (o .state .progress) (o .records)
 
-  short-turn : (st : InTrbProcessingStatus) (n : NormalTrb) (a : ℕ) (cycle : Bool) → n .«transfer_length» ≤ maxTransferLength → Turn (in-td.shortNormal st (td .info) w n a cycle)
-  short-turn status.Success n a cycle h = grown-realized (td .info) w k (ofNormal n a) h
-  short-turn status.Stall n a cycle h = grown-dma (td .info) w k (ofNormal n a) true StallError h
-  short-turn status.TransactionError n a cycle h = grown-dma (td .info) w k (ofNormal n a) true UsbTransactionError h
-  short-turn status.Disconnect n a cycle h = grown-dma (td .info) w k (ofNormal n a) true UsbTransactionError h
+  ending-turn : (st : InTrbProcessingStatus) (n : NormalTrb) (a : ℕ) (cycle : Bool) → n .«transfer_length» ≤ maxTransferLength
+      → Turn (in-td.endingNormal st (td .info) (left - 1) w n a cycle)
+  ending-turn status.Success n a cycle h = grown-realized (td .info) w k (ofNormal n a) h
+  ending-turn status.Stall n a cycle h = grown-dma (td .info) w k (ofNormal n a) true StallError h
+  ending-turn status.TransactionError n a cycle h = grown-dma (td .info) w k (ofNormal n a) true UsbTransactionError h
+  ending-turn status.Disconnect n a cycle h = grown-dma (td .info) w k (ofNormal n a) true UsbTransactionError h
 
-  default-turn : (full : Bool) (n : NormalTrb) (a : ℕ) (cycle : Bool) → n .«transfer_length» ≤ maxTransferLength
-      → Turn (cond full (in-td.goesOn (realizeDma (td .info) w (ofNormal n a))) (in-td.shortNormal (td .status) (td .info) w n a cycle))
+  default-turn : (done : Bool) (n : NormalTrb) (a : ℕ) (cycle : Bool) → n .«transfer_length» ≤ maxTransferLength
+      → Turn (cond done (in-td.goesOn (left - 1) (realizeDma (td .info) w (ofNormal n a))) (in-td.endingNormal (td .status) (td .info) (left - 1) w n a cycle))
   default-turn true n a cycle h = grown-realized (td .info) w k (ofNormal n a) h
-  default-turn false n a cycle h = short-turn (td .status) n a cycle h
+  default-turn false n a cycle h = ending-turn (td .status) n a cycle h
 
-  normal-turn : (s : TdProcessingState) (n : NormalTrb) (a : ℕ) (cycle : Bool) → keptFits s ≡ true → n .«transfer_length» ≤ maxTransferLength → Turn (in-td.normalIn s td w n a cycle)
-  normal-turn Default n a cycle fits h = default-turn (eqb (residualOf (td .info) w (n .«transfer_length»)) 0) n a cycle h
+  normal-turn : (s : TdProcessingState) (n : NormalTrb) (a : ℕ) (cycle : Bool) → keptFits s ≡ true → n .«transfer_length» ≤ maxTransferLength
+      → Turn (in-td.normalIn s td left w n a cycle)
+  normal-turn Default n a cycle fits h = default-turn (in-td.isDone td left (residualOf (td .info) w (n .«transfer_length»))) n a cycle h
   normal-turn (ShortTransfer missing) n a cycle fits h = grown-report (td .info) w k (w .edtla) (n .«interrupt_on_completion») a missing ShortPacket (omega arith) fits
 
-  trb-turn : (v : TransferTrbVariant) (a : ℕ) (cycle : Bool) → leb (transferLength v) maxTransferLength ≡ true → Turn (in-td.trbIn v td w a cycle)
+module _ (td : InTd) (p : TdProcessed) (k : keptFits (p .progress .state) ≡ true) where
+  trb-turn : (v : TransferTrbVariant) (a : ℕ) (cycle : Bool) → leb (transferLength v) maxTransferLength ≡ true
+      → Bounded 1 (p .progress) (in-td.trbIn v td p a cycle .state .progress) (in-td.trbIn v td p a cycle .records)
   unfolding in-td.handleNormal
-  trb-turn (Normal n) a cycle h = normal-turn (w .state) n a cycle k (leb-true (n .«transfer_length») maxTransferLength h)
-  trb-turn (EventData t) a cycle h = grown-eventData (td .info) w k t
-  trb-turn (NoOp n) a cycle h = grown-report (td .info) w k (w .edtla) (n .«interrupt_on_completion») a 0 Success (omega arith) refl
-  trb-turn (SetupStage t) a cycle h = grown-silent (td .info) w k
-  trb-turn (DataStage t) a cycle h = grown-silent (td .info) w k
-  trb-turn (StatusStage t) a cycle h = grown-silent (td .info) w k
-  trb-turn Isoch a cycle h = grown-silent (td .info) w k
-  trb-turn Unrecognized a cycle h = grown-silent (td .info) w k
+  trb-turn (Normal n) a cycle h = normal-turn td (p .«normals_left») (p .progress) k (p .progress .state) n a cycle k (leb-true (n .«transfer_length») maxTransferLength h)
+  trb-turn (EventData t) a cycle h = grown-eventData (td .info) (p .progress) k t
+  trb-turn (NoOp n) a cycle h = grown-report (td .info) (p .progress) k (p .progress .edtla) (n .«interrupt_on_completion») a 0 Success (omega arith) refl
+  trb-turn (SetupStage t) a cycle h = grown-silent (td .info) (p .progress) k
+  trb-turn (DataStage t) a cycle h = grown-silent (td .info) (p .progress) k
+  trb-turn (StatusStage t) a cycle h = grown-silent (td .info) (p .progress) k
+  trb-turn Isoch a cycle h = grown-silent (td .info) (p .progress) k
+  trb-turn Unrecognized a cycle h = grown-silent (td .info) (p .progress) k
 
 pub in-turn : (td : InTd) (p : TdProcessed) (t : TransferTrb) → fitting t ≡ true → keptFits (p .progress .state) ≡ true
     → Bounded 1 (p .progress) (in-td.processTrb td p t .state .progress) (in-td.processTrb td p t .records)
 unfolding in-td.processTrb
-in-turn td p t h k = trb-turn td (p .progress) k (t .variant) (t .addr) (t .«cycle_bit») h
+in-turn td p t h k = trb-turn td p k (t .variant) (t .addr) (t .«cycle_bit») h
 
 -- ---- Control
 

@@ -18,6 +18,7 @@ use Rattle.td_part.specs.declared.TdProcessingState.{TdProcessingState}
 use Rattle.td_part.specs.declared.TdProcessingState.the-variants.{Default, ShortTransfer}
 use Rattle.td_part.specs.declared.TdProgress.{TdProgress}
 use Rattle.in_td.specs.Td.{processTd, inTd}
+use Rattle.in_td.specs.declared.InMode.{InMode}
 use Rattle.account.specs.Guest.{Distinct, IspOnNormals, LastNormalWithIoc, Account}
 
 -- 01, Submission: the length of a DataStage or Normal TRB at most 131,071
@@ -39,11 +40,11 @@ pub record Bounded (m : ℕ) (w w' : TdProgress) (rs : List Record) : Type 0 whe
   pub kept : keptFits (w' .state) ≡ true
   pub residuals : all residualFits rs ≡ true
 
--- of every IN TD of at most m TRBs: the account rule, two records for each TRB, and residuals that fit
+-- of every IN TD of at most m TRBs, in either mode: the account rule, two records for each TRB, and residuals that fit
 pub record OfTds (m : ℕ) : Type 0 where
-  pub account : (e : EndpointId) (s : SlotId) (st : InTrbProcessingStatus) (n : ℕ) (ts : List TransferTrb) → length ts ≤ m
-      → Distinct ts → IspOnNormals ts → LastNormalWithIoc ts → Account n ts (processTd (inTd e s st n) ts .records)
-  pub records : (e : EndpointId) (s : SlotId) (st : InTrbProcessingStatus) (n : ℕ) (ts : List TransferTrb) → length ts ≤ m
-      → length (processTd (inTd e s st n) ts .records) ≤ 2 * m
-  pub residuals : (e : EndpointId) (s : SlotId) (st : InTrbProcessingStatus) (n : ℕ) (ts : List TransferTrb) → length ts ≤ m
-      → all fitting ts ≡ true → all residualFits (processTd (inTd e s st n) ts .records) ≡ true
+  pub account : (e : EndpointId) (s : SlotId) (mode : InMode) (st : InTrbProcessingStatus) (n : ℕ) (ts : List TransferTrb) → length ts ≤ m
+      → Distinct ts → IspOnNormals ts → LastNormalWithIoc ts → Account n ts (processTd (inTd e s mode st n) ts .records)
+  pub records : (e : EndpointId) (s : SlotId) (mode : InMode) (st : InTrbProcessingStatus) (n : ℕ) (ts : List TransferTrb) → length ts ≤ m
+      → length (processTd (inTd e s mode st n) ts .records) ≤ 2 * m
+  pub residuals : (e : EndpointId) (s : SlotId) (mode : InMode) (st : InTrbProcessingStatus) (n : ℕ) (ts : List TransferTrb) → length ts ≤ m
+      → all fitting ts ≡ true → all residualFits (processTd (inTd e s mode st n) ts .records) ≡ true

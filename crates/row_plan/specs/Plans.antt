@@ -15,6 +15,7 @@ use Rattle.in_block.specs.declared.HeldTest.{HeldTest}
 use Rattle.in_questions.specs.Questions.{completionQuestions}
 use Rattle.in_endpoint.specs.Completion.{answerTo}
 use Rattle.in_td.specs.Td.{inTd, unprocessed}
+use Rattle.in_td.specs.declared.InMode.{InMode}
 use Rattle.in_td.specs.declared.TdProcessed.{TdProcessed}
 use Rattle.row_plan.specs.declared.RowCompleted.{RowCompleted}
 use Rattle.row_plan.specs.declared.RowPlan.{RowPlan}
@@ -31,17 +32,17 @@ statusOf NoneGiven = Success
 statusOf (Given st) = st
 
 -- nothing is walked
-abbrev pub refusedPlan : EndpointId → SlotId → ℕ → RowPlan
-refusedPlan e s n = record { asked = Refused (refusalOf n); td = inTd e s Success 0; start = unprocessed; count = 0 }
+abbrev pub refusedPlan : EndpointId → SlotId → InMode → ℕ → RowPlan
+refusedPlan e s mode n = record { asked = Refused (refusalOf n); td = inTd e s mode Success 0; start = unprocessed 0; count = 0 }
 
 -- every TRB of the row is walked
-abbrev pub acceptedPlan : EndpointId → SlotId → ℕ → InTrbProcessingStatus → ℕ → RowPlan
-acceptedPlan e s k st n = record { asked = Accepted; td = inTd e s st n; start = unprocessed; count = k }
+abbrev pub acceptedPlan : EndpointId → SlotId → InMode → ℕ → HeldTest → InTrbProcessingStatus → ℕ → RowPlan
+acceptedPlan e s mode k found st n = record { asked = Accepted; td = inTd e s mode st n; start = unprocessed (found .normals); count = k }
 
 -- with a log of l bytes, a row of k TRBs and n bytes of data
-unfoldable pub rowPlan : ℕ → EndpointId → SlotId → ℕ → HeldTest → InTrbProcessingResult → ℕ → RowPlan
-rowPlan l e s k found r n =
-    afterQuestions (completionQuestions l (rowFacts e s k found) r n) (refusedPlan e s) (acceptedPlan e s k (statusOf r) n)
+unfoldable pub rowPlan : ℕ → EndpointId → SlotId → InMode → ℕ → HeldTest → InTrbProcessingResult → ℕ → RowPlan
+rowPlan l e s mode k found r n =
+    afterQuestions (completionQuestions l (rowFacts e s k found) r n) (refusedPlan e s mode) (acceptedPlan e s mode k found (statusOf r) n)
 
 -- ---- The answer
 

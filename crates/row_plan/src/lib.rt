@@ -1,6 +1,7 @@
 // What the entry for a lent row of TRBs does beside walking the row: the questions, a TRB's turn, the answer.
 use in_block::BlockFacts;
 use in_block::HeldTest;
+use in_td::InMode;
 use in_td::InTd;
 use in_td::TdProcessed;
 use trb::Answer;
@@ -48,14 +49,14 @@ pub fn ask(
     log_length: usize,
     endpoint_id: EndpointId,
     slot_id: SlotId,
+    mode: InMode,
     row_length: usize,
     found: HeldTest,
     result: InTrbProcessingResult,
     data_length: usize,
 ) -> RowPlan
-    ensures { λ r. ⌜ r ≡ rowPlan «log_length» «endpoint_id» «slot_id» «row_length» found result «data_length» ⌝ }
+    ensures { λ r. ⌜ r ≡ rowPlan «log_length» «endpoint_id» «slot_id» mode «row_length» found result «data_length» ⌝ }
 {
-    let start = in_td::unprocessed();
     let facts = BlockFacts {
         endpoint_id: endpoint_id,
         slot_id: slot_id,
@@ -65,16 +66,24 @@ pub fn ask(
     };
     let asked = in_questions::ask_completion(log_length, facts, result, data_length);
     if !trb::is_accepted(asked) {
-        let none = in_td::td_of(endpoint_id, slot_id, InTrbProcessingStatus::Success, 0);
+        let td = in_td::td_of(
+            endpoint_id,
+            slot_id,
+            mode,
+            InTrbProcessingStatus::Success,
+            0,
+        );
+        let start = in_td::unprocessed(0);
         return RowPlan {
             asked: asked,
-            td: none,
+            td: td,
             start: start,
             count: 0,
         };
     }
     let status = status_of(result);
-    let td = in_td::td_of(endpoint_id, slot_id, status, data_length as u32);
+    let td = in_td::td_of(endpoint_id, slot_id, mode, status, data_length as u32);
+    let start = in_td::unprocessed(found.normals);
     RowPlan {
         asked: asked,
         td: td,

@@ -5,6 +5,7 @@ use control_block::GuestRelease;
 use control_calls::ControlRan;
 use in_block::InBlock;
 use in_calls::InRan;
+use in_td::InMode;
 use trb::EndpointId;
 use trb::SlotId;
 ghost use mathlib.Core.Path.{_≡_};
@@ -35,7 +36,7 @@ pub struct Session {
 }
 
 pub fn new_session() -> Session {
-    let in_created = in_endpoint::create(EndpointId(0), SlotId(0));
+    let in_created = in_endpoint::create(EndpointId(0), SlotId(0), InMode::AsPorted);
     let control_created = control_endpoint::create(
         EndpointId(0),
         SlotId(0),
@@ -233,11 +234,15 @@ fn create_in(
     session: Session,
     endpoint_id: EndpointId,
     slot_id: SlotId,
+    mode: InMode,
 ) -> Ran
     requires { ⌜ at + maxAnswer ≤ length (now text) ⌝ }
     ensures { λ r. ⌜ r .end ≤ at + maxAnswer ⌝ }
 {
-    after_in(session, in_calls::create(text, at, endpoint_id, slot_id))
+    after_in(
+        session,
+        in_calls::create(text, at, endpoint_id, slot_id, mode),
+    )
 }
 
 fn create_control(
@@ -279,8 +284,8 @@ pub fn run_call(
     if let Call::Buffers(log_length, collect_length) = call {
         return lend_buffers(session, at, log_length, collect_length);
     }
-    if let Call::CreateIn(endpoint_id, slot_id) = call {
-        return create_in(text, at, session, endpoint_id, slot_id);
+    if let Call::CreateIn(endpoint_id, slot_id, mode) = call {
+        return create_in(text, at, session, endpoint_id, slot_id, mode);
     }
     if let Call::CreateControl(endpoint_id, slot_id, release) = call {
         return create_control(text, at, session, endpoint_id, slot_id, release, collect);

@@ -1,5 +1,6 @@
-// The TD as a lent row of TRBs: answered as completion answers for a block that holds the row and awaits the device.
+// The TD as a lent row of TRBs: answered as completion answers for a block in that mode that holds the row and awaits the device.
 use in_block::HeldTest;
+use in_td::InMode;
 use in_td::TdProcessed;
 use row_plan::RowCompleted;
 use row_plan::RowPlan;
@@ -22,7 +23,7 @@ fn test_row(row: &[TransferTrb]) -> HeldTest
 {
     let mut tested = HeldTest {
         sound: true,
-        no_normal: true,
+        normals: 0,
     };
     let mut i: usize = 0;
     while i < row.len() {
@@ -35,7 +36,7 @@ fn test_row(row: &[TransferTrb]) -> HeldTest
 
 // The walk over as many TRBs of the row as the plan says.
 fn walk_row(log: &mut [u8], row: &[TransferTrb], plan: RowPlan) -> TdProcessed
-    requires { ⌜ Walkable plan (length (now row)) (length (now log)) ⌝ }
+    requires { ⌜ Walkable plan (now row) (length (now log)) ⌝ }
     ensures { λ r. ⌜ Meets (processTd (plan .td) (take (plan .count) (now (row .entry)))) 0 (now (log .entry)) r (now (log .exit)) ⌝ }
 {
     let count = plan.count;
@@ -54,11 +55,12 @@ pub fn complete_row(
     log: &mut [u8],
     endpoint_id: EndpointId,
     slot_id: SlotId,
+    mode: InMode,
     row: &[TransferTrb],
     result: InTrbProcessingResult,
     data: &[u8],
 ) -> RowCompleted
-    ensures met { λ r. ⌜ CompletesRow «endpoint_id» «slot_id» (now (row .entry)) result (length (now («data» .entry))) (now (log .entry)) r (now (log .exit)) ⌝ }
+    ensures met { λ r. ⌜ CompletesRow «endpoint_id» «slot_id» mode (now (row .entry)) result (length (now («data» .entry))) (now (log .entry)) r (now (log .exit)) ⌝ }
     ensures account { λ r. ⌜ AccountedRow (now (row .entry)) (length (now («data» .entry))) (r .answer) (recordsIn (r .records) (now (log .exit))) ⌝ }
 {
     let tested = test_row(row);
@@ -66,6 +68,7 @@ pub fn complete_row(
         log.len(),
         endpoint_id,
         slot_id,
+        mode,
         row.len(),
         tested,
         result,

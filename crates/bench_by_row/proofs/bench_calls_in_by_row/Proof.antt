@@ -61,6 +61,10 @@ use Rattle.trb.proofs.EndpointId as E
 use Rattle.trb.proofs.EndpointId.Laws as E′
 use Rattle.trb.proofs.SlotId as D
 use Rattle.trb.proofs.SlotId.Laws as D′
+use Rattle.in_td.specs.declared.InMode.{InMode}
+use Rattle.in_td.specs.declared.InMode.the-variants.{AsPorted}
+use Rattle.in_td.proofs.InMode as N
+use Rattle.in_td.proofs.InMode.Laws as N′
 use Rattle.trb.proofs.InTrbProcessingResult as R
 use Rattle.trb.proofs.InTrbProcessingResult.Laws as R′
 use Rattle.row_plan.proofs.RowCompleted as O
@@ -169,6 +173,12 @@ slot = record { 0 = 2 }
 slot-is : Is D.the-row slot (LL.val D.the-type D′.the-laws slot ∷ [])
 slot-is = LL.owes D.the-type D′.the-laws slot ((refl, lit< tt), tt)
 
+abbrev mode : InMode
+mode = AsPorted
+
+mode-is : Is N.the-row mode (EL.val N.the-type N′.the-laws mode ∷ [])
+mode-is = EL.owes N.the-type N′.the-laws mode tt
+
 -- where the loop stands
 record Turn (repeats : ℕ) (ys : List ℕ) : Type 0 where
   k : ℕ
@@ -267,7 +277,7 @@ module _ {M : Type 1} (𝓤 : URA M) (H : Heap 𝓤) (A : Atoms 𝓤) (W : Given
   start : Turn repeats ys
   start = record { k = 0; sum = 0; zs = ys; most = omega arith; fits = lit< tt; same = refl }
 
-  module _ (𝓣 : Tables 𝓤 H) (known : Known 𝓤 H A at-mem run (𝓣 .C)) (l0 l1 l2 l3 l4 l5 l6 l7 l8 l9 l10 l11 l12 l13 l14 l15 l16 l17 l18 l19 l20 : ℕ) where
+  module _ (𝓣 : Tables 𝓤 H) (known : Known 𝓤 H A at-mem run (𝓣 .C)) (l0 l1 l2 l3 l4 l5 l6 l7 l8 l9 l10 l11 l12 l13 l14 l15 l16 l17 l18 l19 l20 l21 : ℕ) where
     abbrev C : Calls 𝓤 H
     C = 𝓣 .C
 
@@ -278,7 +288,7 @@ module _ {M : Type 1} (𝓤 : URA M) (H : Heap 𝓤) (A : Atoms 𝓤) (W : Given
     fm = fmOf 𝓤 H (W .laws) 𝓣
 
     abbrev En : Env 𝓤 H
-    En = (tyInt w64, l0) ∷ (tyLog, l1) ∷ (tyData, l2) ∷ (tyInt w32, l3) ∷ (tyInt w32, l4) ∷ (tyInt w8, l5) ∷ (tyInt w32, l6) ∷ (tyPlaces, l7) ∷ (tyInt w64, l8) ∷ (tyRow, l9) ∷ (R′.mir, l10) ∷ (tyInt w64, l11) ∷ (tyInt w32, l12) ∷ (O′.mir, l13) ∷ (tyPlaces, l14) ∷ (tyPlacesRef, l15) ∷ (tyBool, l16) ∷ (tyPart, l17) ∷ (sliceTy tyPart, l18) ∷ (E′.mir, l19) ∷ (D′.mir, l20) ∷ []
+    En = (tyInt w64, l0) ∷ (tyLog, l1) ∷ (tyData, l2) ∷ (tyInt w32, l3) ∷ (tyInt w32, l4) ∷ (tyInt w8, l5) ∷ (tyInt w32, l6) ∷ (tyPlaces, l7) ∷ (tyInt w64, l8) ∷ (tyRow, l9) ∷ (R′.mir, l10) ∷ (tyInt w64, l11) ∷ (tyInt w32, l12) ∷ (O′.mir, l13) ∷ (tyPlaces, l14) ∷ (tyPlacesRef, l15) ∷ (tyBool, l16) ∷ (tyPart, l17) ∷ (sliceTy tyPart, l18) ∷ (E′.mir, l19) ∷ (D′.mir, l20) ∷ (N′.mir, l21) ∷ []
 
     -- ---- The loop, with the first TRBs of the row lent for ν under the name γ
     module _ (places : List TransferTrb) (count : ℕ) (result : InTrbProcessingResult) (result-val : Val) (ν : ℕ) (γ : GName) (result-is : Is R.the-row result (result-val ∷ [])) where
@@ -298,8 +308,8 @@ module _ {M : Type 1} (𝓤 : URA M) (H : Heap 𝓤) (A : Atoms 𝓤) (W : Given
           (ν₁ ∷ [], (ν ∷ [], (κ1, tt))),
           (fullShare, (fullShare, (q1, tt))),
           tt,
-          (named-at δ (u .zs), (endpoint, (slot, (row-ref, (result, (bytes-ref, tt)))))),
-          (log-val ∷ [], (LL.val E.the-type E′.the-laws endpoint ∷ [], (LL.val D.the-type D′.the-laws slot ∷ [], (row-val ∷ [], (result-val ∷ [], (bytes-val ∷ [], tt)))))),
+          (named-at δ (u .zs), (endpoint, (slot, (mode, (row-ref, (result, (bytes-ref, tt))))))),
+          (log-val ∷ [], (LL.val E.the-type E′.the-laws endpoint ∷ [], (LL.val D.the-type D′.the-laws slot ∷ [], (EL.val N.the-type N′.the-laws mode ∷ [], (row-val ∷ [], (result-val ∷ [], (bytes-val ∷ [], tt))))))),
         ),
         tt,
       )
@@ -311,6 +321,7 @@ module _ {M : Type 1} (𝓤 : URA M) (H : Heap 𝓤) (A : Atoms 𝓤) (W : Given
       hands ν₁ δ u =
           qed W (Handed ν₁ δ u) ∵ says-nothing ! $ nothing ! $ move ! (3 ∷ 0 ∷ []) $ join ! $ move ! (2 ∷ 0 ∷ []) $ join ! $ move ! (1 ∷ 0 ∷ []) $ join ! $ frame ! $
           nothing ! $ move ! (3 ∷ 0 ∷ []) $ fjoin ! $ owned ! R.the-row (Is R.the-row) (EL.makes R.the-type R′.the-plain 𝓤 H A) result _ result-is $ fjoin ! $ move ! (2 ∷ 0 ∷ []) $ fjoin ! $
+          owned ! N.the-row (Is N.the-row) (EL.makes N.the-type N′.the-plain 𝓤 H A) mode _ mode-is $ fjoin ! $
           owned ! D.the-row (Is D.the-row) (LL.makes D.the-type D′.the-plain 𝓤 H A) slot _ slot-is $ fjoin ! $
           owned ! E.the-row (Is E.the-row) (LL.makes E.the-type E′.the-plain 𝓤 H A) endpoint _ endpoint-is $ fjoin ! $ move ! (1 ∷ 0 ∷ []) $ fjoin ! $ done !
 
@@ -318,8 +329,8 @@ module _ {M : Type 1} (𝓤 : URA M) (H : Heap 𝓤) (A : Atoms 𝓤) (W : Given
       abbrev At : Turn repeats ys → List (Item 𝓤)
       At u =
           ‵ (flft (ν ∷ []) fullShare) ∷ ‵ OwnRow ∷ ‵ (LentFirst I.the-type ν maxHeld count places l7) ∷ ‵ (OwnLog (u .zs)) ∷ ‵ (flft κ0 q0) ∷ ‵ OwnData ∷ ‵ (flft κ1 q1)
-          ∷ ‵ (froom (tyInt w64) l0 0) ∷ ‵ (fat fullShare tyLog l1 0 log-val) ∷ ‵ (fat fullShare tyData l2 0 bytes-val) ∷ ‵ (fat fullShare (tyInt w32) l3 0 (vint w32 trbs)) ∷ ‵ (fat fullShare (tyInt w32) l4 0 (vint w32 transfer-length)) ∷ ‵ (fat fullShare (tyInt w8) l5 0 (vint w8 status)) ∷ ‵ (fat fullShare (tyInt w32) l6 0 (vint w32 repeats)) ∷ ‵ (fat fullShare (tyInt w64) l8 0 (vint w64 count)) ∷ ‵ (fat fullShare tyRow l9 0 (sliceVal (l7, 0) count)) ∷ ‵ (fat fullShare R′.mir l10 0 result-val) ∷ ‵ (fat fullShare (tyInt w64) l11 0 (vint w64 (u .sum))) ∷ ‵ (fat fullShare (tyInt w32) l12 0 (vint w32 (u .k))) ∷ ‵ (froom O′.mir l13 0) ∷ ‵ (froom tyPlaces l14 0) ∷ ‵ (fat fullShare tyPlacesRef l15 0 (vptr l7 0)) ∷ ‵ (froom tyBool l16 0) ∷ ‵ (froom tyPart l17 0) ∷ ‵ (froom (sliceTy tyPart) l18 0) ∷ ‵ (froom E′.mir l19 0) ∷ ‵ (froom D′.mir l20 0)
-          ∷ ‵ (fdies (tyInt w64) l0) ∷ ‵ (fdies tyLog l1) ∷ ‵ (fdies tyData l2) ∷ ‵ (fdies (tyInt w32) l3) ∷ ‵ (fdies (tyInt w32) l4) ∷ ‵ (fdies (tyInt w8) l5) ∷ ‵ (fdies (tyInt w32) l6) ∷ ‵ (fdies tyPlaces l7) ∷ ‵ (fdies (tyInt w64) l8) ∷ ‵ (fdies tyRow l9) ∷ ‵ (fdies R′.mir l10) ∷ ‵ (fdies (tyInt w64) l11) ∷ ‵ (fdies (tyInt w32) l12) ∷ ‵ (fdies O′.mir l13) ∷ ‵ (fdies tyPlaces l14) ∷ ‵ (fdies tyPlacesRef l15) ∷ ‵ (fdies tyBool l16) ∷ ‵ (fdies tyPart l17) ∷ ‵ (fdies (sliceTy tyPart) l18) ∷ ‵ (fdies E′.mir l19) ∷ ‵ (fdies D′.mir l20) ∷ []
+          ∷ ‵ (froom (tyInt w64) l0 0) ∷ ‵ (fat fullShare tyLog l1 0 log-val) ∷ ‵ (fat fullShare tyData l2 0 bytes-val) ∷ ‵ (fat fullShare (tyInt w32) l3 0 (vint w32 trbs)) ∷ ‵ (fat fullShare (tyInt w32) l4 0 (vint w32 transfer-length)) ∷ ‵ (fat fullShare (tyInt w8) l5 0 (vint w8 status)) ∷ ‵ (fat fullShare (tyInt w32) l6 0 (vint w32 repeats)) ∷ ‵ (fat fullShare (tyInt w64) l8 0 (vint w64 count)) ∷ ‵ (fat fullShare tyRow l9 0 (sliceVal (l7, 0) count)) ∷ ‵ (fat fullShare R′.mir l10 0 result-val) ∷ ‵ (fat fullShare (tyInt w64) l11 0 (vint w64 (u .sum))) ∷ ‵ (fat fullShare (tyInt w32) l12 0 (vint w32 (u .k))) ∷ ‵ (froom O′.mir l13 0) ∷ ‵ (froom tyPlaces l14 0) ∷ ‵ (fat fullShare tyPlacesRef l15 0 (vptr l7 0)) ∷ ‵ (froom tyBool l16 0) ∷ ‵ (froom tyPart l17 0) ∷ ‵ (froom (sliceTy tyPart) l18 0) ∷ ‵ (froom E′.mir l19 0) ∷ ‵ (froom D′.mir l20 0) ∷ ‵ (froom N′.mir l21 0)
+          ∷ ‵ (fdies (tyInt w64) l0) ∷ ‵ (fdies tyLog l1) ∷ ‵ (fdies tyData l2) ∷ ‵ (fdies (tyInt w32) l3) ∷ ‵ (fdies (tyInt w32) l4) ∷ ‵ (fdies (tyInt w8) l5) ∷ ‵ (fdies (tyInt w32) l6) ∷ ‵ (fdies tyPlaces l7) ∷ ‵ (fdies (tyInt w64) l8) ∷ ‵ (fdies tyRow l9) ∷ ‵ (fdies R′.mir l10) ∷ ‵ (fdies (tyInt w64) l11) ∷ ‵ (fdies (tyInt w32) l12) ∷ ‵ (fdies O′.mir l13) ∷ ‵ (fdies tyPlaces l14) ∷ ‵ (fdies tyPlacesRef l15) ∷ ‵ (fdies tyBool l16) ∷ ‵ (fdies tyPart l17) ∷ ‵ (fdies (sliceTy tyPart) l18) ∷ ‵ (fdies E′.mir l19) ∷ ‵ (fdies D′.mir l20) ∷ ‵ (fdies N′.mir l21) ∷ []
 
       abbrev Turned : Turn repeats ys → Out → SProp 𝓤
       Turned u = afterTurn 𝓤 H (Below 𝓤 H A Nearer At u) (afterBlock 𝓤 H (afterSeq 𝓤 H (Wp 𝓤 H C Λ En steps.t-10 (atReturn 𝓤 H En Post)) (atReturn 𝓤 H En Post)))
@@ -335,13 +346,14 @@ module _ {M : Type 1} (𝓤 : URA M) (H : Heap 𝓤) (A : Atoms 𝓤) (W : Given
           assigns ! (agg ! (and-then ! (load ! (from ! (stop !)) (look ! 23 refl)) (and-then ! (load ! (from ! (fld ! refl (stop !))) (look-in ! 8 (sub ! 1 refl (whole !)))) (no-more !)))) (from ! (stop !)) (init ! 24 refl (tt, (tt, (record { fits = log-room .0 }, tt)))) $
           assigns ! (agg ! (and-then ! (lit ! tt) (no-more !))) (from ! (stop !)) (init ! 25 refl (LL.lawful E.the-type E′.the-laws 𝓤 H A W .typed endpoint _ endpoint-is .0)) $
           assigns ! (agg ! (and-then ! (lit ! tt) (no-more !))) (from ! (stop !)) (init ! 26 refl (LL.lawful D.the-type D′.the-laws 𝓤 H A W .typed slot _ slot-is .0)) $
+          assigns ! (agg ! (and-then ! (lit ! tt) (no-more !))) (from ! (stop !)) (init ! 27 refl (EL.lawful N.the-type N′.the-laws 𝓤 H A W tt .typed mode _ mode-is .0)) $
           -- the `&`s are kept, and a copy of each goes to the callee; the log is lent again for a lifetime ν₁ of the call
           move ! (1 ∷ []) $ use1 W (‵ OwnRow ⊛ ‵ OwnRow) (shr-slice-copy 𝓤 H A W (named 1) (ν ∷ []) I.the-row .twice row-ref (row-val ∷ [])) $ split ! $
           move ! (6 ∷ []) $ use1 W (‵ OwnData ⊛ ‵ OwnData) (shr-slice-copy 𝓤 H A W (named 1) κ1 u8 .twice bytes-ref (bytes-val ∷ [])) $ split ! $
           move ! (6 ∷ 7 ∷ []) $ lends-to-call u8 (named 0) (name log-ref) (ptr log-ref .0) (ptr log-ref .1) (length ys) ! tt (u .zs) (u .same) (λ ν₁ δ.
           move ! (0 ∷ 7 ∷ 9 ∷ 1 ∷ 6 ∷ 4 ∷ []) $ gives W (Handed ν₁ δ u) (raw (Complete 𝓤 H A at-mem run .pre (to-complete ν₁ δ u))) (hands ν₁ δ u) $
           -- the call
-          calls-at ! fm (Complete 𝓤 H A at-mem run) (known .complete) (to-complete ν₁ δ u) (and-then ! (load ! (from ! (stop !)) (look ! 22 refl)) (and-then ! (load ! (from ! (stop !)) (look ! 23 refl)) (and-then ! (load ! (from ! (stop !)) (look ! 24 refl)) (and-then ! (load ! (from ! (stop !)) (look ! 13 refl)) (and-then ! (load ! (from ! (stop !)) (look ! 14 refl)) (and-then ! (load ! (from ! (stop !)) (look ! 7 refl)) (no-more !))))))) (λ w.
+          calls-at ! fm (Complete 𝓤 H A at-mem run) (known .complete) (to-complete ν₁ δ u) (and-then ! (load ! (from ! (stop !)) (look ! 22 refl)) (and-then ! (load ! (from ! (stop !)) (look ! 23 refl)) (and-then ! (load ! (from ! (stop !)) (look ! 24 refl)) (and-then ! (load ! (from ! (stop !)) (look ! 25 refl)) (and-then ! (load ! (from ! (stop !)) (look ! 13 refl)) (and-then ! (load ! (from ! (stop !)) (look ! 14 refl)) (and-then ! (load ! (from ! (stop !)) (look ! 7 refl)) (no-more !)))))))) (λ w.
           returned ! tt complete.ended (complete.clauses 𝓤 H A at-mem run) (to-complete ν₁ δ u) w (λ completed lasts. drop ! $
           fsplit ! $ fsplit ! $ move ! (1 ∷ []) $ feqL ! (λ long. move ! (1 ∷ []) $ drop ! $
           move ! (1 ∷ []) $ use1 W (‵ (flft (ν₁ ∷ []) fullShare) ⊛ ‵ (flft (ν ∷ []) fullShare) ⊛ ‵ (flft κ1 q1) ⊛ ‵ ftrue) (id⊢ 𝓤 _) $ split ! $ move ! (1 ∷ []) $ split ! $ move ! (1 ∷ []) $ split ! $ move ! (1 ∷ []) $ drop ! $
@@ -353,8 +365,8 @@ module _ {M : Type 1} (𝓤 : URA M) (H : Heap 𝓤) (A : Atoms 𝓤) (W : Given
           land ! (from ! (stop !)) (store ! 17 refl (uint-lawful 𝓤 H A W w64 .typed sum _ sum-is .0)) $
           rewrite ! 17 (λ (z : Val). ‵ (fat fullShare (tyInt w64) l11 0 z)) (ap only (sum-is .0)) refl $
           assigns-last ! (bin ! (load ! (from ! (stop !)) (look ! 18 refl)) (lit ! tt) (record { fits = next-fits (u .k) repeats small repeats-fits })) (from ! (stop !)) (store ! 18 refl (tt, record { fits = next-fits (u .k) repeats small repeats-fits })) $
-          forget ! 19 refl $ forget ! 22 refl $ forget ! 23 refl $ forget ! 24 refl $ forget ! 25 refl $ forget ! 26 refl $
-          keep ! (3 ∷ 5 ∷ 6 ∷ 0 ∷ 1 ∷ 4 ∷ 2 ∷ 7 ∷ 8 ∷ 9 ∷ 10 ∷ 11 ∷ 12 ∷ 13 ∷ 14 ∷ 15 ∷ 16 ∷ 17 ∷ 18 ∷ 19 ∷ 20 ∷ 21 ∷ 22 ∷ 23 ∷ 24 ∷ 25 ∷ 26 ∷ 27 ∷ 28 ∷ 29 ∷ 30 ∷ 31 ∷ 32 ∷ 33 ∷ 34 ∷ 35 ∷ 36 ∷ 37 ∷ 38 ∷ 39 ∷ 40 ∷ 41 ∷ 42 ∷ 43 ∷ 44 ∷ 45 ∷ 46 ∷ 47 ∷ []) $
+          forget ! 19 refl $ forget ! 22 refl $ forget ! 23 refl $ forget ! 24 refl $ forget ! 25 refl $ forget ! 26 refl $ forget ! 27 refl $
+          keep ! (3 ∷ 5 ∷ 6 ∷ 0 ∷ 1 ∷ 4 ∷ 2 ∷ 7 ∷ 8 ∷ 9 ∷ 10 ∷ 11 ∷ 12 ∷ 13 ∷ 14 ∷ 15 ∷ 16 ∷ 17 ∷ 18 ∷ 19 ∷ 20 ∷ 21 ∷ 22 ∷ 23 ∷ 24 ∷ 25 ∷ 26 ∷ 27 ∷ 28 ∷ 29 ∷ 30 ∷ 31 ∷ 32 ∷ 33 ∷ 34 ∷ 35 ∷ 36 ∷ 37 ∷ 38 ∷ 39 ∷ 40 ∷ 41 ∷ 42 ∷ 43 ∷ 44 ∷ 45 ∷ 46 ∷ 47 ∷ 48 ∷ 49 ∷ []) $
           again ! Nearer At u (next u small sum (sum-is .1) (lasts .0) long) (nearer (u .k) repeats small)))))))
 
       -- the turn that leaves the loop, and the rest of the body
@@ -369,7 +381,7 @@ module _ {M : Type 1} (𝓤 : URA M) (H : Heap 𝓤) (A : Atoms 𝓤) (W : Given
           move ! (0 ∷ 2 ∷ []) $ first-back ! tt I.the-type I′.the-laws maxHeld count places l7 (λ v.
           -- the locals are freed
           returns ! (look ! 6 refl) $ forget ! 6 refl $ forget ! 7 refl $ forget ! 8 refl $ forget ! 9 refl $ forget ! 10 refl $ forget ! 11 refl $ forget ! 12 refl $ forget ! 0 refl $ forget ! 13 refl $ forget ! 14 refl $ forget ! 15 refl $ forget ! 16 refl $ forget ! 17 refl $ forget ! 20 refl $ forget ! 21 refl $
-          move ! (6 ∷ 26 ∷ []) $ free1 ! $ move ! (6 ∷ 25 ∷ []) $ free1 ! $ move ! (6 ∷ 24 ∷ []) $ free1 ! $ move ! (6 ∷ 23 ∷ []) $ free1 ! $ move ! (6 ∷ 22 ∷ []) $ free1 ! $ move ! (6 ∷ 21 ∷ []) $ free1 ! $ move ! (6 ∷ 20 ∷ []) $ free1 ! $ move ! (0 ∷ 19 ∷ []) $ free1 ! $ move ! (5 ∷ 18 ∷ []) $ free1 ! $ move ! (5 ∷ 17 ∷ []) $ free1 ! $ move ! (5 ∷ 16 ∷ []) $ free1 ! $ move ! (5 ∷ 15 ∷ []) $ free1 ! $ move ! (5 ∷ 14 ∷ []) $ free1 ! $ move ! (5 ∷ 13 ∷ []) $ free1 ! $ move ! (5 ∷ 12 ∷ []) $ free1 ! $ move ! (5 ∷ 11 ∷ []) $ free1 ! $ move ! (5 ∷ 10 ∷ []) $ free1 ! $ move ! (5 ∷ 9 ∷ []) $ free1 ! $ move ! (5 ∷ 8 ∷ []) $ free1 ! $ move ! (5 ∷ 7 ∷ []) $ free1 ! $ move ! (5 ∷ 6 ∷ []) $ free1 ! $ free0 ! $
+          move ! (6 ∷ 27 ∷ []) $ free1 ! $ move ! (6 ∷ 26 ∷ []) $ free1 ! $ move ! (6 ∷ 25 ∷ []) $ free1 ! $ move ! (6 ∷ 24 ∷ []) $ free1 ! $ move ! (6 ∷ 23 ∷ []) $ free1 ! $ move ! (6 ∷ 22 ∷ []) $ free1 ! $ move ! (6 ∷ 21 ∷ []) $ free1 ! $ move ! (0 ∷ 20 ∷ []) $ free1 ! $ move ! (5 ∷ 19 ∷ []) $ free1 ! $ move ! (5 ∷ 18 ∷ []) $ free1 ! $ move ! (5 ∷ 17 ∷ []) $ free1 ! $ move ! (5 ∷ 16 ∷ []) $ free1 ! $ move ! (5 ∷ 15 ∷ []) $ free1 ! $ move ! (5 ∷ 14 ∷ []) $ free1 ! $ move ! (5 ∷ 13 ∷ []) $ free1 ! $ move ! (5 ∷ 12 ∷ []) $ free1 ! $ move ! (5 ∷ 11 ∷ []) $ free1 ! $ move ! (5 ∷ 10 ∷ []) $ free1 ! $ move ! (5 ∷ 9 ∷ []) $ free1 ! $ move ! (5 ∷ 8 ∷ []) $ free1 ! $ move ! (5 ∷ 7 ∷ []) $ free1 ! $ move ! (5 ∷ 6 ∷ []) $ free1 ! $ free0 ! $
           keep ! (2 ∷ 4 ∷ 1 ∷ 3 ∷ []) $ by ! (leaves u))
 
       turns-by : (u : Turn repeats ys) (t : Bool) → ltb (u .k) repeats ≡ t → Sq W (At u) (runs C Λ En steps.turn-1 (anyQ (Turned u)))
@@ -379,12 +391,12 @@ module _ {M : Type 1} (𝓤 : URA M) (H : Heap 𝓤) (A : Atoms 𝓤) (W : Given
       looped : Sq W (At start) (runs C Λ En steps.t-9 (atRet En Post))
       looped = first ! $ blocks ! $ loops ! 𝓣 Nearer Nearer-wf At (λ u. turns-by u (ltb (u .k) repeats) refl) start
 
-    -- [the log; the data; their tokens; _0 4; …; _20 24; and that each local dies]
+    -- [the log; the data; their tokens; _0 4; …; _21 25; and that each local dies]
     abbrev Start : List (Item 𝓤)
     Start =
         ‵ (OwnLog ys) ∷ ‵ OwnData ∷ ‵ (flft κ0 q0) ∷ ‵ (flft κ1 q1)
-        ∷ ‵ (froom (tyInt w64) l0 0) ∷ ‵ (fat fullShare tyLog l1 0 log-val) ∷ ‵ (fat fullShare tyData l2 0 bytes-val) ∷ ‵ (fat fullShare (tyInt w32) l3 0 (vint w32 trbs)) ∷ ‵ (fat fullShare (tyInt w32) l4 0 (vint w32 transfer-length)) ∷ ‵ (fat fullShare (tyInt w8) l5 0 (vint w8 status)) ∷ ‵ (fat fullShare (tyInt w32) l6 0 (vint w32 repeats)) ∷ ‵ (froom tyPlaces l7 0) ∷ ‵ (froom (tyInt w64) l8 0) ∷ ‵ (froom tyRow l9 0) ∷ ‵ (froom R′.mir l10 0) ∷ ‵ (froom (tyInt w64) l11 0) ∷ ‵ (froom (tyInt w32) l12 0) ∷ ‵ (froom O′.mir l13 0) ∷ ‵ (froom tyPlaces l14 0) ∷ ‵ (froom tyPlacesRef l15 0) ∷ ‵ (froom tyBool l16 0) ∷ ‵ (froom tyPart l17 0) ∷ ‵ (froom (sliceTy tyPart) l18 0) ∷ ‵ (froom E′.mir l19 0) ∷ ‵ (froom D′.mir l20 0)
-        ∷ ‵ (fdies (tyInt w64) l0) ∷ ‵ (fdies tyLog l1) ∷ ‵ (fdies tyData l2) ∷ ‵ (fdies (tyInt w32) l3) ∷ ‵ (fdies (tyInt w32) l4) ∷ ‵ (fdies (tyInt w8) l5) ∷ ‵ (fdies (tyInt w32) l6) ∷ ‵ (fdies tyPlaces l7) ∷ ‵ (fdies (tyInt w64) l8) ∷ ‵ (fdies tyRow l9) ∷ ‵ (fdies R′.mir l10) ∷ ‵ (fdies (tyInt w64) l11) ∷ ‵ (fdies (tyInt w32) l12) ∷ ‵ (fdies O′.mir l13) ∷ ‵ (fdies tyPlaces l14) ∷ ‵ (fdies tyPlacesRef l15) ∷ ‵ (fdies tyBool l16) ∷ ‵ (fdies tyPart l17) ∷ ‵ (fdies (sliceTy tyPart) l18) ∷ ‵ (fdies E′.mir l19) ∷ ‵ (fdies D′.mir l20) ∷ []
+        ∷ ‵ (froom (tyInt w64) l0 0) ∷ ‵ (fat fullShare tyLog l1 0 log-val) ∷ ‵ (fat fullShare tyData l2 0 bytes-val) ∷ ‵ (fat fullShare (tyInt w32) l3 0 (vint w32 trbs)) ∷ ‵ (fat fullShare (tyInt w32) l4 0 (vint w32 transfer-length)) ∷ ‵ (fat fullShare (tyInt w8) l5 0 (vint w8 status)) ∷ ‵ (fat fullShare (tyInt w32) l6 0 (vint w32 repeats)) ∷ ‵ (froom tyPlaces l7 0) ∷ ‵ (froom (tyInt w64) l8 0) ∷ ‵ (froom tyRow l9 0) ∷ ‵ (froom R′.mir l10 0) ∷ ‵ (froom (tyInt w64) l11 0) ∷ ‵ (froom (tyInt w32) l12 0) ∷ ‵ (froom O′.mir l13 0) ∷ ‵ (froom tyPlaces l14 0) ∷ ‵ (froom tyPlacesRef l15 0) ∷ ‵ (froom tyBool l16 0) ∷ ‵ (froom tyPart l17 0) ∷ ‵ (froom (sliceTy tyPart) l18 0) ∷ ‵ (froom E′.mir l19 0) ∷ ‵ (froom D′.mir l20 0) ∷ ‵ (froom N′.mir l21 0)
+        ∷ ‵ (fdies (tyInt w64) l0) ∷ ‵ (fdies tyLog l1) ∷ ‵ (fdies tyData l2) ∷ ‵ (fdies (tyInt w32) l3) ∷ ‵ (fdies (tyInt w32) l4) ∷ ‵ (fdies (tyInt w8) l5) ∷ ‵ (fdies (tyInt w32) l6) ∷ ‵ (fdies tyPlaces l7) ∷ ‵ (fdies (tyInt w64) l8) ∷ ‵ (fdies tyRow l9) ∷ ‵ (fdies R′.mir l10) ∷ ‵ (fdies (tyInt w64) l11) ∷ ‵ (fdies (tyInt w32) l12) ∷ ‵ (fdies O′.mir l13) ∷ ‵ (fdies tyPlaces l14) ∷ ‵ (fdies tyPlacesRef l15) ∷ ‵ (fdies tyBool l16) ∷ ‵ (fdies tyPart l17) ∷ ‵ (fdies (sliceTy tyPart) l18) ∷ ‵ (fdies E′.mir l19) ∷ ‵ (fdies D′.mir l20) ∷ ‵ (fdies N′.mir l21) ∷ []
 
     -- the statements before the loop
     begins : Sq W Start (runs C Λ En steps.t-1 (atRet En Post))
@@ -405,7 +417,7 @@ module _ {M : Type 1} (𝓤 : URA M) (H : Heap 𝓤) (A : Atoms 𝓤) (W : Given
         assigns ! (of-opd ! (lit ! tt)) (from ! (stop !)) (init ! 16 refl (tt, record { fits = lit< tt })) $
         -- the row is lent for a lifetime ν of the loop
         move ! (11 ∷ []) $ lends-first ! tt I.the-type I′.the-plain (named 1) maxHeld count places places-val l7 places-is few (lit< tt, lit< tt) (λ ν γ.
-        keep ! (0 ∷ 1 ∷ 2 ∷ 3 ∷ 5 ∷ 4 ∷ 6 ∷ 7 ∷ 8 ∷ 9 ∷ 10 ∷ 11 ∷ 12 ∷ 13 ∷ 14 ∷ 15 ∷ 16 ∷ 17 ∷ 18 ∷ 19 ∷ 20 ∷ 21 ∷ 22 ∷ 23 ∷ 24 ∷ 25 ∷ 26 ∷ 27 ∷ 28 ∷ 29 ∷ 30 ∷ 31 ∷ 32 ∷ 33 ∷ 34 ∷ 35 ∷ 36 ∷ 37 ∷ 38 ∷ 39 ∷ 40 ∷ 41 ∷ 42 ∷ 43 ∷ 44 ∷ 45 ∷ 46 ∷ 47 ∷ []) $ looped places count result result-val ν γ result-is)))))
+        keep ! (0 ∷ 1 ∷ 2 ∷ 3 ∷ 5 ∷ 4 ∷ 6 ∷ 7 ∷ 8 ∷ 9 ∷ 10 ∷ 11 ∷ 12 ∷ 13 ∷ 14 ∷ 15 ∷ 16 ∷ 17 ∷ 18 ∷ 19 ∷ 20 ∷ 21 ∷ 22 ∷ 23 ∷ 24 ∷ 25 ∷ 26 ∷ 27 ∷ 28 ∷ 29 ∷ 30 ∷ 31 ∷ 32 ∷ 33 ∷ 34 ∷ 35 ∷ 36 ∷ 37 ∷ 38 ∷ 39 ∷ 40 ∷ 41 ∷ 42 ∷ 43 ∷ 44 ∷ 45 ∷ 46 ∷ 47 ∷ 48 ∷ 49 ∷ []) $ looped places count result result-val ν γ result-is)))))
 
   walk : (𝓣 : Tables 𝓤 H) → Known 𝓤 H A at-mem run (𝓣 .C)
       → ent 𝓤 (onEntry 𝓤 H A stated.signature (κ0, (κ1, tt)) (q0, (q1, tt)) args vals)
@@ -413,20 +425,20 @@ module _ {M : Type 1} (𝓤 : URA M) (H : Heap 𝓤) (A : Atoms 𝓤) (W : Given
   walk 𝓣 known =
       qed W ((‵ (flft κ0 q0) ⊛ ‵ (flft κ1 q1) ⊛ ‵ ftrue) ∷ ‵ (owns (MutSlice (named 0) κ0 u8 ∷ ShrSlice (named 1) κ1 u8 ∷ u32 ∷ u32 ∷ u8 ∷ u32 ∷ []) args vals) ∷ []) ∵
       enter ! (𝓣 .C) (𝓣 .Λ) code.function (log-val ∷ bytes-val ∷ vint w32 trbs ∷ vint w32 transfer-length ∷ vint w8 status ∷ vint w32 repeats ∷ []) _ $
-      alloc1 ! (λ l0. alloc1 ! (λ l1. alloc1 ! (λ l2. alloc1 ! (λ l3. alloc1 ! (λ l4. alloc1 ! (λ l5. alloc1 ! (λ l6. alloc1 ! (λ l7. alloc1 ! (λ l8. alloc1 ! (λ l9. alloc1 ! (λ l10. alloc1 ! (λ l11. alloc1 ! (λ l12. alloc1 ! (λ l13. alloc1 ! (λ l14. alloc1 ! (λ l15. alloc1 ! (λ l16. alloc1 ! (λ l17. alloc1 ! (λ l18. alloc1 ! (λ l19. alloc1 ! (λ l20. alloc0 ! $ params1 ! $
-      pass1 ! (init ! 38 refl (tt, (tt, (record { fits = log-room .0 }, tt)))) $
-      pass1 ! (init ! 36 refl (tt, (tt, (record { fits = bytes-room .0 }, tt)))) $
-      pass1 ! (init ! 34 refl (tt, record { fits = trbs-fits })) $
-      pass1 ! (init ! 32 refl (tt, record { fits = length-fits })) $
-      pass1 ! (init ! 30 refl (tt, record { fits = status-fits })) $
-      pass1 ! (init ! 28 refl (tt, record { fits = repeats-fits })) $
+      alloc1 ! (λ l0. alloc1 ! (λ l1. alloc1 ! (λ l2. alloc1 ! (λ l3. alloc1 ! (λ l4. alloc1 ! (λ l5. alloc1 ! (λ l6. alloc1 ! (λ l7. alloc1 ! (λ l8. alloc1 ! (λ l9. alloc1 ! (λ l10. alloc1 ! (λ l11. alloc1 ! (λ l12. alloc1 ! (λ l13. alloc1 ! (λ l14. alloc1 ! (λ l15. alloc1 ! (λ l16. alloc1 ! (λ l17. alloc1 ! (λ l18. alloc1 ! (λ l19. alloc1 ! (λ l20. alloc1 ! (λ l21. alloc0 ! $ params1 ! $
+      pass1 ! (init ! 40 refl (tt, (tt, (record { fits = log-room .0 }, tt)))) $
+      pass1 ! (init ! 38 refl (tt, (tt, (record { fits = bytes-room .0 }, tt)))) $
+      pass1 ! (init ! 36 refl (tt, record { fits = trbs-fits })) $
+      pass1 ! (init ! 34 refl (tt, record { fits = length-fits })) $
+      pass1 ! (init ! 32 refl (tt, record { fits = status-fits })) $
+      pass1 ! (init ! 30 refl (tt, record { fits = repeats-fits })) $
       pass0 ! $
-      move ! (43 ∷ []) $ fsplit ! $
+      move ! (45 ∷ []) $ fsplit ! $
       move ! (1 ∷ []) $ fsplit ! $
-      move ! (45 ∷ []) $ split ! $
+      move ! (47 ∷ []) $ split ! $
       move ! (1 ∷ []) $ split ! $
-      keep ! (5 ∷ 3 ∷ 2 ∷ 0 ∷ 46 ∷ 44 ∷ 42 ∷ 40 ∷ 38 ∷ 36 ∷ 34 ∷ 32 ∷ 30 ∷ 28 ∷ 26 ∷ 24 ∷ 22 ∷ 20 ∷ 18 ∷ 16 ∷ 14 ∷ 12 ∷ 10 ∷ 8 ∷ 6 ∷ 47 ∷ 45 ∷ 43 ∷ 41 ∷ 39 ∷ 37 ∷ 35 ∷ 33 ∷ 31 ∷ 29 ∷ 27 ∷ 25 ∷ 23 ∷ 21 ∷ 19 ∷ 17 ∷ 15 ∷ 13 ∷ 11 ∷ 9 ∷ 7 ∷ []) $
-      begins 𝓣 known l0 l1 l2 l3 l4 l5 l6 l7 l8 l9 l10 l11 l12 l13 l14 l15 l16 l17 l18 l19 l20)))))))))))))))))))))
+      keep ! (5 ∷ 3 ∷ 2 ∷ 0 ∷ 48 ∷ 46 ∷ 44 ∷ 42 ∷ 40 ∷ 38 ∷ 36 ∷ 34 ∷ 32 ∷ 30 ∷ 28 ∷ 26 ∷ 24 ∷ 22 ∷ 20 ∷ 18 ∷ 16 ∷ 14 ∷ 12 ∷ 10 ∷ 8 ∷ 6 ∷ 49 ∷ 47 ∷ 45 ∷ 43 ∷ 41 ∷ 39 ∷ 37 ∷ 35 ∷ 33 ∷ 31 ∷ 29 ∷ 27 ∷ 25 ∷ 23 ∷ 21 ∷ 19 ∷ 17 ∷ 15 ∷ 13 ∷ 11 ∷ 9 ∷ 7 ∷ []) $
+      begins 𝓣 known l0 l1 l2 l3 l4 l5 l6 l7 l8 l9 l10 l11 l12 l13 l14 l15 l16 l17 l18 l19 l20 l21))))))))))))))))))))))
 
 module _ {M : Type 1} (𝓤 : URA M) (H : Heap 𝓤) (A : Atoms 𝓤) (W : Given 𝓤 H A) (at-mem : Memory → SProp 𝓤) (run : Routine → Fun 𝓤) where
   walks : (𝓣 : Tables 𝓤 H) → Known 𝓤 H A at-mem run (𝓣 .C)

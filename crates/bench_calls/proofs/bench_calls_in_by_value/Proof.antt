@@ -71,7 +71,10 @@ loop2-less : tie.Need-loop2-less Inv-loop2 μ-loop2 Inv-loop μ-loop
 loop2-less c = search needs
 
 loop2-again : tie.Need-loop2-again Inv-loop2 μ-loop2 Inv-loop μ-loop
-loop2-again c = search needs
+loop2-again c =
+    let submission = c .before .before .before .before .before .before .before in
+    let turn = submission .before .before .before .before .before in
+    omega (arith, submission .log .given, turn .loop2-test .taken, turn .before .loop2 .inv)
 
 loop2-less-2 : tie.Need-loop2-less-2 Inv-loop2 μ-loop2 Inv-loop μ-loop
 loop2-less-2 c =

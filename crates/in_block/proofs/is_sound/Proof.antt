@@ -1,7 +1,7 @@
 -- `in_block::is_sound` meets its contract: behind each part that holds, the answer is that of the parts left. Assumes nothing.
 use mathlib.Core.Path.{_≡_, sym, _∙_}
 use mathlib.Core.Bool.{Bool, not, _&&_, _||_}
-use lib.Dec.{leb}
+use lib.Dec.{eqb, leb}
 use borrow.Author.Tests.{le-leb, lt-leb, not-true, not-false}
 use Rattle.trb.specs.Limits.{maxHeld}
 use Rattle.in_block.specs.Facts.{awaitsDevice, soundBlock}
@@ -11,7 +11,7 @@ use Rattle.in_block.proofs.is_sound.Tie as tie
 
 -- the parts that are left
 abbrev from-state : tie.Start → Bool
-from-state s = not (awaitsDevice (s .args .facts .state)) || not (s .args .facts .found .«no_normal»)
+from-state s = not (awaitsDevice (s .args .facts .state)) || not (eqb (s .args .facts .found .normals) 0)
 
 abbrev from-trbs : tie.Start → Bool
 from-trbs s = s .args .facts .found .sound && from-state s

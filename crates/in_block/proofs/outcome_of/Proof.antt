@@ -1,7 +1,7 @@
 -- `in_block::outcome_of` meets its contract: each way out is the definition's case for the tests that led there. Assumes nothing.
 use mathlib.Core.Path.{_≡_, sym, ap, _∙_}
 use mathlib.Core.Bool.{true}
-use borrow.Author.Tests.{not-true, not-false}
+use borrow.Author.Tests.{eq-eqb, ne-eqb, not-true, not-false}
 use Rattle.trb.specs.Trbs.{chainOf}
 use Rattle.held.specs.Sound.{supported}
 use Rattle.held.specs.declared.EndpointKind.the-variants.{In}
@@ -21,9 +21,9 @@ ended : (c : tie.Else2) → let s = c .before .before .before .before .args in o
 unfolding outcomeOf
 ended c = rw (held (c .before .before), sym (c .before .chain-of .ensures) ∙ c .if2 .left)
 
--- whether that TD has no Normal
-no-normal : (c : tie.After-test-trb) → let s = c .before .before .before .before .before .args in trbTest (s .found) (s .t) .«no_normal» ≡ c .test-trb .result .«no_normal»
-no-normal c = sym (ap (λ (u : HeldTest). u .«no_normal») (c .test-trb .ensures))
+-- the Normals of that TD
+counted : (c : tie.After-test-trb) → let s = c .before .before .before .before .before .args in trbTest (s .found) (s .t) .normals ≡ c .test-trb .result .normals
+counted c = sym (ap (λ (u : HeldTest). u .normals) (c .test-trb .ensures))
 
 supports-requires : tie.Need-supports-requires
 supports-requires c κs = search needs
@@ -43,10 +43,10 @@ test-trb-requires : tie.Need-test-trb-requires
 test-trb-requires c κs = search needs
 
 returns-3 : tie.Need-returns-3
-returns-3 c = rw (ended (c .before .before), no-normal (c .before) ∙ c .if3 .taken)
+returns-3 c = rw (ended (c .before .before .before), eq-eqb _ _ (counted (c .before .before) ∙ c .if3 .taken))
 
 returns-4 : tie.Need-returns-4
-returns-4 c = rw (ended (c .before .before), no-normal (c .before) ∙ c .if3 .left)
+returns-4 c = rw (ended (c .before .before .before), ne-eqb _ _ (λ q. c .if3 .left (sym (counted (c .before .before)) ∙ q)))
 
 pub outcome-of-spec : {M : Type 1} → statement M
 outcome-of-spec =

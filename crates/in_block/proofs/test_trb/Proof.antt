@@ -9,16 +9,12 @@ is-sound-trb-requires c κs = search needs
 both-requires : tie.Need-both-requires
 both-requires c κs = search needs
 
-is-normal-requires : tie.Need-is-normal-requires
-is-normal-requires c κs = search needs
-
-both-requires-2 : tie.Need-both-requires-2
-both-requires-2 c κs = search needs
+count-normal-requires : tie.Need-count-normal-requires
+count-normal-requires c κs = search needs
 
 returns : tie.Need-returns
-returns c = rw (c .both2 .ensures, c .before .is-normal .ensures, c .before .before .both .ensures, c .before .before .before .is-sound-trb .ensures)
+returns c = rw (c .count-normal .ensures, c .before .both .ensures, c .before .before .is-sound-trb .ensures)
 
 pub test-trb-spec : {M : Type 1} → statement M
 test-trb-spec =
-    tie.close
-    (tie.spec is-sound-trb-requires both-requires is-normal-requires both-requires-2 returns)
+    tie.close (tie.spec is-sound-trb-requires both-requires count-normal-requires returns)

@@ -9,6 +9,7 @@ use mathlib.Core.Logic.{⊎-elim}
 use native.Mathlib.Nat.{le-antisymm}
 use native.Mathlib.Omega.{arith}
 use lib.ListN.{length, take, length-map}
+use lib.Seq.{length-take-le}
 use borrow.Author.Tests.{not-true, not-false}
 use Rattle.trb.specs.Answers.{numberOf, completionNumber, isAccepted}
 use Rattle.trb.specs.Limits.{maxHeld, recordLength}
@@ -18,14 +19,16 @@ use Rattle.log.proofs.CallLaws.{meets}
 use Rattle.log.proofs.LogLaws.{logged-none}
 use Rattle.held.specs.Places.{pastEnd, cleared}
 use Rattle.held.proofs.PlaceLaws.{blanked, blanked-none, blanked-next, blanked-more, cleared-blanked}
+use Rattle.in_td.specs.Td.{normals}
 use Rattle.in_td.proofs.TurnLaws.{WalkedTd, walkedTd-none, walkedTd-turn, walkedTd-room, walkedTd-end}
 use Rattle.in_block.specs.Blocks.{heldOf}
 use Rattle.in_block.specs.Facts.{heldTest, factsOf}
 use Rattle.in_block.specs.Outcomes.{endingOf}
 use Rattle.in_block.specs.declared.BlockFacts.{BlockFacts}
+use Rattle.in_block.specs.declared.HeldTest.{HeldTest}
 use Rattle.in_block.proofs.SoundLaws.{sound-held}
 use Rattle.held.proofs.TestedLaws.{places-few}
-use Rattle.in_block.proofs.TestLaws.{Testing, testing-none, testing-turn, held-tested, facts-known}
+use Rattle.in_block.proofs.TestLaws.{Testing, testing-none, testing-turn, held-tested, all-counted, facts-known}
 use Rattle.in_questions.specs.Questions.{completionQuestions}
 use Rattle.in_questions.proofs.PassedLaws.{PassedCompletion, passed-completion}
 use Rattle.in_endpoint.specs.Completion.{refused, transferred, completedAs, completion}
@@ -35,24 +38,24 @@ use Rattle.in_endpoint.proofs.next_completion.Statement.{statement}
 use Rattle.in_endpoint.proofs.next_completion.Tie as tie
 
 abbrev Inv-loop : tie.InvT-loop
-Inv-loop log block result «data» endpoint-id slot-id state held trbs places found₀ i₀ found i = Testing (take places trbs) found i × (i ≤ places)
+Inv-loop log block result «data» endpoint-id slot-id mode state held trbs places found₀ i₀ found i = Testing (take places trbs) found i × (i ≤ places)
 
 abbrev μ-loop : tie.MeasureT-loop
-μ-loop log block result «data» endpoint-id slot-id state held trbs places found₀ i₀ found i = places - i
+μ-loop log block result «data» endpoint-id slot-id mode state held trbs places found₀ i₀ found i = places - i
 
 abbrev Inv-loop2 : tie.InvT-loop2
-Inv-loop2 log₀ «data» endpoint-id slot-id held trbs₀ places i asked records data-length td blank processed₀ j₀ log trbs processed j =
+Inv-loop2 log₀ «data» endpoint-id slot-id mode held trbs₀ places i asked records data-length td blank processed₀ j₀ log trbs processed j =
     WalkedTd td held trbs₀ log₀ log processed j × ((trbs ≡ blanked j trbs₀) × (j ≤ held))
 
 abbrev μ-loop2 : tie.MeasureT-loop2
-μ-loop2 log₀ «data» endpoint-id slot-id held trbs₀ places i asked records data-length td blank processed₀ j₀ log trbs processed j =
+μ-loop2 log₀ «data» endpoint-id slot-id mode held trbs₀ places i asked records data-length td blank processed₀ j₀ log trbs processed j =
     held - j
 
 -- ---- Question 2's loop
 
 -- a block has 512 places
 len : (s : tie.Start Inv-loop μ-loop Inv-loop2 μ-loop2) → length (s .args .block .trbs) ≡ maxHeld
-len s = simp length-map at (s .good .1 .0 .1 .1 .1 .1 .1 .1 .0 .1 .0 .1)
+len s = simp length-map at (s .good .1 .0 .1 .1 .1 .1 .1 .1 .1 .0 .1 .0 .1)
 
 places-held-requires : tie.Need-places-held-requires Inv-loop μ-loop Inv-loop2 μ-loop2
 places-held-requires c κs = search needs
@@ -191,8 +194,12 @@ start2 c = c .before .before .before .before .before .before .before .before
 
 loop2-holds : tie.Need-loop2-holds Inv-loop μ-loop Inv-loop2 μ-loop2
 loop2-holds c =
-    let s = walked-call (c .before .before .before .before .before .before) .args in
-    rw (c .unprocessed .ensures) (walkedTd-none (c .before .before .td-of .result) (s .block .held) (s .block .trbs) (s .log .now), (sym (blanked-none (s .block .trbs)), search needs))
+    let o = c .before .before .before .before .before .before in
+    let asked = o .before .before .before in
+    let s = walked-call o .args in
+    let counted : asked .before .before .loop .found .normals ≡ normals (heldOf (s .block)) =
+    ap (λ (x : HeldTest). x .normals) (found (asked .before)) ∙ all-counted (heldOf (s .block)) (omega (arith, length-take-le (s .block .held) (s .block .trbs) (walk-few o), walk-held o)) in
+    rw (c .unprocessed .ensures, counted) (walkedTd-none (c .before .before .td-of .result) (s .block .held) (s .block .trbs) (s .log .now), (sym (blanked-none (s .block .trbs)), search needs))
 
 mul-one-2 : tie.Need-mul-one-2 Inv-loop μ-loop Inv-loop2 μ-loop2
 mul-one-2 c = let few = walk-held (start2 c) in search needs

@@ -31,16 +31,16 @@ use Rattle.in_endpoint.proofs.submit_trb.Statement.{statement}
 use Rattle.in_endpoint.proofs.submit_trb.Tie as tie
 
 abbrev Inv-loop : tie.InvT-loop
-Inv-loop log block t window-base window endpoint-id slot-id state held trbs places found₀ i₀ found i = Testing (take places trbs) found i × (i ≤ places)
+Inv-loop log block t window-base window endpoint-id slot-id mode state held trbs places found₀ i₀ found i = Testing (take places trbs) found i × (i ≤ places)
 
 abbrev μ-loop : tie.MeasureT-loop
-μ-loop log block t window-base window endpoint-id slot-id state held trbs places found₀ i₀ found i = places - i
+μ-loop log block t window-base window endpoint-id slot-id mode state held trbs places found₀ i₀ found i = places - i
 
 -- ---- Question 2's loop
 
 -- a block has 512 places
 len : (s : tie.Start Inv-loop μ-loop) → length (s .args .block .trbs) ≡ maxHeld
-len s = simp length-map at (s .good .1 .0 .1 .1 .1 .1 .1 .1 .0 .1 .0 .1)
+len s = simp length-map at (s .good .1 .0 .1 .1 .1 .1 .1 .1 .1 .0 .1 .0 .1)
 
 places-held-requires : tie.Need-places-held-requires Inv-loop μ-loop
 places-held-requires c κs = search needs

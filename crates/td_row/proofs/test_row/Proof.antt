@@ -89,10 +89,10 @@ tyRow = sliceTy (tyRef (named 0) imm (pointee (I.the-row .written)))
 
 -- before the first TRB
 abbrev untested : HeldTest
-untested = record { sound = true; «no_normal» = true }
+untested = record { sound = true; normals = 0 }
 
 untested-is : Is S.the-row untested (LL.val S.the-type S′.the-laws untested ∷ [])
-untested-is = LL.owes S.the-type S′.the-laws untested (refl, (refl, tt))
+untested-is = LL.owes S.the-type S′.the-laws untested (refl, ((refl, lit< tt), tt))
 
 start : (xs : List TransferTrb) → Turn xs
 start xs = record { i = 0; s = untested; v = LL.val S.the-type S′.the-laws untested; most = omega arith; v-is = untested-is; tested = testing-none (take (length xs) xs) }
@@ -226,7 +226,7 @@ module _ {M : Type 1} (𝓤 : URA M) (H : Heap 𝓤) (A : Atoms 𝓤) (W : Given
       qed W ((‵ (flft κ q) ⊛ ‵ ftrue) ∷ ‵ (owns (ShrSlice (named 0) κ I.the-row ∷ []) args vals) ∷ []) ∵ enter ! (𝓣 .C) (𝓣 .Λ) code.function (sr ∷ []) _ $
       alloc1 ! (λ l0. alloc1 ! (λ l1. alloc1 ! (λ l2. alloc1 ! (λ l3. alloc1 ! (λ l4. alloc1 ! (λ l5. alloc1 ! (λ l6. alloc1 ! (λ l7. alloc1 ! (λ l8. alloc0 ! $ params1 ! $
       pass1 ! (init ! 14 refl (tt, (tt, (record { fits = rooms .0 }, tt)))) $ pass0 ! $
-      assigns ! (agg ! (and-then ! (true-lit !) (and-then ! (true-lit !) (no-more !)))) (from ! (stop !)) (init ! 12 refl (LL.lawful S.the-type S′.the-laws 𝓤 H A W .typed untested _ untested-is .0)) $
+      assigns ! (agg ! (and-then ! (true-lit !) (and-then ! (lit ! tt) (no-more !)))) (from ! (stop !)) (init ! 12 refl (LL.lawful S.the-type S′.the-laws 𝓤 H A W .typed untested _ untested-is .0)) $
       assigns ! (of-opd ! (lit ! tt)) (from ! (stop !)) (init ! 10 refl (tt, record { fits = lit< tt })) $
       -- the row's reference is kept whole for the end, and a copy of it is looked into
       move ! (19 ∷ []) $ fsplit ! $ use1 W (‵ OwnRow ⊛ ‵ OwnRow) (shr-slice-copy 𝓤 H A W (named 0) κ I.the-row .twice x (sr ∷ [])) $ split ! $

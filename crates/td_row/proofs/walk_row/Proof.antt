@@ -94,7 +94,7 @@ Callee 𝓤 H A mem run = tripleOf 𝓤 H A callee.signature (callee.spec 𝓤 H
 start-place : fieldOf P′.mir 2 ≡ some (S′.mir, 16)
 start-place = refl
 
-count-place : fieldOf P′.mir 3 ≡ some (tyInt w64, 64)
+count-place : fieldOf P′.mir 3 ≡ some (tyInt w64, 72)
 count-place = refl
 
 abbrev tyRow : Ty
@@ -117,7 +117,7 @@ record Turn (plan : RowPlan) (xs : List TransferTrb) (ys : List ℕ) : Type 0 wh
   same : length zs ≡ length ys
   walked-so : WalkedTd (plan .td) (plan .count) xs ys zs s i
 
-next : {plan : RowPlan} {xs : List TransferTrb} {ys : List ℕ} → Walkable plan (length xs) (length ys) → (u : Turn plan xs ys) → u .i < plan .count → (r : TdProcessed) (w : Val) (ws : List ℕ)
+next : {plan : RowPlan} {xs : List TransferTrb} {ys : List ℕ} → Walkable plan xs (length ys) → (u : Turn plan xs ys) → u .i < plan .count → (r : TdProcessed) (w : Val) (ws : List ℕ)
     → Meets (nextTrb (plan .td) (u .s) (getD xs (u .i) pastEnd)) (u .s .progress .records) (u .zs) r ws → length ws ≡ length (u .zs) → Is S.the-row r (w ∷ []) → Turn plan xs ys
 next {plan} {xs} {ys} ok u small r w ws e long is = record {
   i = u .i + 1;
@@ -134,7 +134,7 @@ module _ {M : Type 1} (𝓤 : URA M) (H : Heap 𝓤) (A : Atoms 𝓤) (W : Given
     (κ κ′ : Lft) (q q′ : Share) (y : RefT (List ℕ)) (x : RefT (List TransferTrb)) (plan : RowPlan) (asked-val td-val start-val : Val)
     (room : Room u8 (length (now y))) (rooms : Room I.the-row (length (now x))) (count-fits : plan .count < 2 ^ 64)
     (plan-is : Is P.the-row plan (vstruct (ofList (asked-val ∷ td-val ∷ start-val ∷ vint w64 (plan .count) ∷ [])) ∷ []))
-    (start-is : Is S.the-row (plan .start) (start-val ∷ [])) (ok : Walkable plan (length (now x)) (length (now y))) where
+    (start-is : Is S.the-row (plan .start) (start-val ∷ [])) (ok : Walkable plan (now x) (length (now y))) where
   abbrev xs : List TransferTrb
   xs = now x
 

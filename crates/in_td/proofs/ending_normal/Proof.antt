@@ -1,9 +1,9 @@
--- `in_td::short_normal` meets its contract, by the status of the transfer. Assumes nothing.
+-- `in_td::ending_normal` meets its contract, by the status of the transfer. Assumes nothing.
 use Rattle.log.proofs.CallLaws.{meets}
-use Rattle.in_td.proofs.TdLaws.{short-by, meets-goesOn}
+use Rattle.in_td.proofs.TdLaws.{ending-by, meets-goesOn}
 use borrow.Author.Needs.{needs}
-use Rattle.in_td.proofs.short_normal.Statement.{statement}
-use Rattle.in_td.proofs.short_normal.Tie as tie
+use Rattle.in_td.proofs.ending_normal.Statement.{statement}
+use Rattle.in_td.proofs.ending_normal.Tie as tie
 
 enum-told : tie.Need-enum-told
 enum-told c = search needs
@@ -41,7 +41,7 @@ same-length c = search needs
 returns : tie.Need-returns
 returns c =
     let s = c .before .before .before .before .before .before .before .before .args in
-    meets (short-by (s .td) (s .progress) (s .normal) (s .addr) (s .cycle-bit) (c .before .before .before .before .enum-told .given .1)) (c .before .before .fail .ensures)
+    meets (ending-by (s .td) (s .normals-left) (s .progress) (s .normal) (s .addr) (s .cycle-bit) (c .before .before .before .before .enum-told .given .1)) (c .before .before .fail .ensures)
 
 same-length-2 : tie.Need-same-length-2
 same-length-2 c = search needs
@@ -49,7 +49,7 @@ same-length-2 c = search needs
 returns-2 : tie.Need-returns-2
 returns-2 c =
     let s = c .before .before .before .before .before .before .before .before .args in
-    meets (short-by (s .td) (s .progress) (s .normal) (s .addr) (s .cycle-bit) (c .before .before .before .before .enum-told2 .given .1)) (c .before .before .fail2 .ensures)
+    meets (ending-by (s .td) (s .normals-left) (s .progress) (s .normal) (s .addr) (s .cycle-bit) (c .before .before .before .before .enum-told2 .given .1)) (c .before .before .fail2 .ensures)
 
 same-length-3 : tie.Need-same-length-3
 same-length-3 c = search needs
@@ -57,7 +57,7 @@ same-length-3 c = search needs
 returns-3 : tie.Need-returns-3
 returns-3 c =
     let s = c .before .before .before .before .before .before .before .before .args in
-    meets (short-by (s .td) (s .progress) (s .normal) (s .addr) (s .cycle-bit) (c .before .before .before .before .enum-told3 .given .1)) (c .before .before .fail3 .ensures)
+    meets (ending-by (s .td) (s .normals-left) (s .progress) (s .normal) (s .addr) (s .cycle-bit) (c .before .before .before .before .enum-told3 .given .1)) (c .before .before .fail3 .ensures)
 
 same-length-4 : tie.Need-same-length-4
 same-length-4 c = search needs
@@ -65,11 +65,11 @@ same-length-4 c = search needs
 returns-4 : tie.Need-returns-4
 returns-4 c =
     let s = c .before .before .before .before .before .before .before .before .before .before .args in
-    meets (short-by (s .td) (s .progress) (s .normal) (s .addr) (s .cycle-bit) (c .before .before .before .before .before .before .enum-told4 .given .1))
+    meets (ending-by (s .td) (s .normals-left) (s .progress) (s .normal) (s .addr) (s .cycle-bit) (c .before .before .before .before .before .before .enum-told4 .given .1))
     (meets-goesOn (rw (c .before .before .before .before .before .of-normal .ensures) at (c .before .before .before .realize-dma-trb .ensures)) (c .going-on .ensures))
 
-pub short-normal-spec : {M : Type 1} → statement M
-short-normal-spec =
+pub ending-normal-spec : {M : Type 1} → statement M
+ending-normal-spec =
     tie.close
     (tie.spec
     enum-told
