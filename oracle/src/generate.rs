@@ -356,6 +356,9 @@ impl Generator {
             return trb;
         }
         let is_out = self.model().is_out;
+        if !is_out {
+            trb.flags &= !IMMEDIATE_DATA;
+        }
         if is_out {
             let fills = self.random.percent(3) && self.style.longest > 600;
             let collectable = self.model().collectable();

@@ -103,6 +103,7 @@ pub fn of_submission(endpoint: &mut Endpoint, trb: &Trb, buffers: Buffers, memor
         (2, is_sound(endpoint)),
         (3, submission_is_due(endpoint)),
         (4, trb.length <= MAX_TRB_LENGTH),
+        (21, !holds_data || out.is_some() || !trb.has(IMMEDIATE_DATA)),
         (5, held.unwrap_or(0) <= MAX_HELD),
         (6, !holds_data || trb.length == 0 || immediate_out || memory.contains(trb.a, trb.length as usize)),
         (7, collected <= MAX_COLLECTED),

@@ -17,7 +17,7 @@ use Rattle.standard.specs.Control.{Kind, ControlTransfer, dataStage, statusStag
 use Rattle.standard.specs.Usb.{Setup, setupBytes}
 use Rattle.standard.specs.Xhci.{normal, eventData, noOp, transferEvent, ownResidual, succeeded, stalled, unanswered, ended, events, delivery, isTd}
 use Rattle.conformance.specs.Phases.{OfKind}
-use Rattle.conformance.specs.Runs.{seen, standardSeen, inCall, inRunIn, inRun, ControlCall, controlCall, ControlRan, controlRunFor, controlRun, normalTrb, eventDataTrb, noOpTrb, setupStageTrb, dataStageTrb, statusStageTrb, unrecognizedTrb}
+use Rattle.conformance.specs.Runs.{seen, standardSeen, inCall, inRunIn, inRun, inNumber, inMadeUp, ControlCall, controlCall, ControlRan, controlRunFor, controlRun, normalTrb, eventDataTrb, noOpTrb, setupStageTrb, dataStageTrb, statusStageTrb, unrecognizedTrb}
 use Rattle.conformance.specs.Translate.{runsOn, halts, haltsAt, told}
 
 -- USB 2.0, 9.4.3: GET_DESCRIPTOR with wLength 64
@@ -77,11 +77,15 @@ pub passed-normal-standard : standardSeen ownResidual succeeded 3 (normal 0x1000
     ≡ record { events = transferEvent 13 false 0x1000 5 ∷ transferEvent 13 false 0x1010 16 ∷ []; writes = delivery 0x8000 3 0 ∷ []; halt = runsOn }
 passed-normal-standard = refl
 
--- ---- 10: a Normal of 4 bytes with immediate data and IOC; 4 bytes come
+-- ---- 10: a Normal of 4 bytes with immediate data and IOC is turned down; of a made-up block that holds one 4 bytes come
 
-pub immediate-in-engine : inRun (inCall (normalTrb 0x1000 0x8000 4 false true false true) (Given status.Success) 4 ∷ [])
+pub immediate-in-refused : inNumber (normalTrb 0x1000 0x8000 4 false true false true) ≡ 21
+unfolding inNumber
+immediate-in-refused = refl
+
+pub immediate-in-engine : inMadeUp (normalTrb 0x1000 0x8000 4 false true false true) (Given status.Success) 4
     ≡ record { events = transferEvent 1 false 0x1000 0 ∷ []; writes = delivery 0x8000 4 0 ∷ []; halt = runsOn }
-unfolding inRun
+unfolding inMadeUp
 immediate-in-engine = refl
 
 pub immediate-in-standard : immediateAllowed true 4 ≡ false

@@ -5,17 +5,19 @@ use mathlib.Core.Bool.{Bool, true, false}
 use mathlib.Core.List.{List, [], _∷_, _++_}
 use mathlib.Core.Option.{Option, none, some}
 use lib.ListN.{replicate, length}
+use Rattle.trb.specs.Answers.{numberOf, refusalOf}
 use Rattle.trb.specs.Limits.{minLog, maxCollected}
 use Rattle.trb.specs.Questions.{firstNo}
 use Rattle.trb.specs.declared.CompletionAnswer.{CompletionAnswer}
 use Rattle.trb.specs.declared.CompletionAnswer.the-variants.{Completed, Refused}
 use Rattle.trb.specs.declared.ControlRequestProcessingResult.{ControlRequestProcessingResult}
 use Rattle.trb.specs.declared.InTrbProcessingResult.{InTrbProcessingResult}
+use Rattle.trb.specs.declared.TdBasedNormalSubmissionState.the-variants.{AwaitingRealTransfer}
 use Rattle.trb.specs.declared.TransferTrb.{TransferTrb}
 use Rattle.trb.specs.declared.TransferTrbVariant.{TransferTrbVariant}
 use Rattle.trb.specs.declared.TransferTrbVariant.the-variants.{SetupStage, DataStage, StatusStage, Normal, EventData, NoOp, Unrecognized}
 use Rattle.log.specs.declared.Record.{Record}
-use Rattle.in_block.specs.Blocks.{freshBlock}
+use Rattle.in_block.specs.Blocks.{freshBlock, withState, stored}
 use Rattle.in_block.specs.declared.InBlock.{InBlock}
 use Rattle.in_block.specs.Facts.{soundBlock as soundIn}
 use Rattle.in_block.specs.Outcomes.{outcomeOf}
@@ -105,6 +107,18 @@ inRunIn mode calls = inFrom (freshBlock (record { 0 = 3 }) (record { 0 = 2 }) mo
 unfoldable pub inRun : List InCall → Seen
 unfolding inRunIn
 inRun calls = inRunIn AsPorted calls
+
+-- what one submission to a fresh block answers, by its number
+unfoldable pub inNumber : TransferTrb → ℕ
+unfolding submissionIn submissionQuestionsIn outcomeOf firstNo refusalOf idsInRange soundIn all rangeInside placeOf
+inNumber t = numberOf (submissionIn minLog (freshBlock (record { 0 = 3 }) (record { 0 = 2 }) AsPorted) t windowBase (length guestBytes) .state .answer)
+
+-- the completion of a made-up block that holds this TRB alone and awaits the device
+unfoldable pub inMadeUp : TransferTrb → InTrbProcessingResult → (n : ℕ) → Seen
+unfolding completionIn completionQuestionsIn firstNo transferred idsInRange soundIn soundTrb all cleared walk processTrb handleNormal putDma realizeDma
+inMadeUp t r n =
+    let p = completionIn minLog (withState (stored (freshBlock (record { 0 = 3 }) (record { 0 = 2 }) AsPorted) t) AwaitingRealTransfer) r n in
+    seen (p .records) (haltAnswered (p .state .answer))
 
 -- ---- Control
 

@@ -19,13 +19,13 @@ use Rattle.control_block.specs.Stages.{isDataStage, isStatusStage, first
 abbrev pub addressFrom : StageFound → List TransferTrb → ℕ
 addressFrom s ts = cond (s .«data_stage») (s .addr) (firstAt isDataStage ts (cond (s .«status_stage») (s .addr) (firstAt isStatusStage ts (s .addr))))
 
--- a TRB has its turn, by what was found and what it is
-turn-by : (s : StageFound) (t : TransferTrb) (ts : List TransferTrb) (found first second status : Bool) → s .«data_stage» ≡ found → isDataStage (t .variant) ≡ first → s .«status_stage» ≡ second
-    → isStatusStage (t .variant) ≡ status → addressFrom (stageWith s t) ts ≡ addressFrom s (t ∷ ts)
+-- a TRB has its turn, by what was found and by its kind
+turn-by : (s : StageFound) (t : TransferTrb) (ts : List TransferTrb) (data-found is-data status-found is-status : Bool) → s .«data_stage» ≡ data-found → isDataStage (t .variant) ≡ is-data
+    → s .«status_stage» ≡ status-found → isStatusStage (t .variant) ≡ is-status → addressFrom (stageWith s t) ts ≡ addressFrom s (t ∷ ts)
 unfolding firstAt stageWith
-turn-by s t ts true first second status e f g h = rw e
-turn-by s t ts false true second status e f g h = rw (e, f)
-turn-by s t ts false false true status e f g h = rw (e, f, g)
+turn-by s t ts true is-data status-found is-status e f g h = rw e
+turn-by s t ts false true status-found is-status e f g h = rw (e, f)
+turn-by s t ts false false true is-status e f g h = rw (e, f, g)
 turn-by s t ts false false false true e f g h = rw (e, f, g, h)
 turn-by s t ts false false false false e f g h = rw (e, f, g, h)
 

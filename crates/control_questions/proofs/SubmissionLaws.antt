@@ -19,7 +19,7 @@ use Rattle.control_block.specs.Facts.{soundBlock, submissionDue}
 use Rattle.control_block.proofs.BlockLaws.{sound-held, sound-collected}
 use Rattle.control_transfer.specs.Data.{dataOf}
 use Rattle.control_transfer.specs.Transfers.{collectable}
-use Rattle.control_questions.specs.Submission.{longEnough, hasRoom, reaches, submissionQuestions}
+use Rattle.control_questions.specs.Submission.{longEnough, immediateAllowed, hasRoom, reaches, submissionQuestions}
 
 -- a TRB that is held, behind those held, has a place
 pub room-held : (o : Outcome) (held : ℕ) → hasRoom o held ≡ true → holds o ≡ true → restarts o ≡ false → held < maxHeld
@@ -34,6 +34,7 @@ pub record Passed (log collect : ℕ) (f : BlockFacts) (o : Outcome) (t : Transf
   pub collect-long : maxCollected ≤ collect
   pub held : f .held ≤ maxHeld
   pub collected : f .collected ≤ maxCollected
+  pub from-memory : immediateAllowed o (f .direction) (dataOf (t .variant)) ≡ true
   pub room : hasRoom o (f .held) ≡ true
   pub size : collectable o (f .direction) (f .collected) (dataOf (t .variant)) ≡ true
 
@@ -48,8 +49,11 @@ module _ (f : BlockFacts) (o : Outcome) (t : TransferTrb) (base size : ℕ) wher
   abbrev pub from-held : List (Bool × ℕ)
   from-held = (hasRoom o (f .held), 5) ∷ from-window
 
+  abbrev pub from-flag : List (Bool × ℕ)
+  from-flag = (immediateAllowed o (f .direction) (dataOf (t .variant)), 21) ∷ from-held
+
   abbrev pub from-length : List (Bool × ℕ)
-  from-length = (leb (transferLength (t .variant)) maxTransferLength, 4) ∷ from-held
+  from-length = (leb (transferLength (t .variant)) maxTransferLength, 4) ∷ from-flag
 
   abbrev pub from-turn : List (Bool × ℕ)
   from-turn = (submissionDue (f .state), 3) ∷ from-length
@@ -65,7 +69,8 @@ module _ (f : BlockFacts) (o : Outcome) (t : TransferTrb) (base size : ℕ) wher
       let sound = yes-first (soundBlock f) 1 from-turn second in
       let third : firstNo from-turn ≡ 0 = yes-behind (soundBlock f) 1 from-turn second in
       let fourth : firstNo from-length ≡ 0 = yes-behind (submissionDue (f .state)) 2 from-length third in
-      let fifth : firstNo from-held ≡ 0 = yes-behind (leb (transferLength (t .variant)) maxTransferLength) 3 from-held fourth in
+      let flag : firstNo from-flag ≡ 0 = yes-behind (leb (transferLength (t .variant)) maxTransferLength) 3 from-flag fourth in
+      let fifth : firstNo from-held ≡ 0 = yes-behind (immediateAllowed o (f .direction) (dataOf (t .variant))) 20 from-held flag in
       let sixth : firstNo from-window ≡ 0 = yes-behind (hasRoom o (f .held)) 4 from-window fifth in
       let seventh : firstNo from-collected ≡ 0 = yes-behind (reaches o (f .direction) (dataOf (t .variant)) base size) 5 from-collected sixth in
       record {
@@ -73,6 +78,7 @@ module _ (f : BlockFacts) (o : Outcome) (t : TransferTrb) (base size : ℕ) wher
         collect-long = leb-true _ _ (and-right (leb minLog log) (leb maxCollected collect) long);
         held = sound-held f sound;
         collected = sound-collected f sound;
+        from-memory = yes-first (immediateAllowed o (f .direction) (dataOf (t .variant))) 20 from-held flag;
         room = yes-first (hasRoom o (f .held)) 4 from-window fifth;
         size = yes-first (collectable o (f .direction) (f .collected) (dataOf (t .variant))) 6 [] seventh;
       }

@@ -1,6 +1,6 @@
 -- 01, Submission: the questions, in this order. Assumes nothing.
 use Prim.Native.Nat.{ℕ, _+_}
-use mathlib.Core.Bool.{Bool, cond, _&&_}
+use mathlib.Core.Bool.{Bool, not, cond, _&&_}
 use mathlib.Core.List.{List, [], _∷_}
 use lib.Dec.{leb}
 use Rattle.trb.specs.Limits.{maxHeld, maxTransferLength, maxCollected, minLog}
@@ -19,6 +19,10 @@ use Rattle.control_transfer.specs.Transfers.{collectable}
 abbrev pub longEnough : ℕ → ℕ → Bool
 longEnough log collect = leb minLog log && leb maxCollected collect
 
+-- 02, R-14: immediate data is for sending. If this TRB would be held in an IN transfer, is its data not immediate?
+abbrev pub immediateAllowed : Outcome → Bool → TrbData → Bool
+immediateAllowed o input d = askedIf (holds o && input) (not (d .«immediate_data»))
+
 -- if this TRB would be held, are then at most 512 held?
 unfoldable pub hasRoom : Outcome → ℕ → Bool
 hasRoom o held = askedIf (holds o) (leb (cond (restarts o) 1 (held + 1)) maxHeld)
@@ -34,6 +38,7 @@ submissionQuestions log collect f o t base size =
     ∷ (soundBlock f, 2)
     ∷ (submissionDue (f .state), 3)
     ∷ (leb (transferLength (t .variant)) maxTransferLength, 4)
+    ∷ (immediateAllowed o (f .direction) (dataOf (t .variant)), 21)
     ∷ (hasRoom o (f .held), 5)
     ∷ (reaches o (f .direction) (dataOf (t .variant)) base size, 6)
     ∷ (collectable o (f .direction) (f .collected) (dataOf (t .variant)), 7)

@@ -13,9 +13,22 @@ ghost use Rattle.trb.specs.Limits.{maxHeld, maxCollected};
 ghost use Rattle.trb.specs.Questions.{firstNo};
 ghost use Rattle.control_transfer.specs.Transfers.{collectable};
 ghost use Rattle.control_questions.specs.Completion.{isGiven, completionQuestions};
-ghost use Rattle.control_questions.specs.Submission.{hasRoom, reaches, submissionQuestions};
+ghost use Rattle.control_questions.specs.Submission.{immediateAllowed, hasRoom, reaches, submissionQuestions};
 
 // ---- Submission
+
+// Question 21: if this TRB would be held in an IN transfer, is its data not immediate?
+fn is_immediate_allowed(outcome: Outcome, input: bool, data: TrbData) -> bool
+    ensures { λ r. ⌜ r ≡ immediateAllowed outcome input «data» ⌝ }
+{
+    if !phase_table::is_held(outcome) {
+        return true;
+    }
+    if !input {
+        return true;
+    }
+    !data.immediate_data
+}
 
 // Question 5: if this TRB would be held, are then at most 512 held?
 fn is_room(outcome: Outcome, held: usize) -> bool
@@ -53,7 +66,7 @@ fn is_collectable(outcome: Outcome, input: bool, collected: usize, data: TrbData
     collected + size <= trb::MAX_COLLECTED
 }
 
-// Questions 1 to 7, of a log, a collect buffer and a window at `base` of these lengths, and a TRB that becomes this.
+// Questions 1 to 4, 21 and 5 to 7, of a log, a collect buffer and a window at `base` of these lengths, and a TRB that becomes this.
 pub fn ask_submission(
     log_length: usize,
     collect_length: usize,
@@ -82,6 +95,9 @@ pub fn ask_submission(
     }
     if trb::MAX_TRANSFER_LENGTH < trb::transfer_length(variant) {
         return Answer::Refused(Refusal::TransferTooLong);
+    }
+    if !is_immediate_allowed(outcome, facts.direction, data) {
+        return Answer::Refused(Refusal::ImmediateInput);
     }
     if !is_room(outcome, facts.held) {
         return Answer::Refused(Refusal::TooManyHeld);

@@ -1,14 +1,14 @@
 -- What is known of a call on an IN endpoint once every question was answered with yes. Assumes nothing.
 use Prim.Native.Nat.{ℕ, _+_, _<_, _≤_}
 use mathlib.Core.Path.{_≡_}
-use mathlib.Core.Bool.{Bool, true, not}
+use mathlib.Core.Bool.{Bool, true, false, not}
 use mathlib.Core.List.{List, [], _∷_}
 use native.Mathlib.Omega.{arith}
 use lib.Dec.{leb}
-use borrow.Author.Tests.{leb-true}
+use borrow.Author.Tests.{leb-true, not-true}
 use Rattle.trb.specs.Limits.{maxHeld, maxTransferLength, minLog, maxData}
 use Rattle.trb.specs.Questions.{firstNo, askedIf, agree}
-use Rattle.trb.specs.Trbs.{transferLength}
+use Rattle.trb.specs.Trbs.{transferLength, immediateOf}
 use Rattle.trb.specs.declared.InTrbProcessingResult.{InTrbProcessingResult}
 use Rattle.trb.specs.declared.TransferTrb.{TransferTrb}
 use Rattle.trb.proofs.QuestionLaws.{yes-first, yes-behind}
@@ -23,6 +23,7 @@ pub record PassedSubmission (l : ℕ) (f : BlockFacts) (t : TransferTrb) : Type 
   pub log-long : minLog ≤ l
   pub sound : soundBlock f ≡ true
   pub short : transferLength (t .variant) ≤ maxTransferLength
+  pub from-memory : supported In (t .variant) ≡ true → immediateOf (t .variant) ≡ false
   pub room : supported In (t .variant) ≡ true → f .held < maxHeld
 
 module _ (l : ℕ) (f : BlockFacts) (t : TransferTrb) (base size : ℕ) where
@@ -32,6 +33,9 @@ module _ (l : ℕ) (f : BlockFacts) (t : TransferTrb) (base size : ℕ) where
 
   abbrev from-held : List (Bool × ℕ)
   from-held = (askedIf (supported In (t .variant)) (leb (f .held + 1) maxHeld), 5) ∷ from-window
+
+  abbrev from-flag : List (Bool × ℕ)
+  from-flag = (askedIf (supported In (t .variant)) (not (immediateOf (t .variant))), 21) ∷ from-held
 
   abbrev from-trb : List (Bool × ℕ)
   from-trb = trbQuestions (f .held) (t .variant) base size
@@ -48,11 +52,13 @@ module _ (l : ℕ) (f : BlockFacts) (t : TransferTrb) (base size : ℕ) where
       let block = yes-behind (leb minLog l) 0 from-block none in
       let turn = yes-behind (soundBlock f) 1 from-turn block in
       let trb = yes-behind (submissionDue (f .state)) 2 from-trb turn in
-      let held = yes-behind (leb (transferLength (t .variant)) maxTransferLength) 3 from-held trb in
+      let flag = yes-behind (leb (transferLength (t .variant)) maxTransferLength) 3 from-flag trb in
+      let held = yes-behind (askedIf (supported In (t .variant)) (not (immediateOf (t .variant)))) 20 from-held flag in
       record {
         log-long = leb-true _ _ (yes-first (leb minLog l) 0 from-block none);
         sound = yes-first (soundBlock f) 1 from-turn block;
-        short = leb-true _ _ (yes-first (leb (transferLength (t .variant)) maxTransferLength) 3 from-held trb);
+        short = leb-true _ _ (yes-first (leb (transferLength (t .variant)) maxTransferLength) 3 from-flag trb);
+        from-memory = λ kind. not-true _ (rw kind at (yes-first (askedIf (supported In (t .variant)) (not (immediateOf (t .variant)))) 20 from-held flag));
         room = λ kind.
             let fits : leb (f .held + 1) maxHeld ≡ true = rw kind at (yes-first (askedIf (supported In (t .variant)) (leb (f .held + 1) maxHeld)) 4 from-window held) in
             omega (arith, leb-true (f .held + 1) maxHeld fits);

@@ -5,7 +5,7 @@ use mathlib.Core.List.{List, [], _∷_}
 use lib.Dec.{leb}
 use Rattle.trb.specs.Limits.{maxHeld, maxTransferLength, minLog, maxData}
 use Rattle.trb.specs.Questions.{askedIf, agree}
-use Rattle.trb.specs.Trbs.{transferLength}
+use Rattle.trb.specs.Trbs.{transferLength, immediateOf}
 use Rattle.trb.specs.declared.InTrbProcessingResult.{InTrbProcessingResult}
 use Rattle.trb.specs.declared.InTrbProcessingResult.the-variants.{NoneGiven, Given}
 use Rattle.trb.specs.declared.TransferTrb.{TransferTrb}
@@ -19,10 +19,11 @@ use Rattle.in_request.specs.Requests.{inGuestMemory}
 -- ---- Submission
 
 -- of a TRB behind h others that are held, with a guest window of size bytes at base: is the length of a Normal TRB at most 131,071?
--- If it would be held, are then at most 512 held, and does its range lie in the guest window?
+-- If it would be held, is its data not immediate (02, R-14), are then at most 512 held, and does its range lie in the guest window?
 abbrev pub trbQuestions : ℕ → TransferTrbVariant → ℕ → ℕ → List (Bool × ℕ)
 trbQuestions h v base size =
     (leb (transferLength v) maxTransferLength, 4)
+    ∷ (askedIf (supported In v) (not (immediateOf v)), 21)
     ∷ (askedIf (supported In v) (leb (h + 1) maxHeld), 5)
     ∷ (askedIf (supported In v) (inGuestMemory v base size), 6)
     ∷ []

@@ -13,7 +13,7 @@ ghost use Rattle.trb.specs.Limits.{maxHeld};
 ghost use Rattle.trb.specs.Questions.{firstNo};
 ghost use Rattle.in_questions.specs.Questions.{trbQuestions, submissionQuestions, isGiven, completionQuestions};
 
-// Questions 4 to 6, of a TRB behind `held` others.
+// Questions 4, 21, 5 and 6, of a TRB behind `held` others.
 fn ask_of_trb(
     held: usize,
     variant: TransferTrbVariant,
@@ -29,6 +29,9 @@ fn ask_of_trb(
     if !held::supports(EndpointKind::In, variant) {
         return Answer::Accepted;
     }
+    if trb::immediate_data(variant) {
+        return Answer::Refused(Refusal::ImmediateInput);
+    }
     if trb::MAX_HELD < held + 1 {
         return Answer::Refused(Refusal::TooManyHeld);
     }
@@ -38,7 +41,7 @@ fn ask_of_trb(
     Answer::Accepted
 }
 
-// Questions 1 to 6, of a log and a guest window of these lengths.
+// Questions 1 to 4, 21, 5 and 6, of a log and a guest window of these lengths.
 pub fn ask_submission(
     log_length: usize,
     facts: BlockFacts,

@@ -15,6 +15,17 @@ transferLength (NoOp t) = 0
 transferLength Isoch = 0
 transferLength Unrecognized = 0
 
+-- the immediate data flag of a DataStage or Normal TRB; of any other, off
+abbrev pub immediateOf : TransferTrbVariant → Bool
+immediateOf (SetupStage t) = false
+immediateOf (DataStage t) = t .«immediate_data»
+immediateOf (StatusStage t) = false
+immediateOf (Normal t) = t .«immediate_data»
+immediateOf (EventData t) = false
+immediateOf (NoOp t) = false
+immediateOf Isoch = false
+immediateOf Unrecognized = false
+
 -- the chain bit; of a kind without one, off
 abbrev pub chainOf : TransferTrbVariant → Bool
 chainOf (SetupStage t) = false

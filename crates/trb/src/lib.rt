@@ -7,7 +7,7 @@ ghost use Rattle.trb.specs.Ids.{idsInRange};
 ghost use Rattle.trb.specs.Limits.{limitTable};
 ghost use Rattle.trb.specs.Questions.{agree};
 ghost use Rattle.trb.specs.Refusals.{refusalNumber};
-ghost use Rattle.trb.specs.Trbs.{transferLength, chainOf};
+ghost use Rattle.trb.specs.Trbs.{transferLength, immediateOf, chainOf};
 
 // ---- Limits: each has this name here and one in specs/Limits.antt; `limits` ties the two.
 
@@ -173,6 +173,22 @@ pub fn transfer_length(variant: TransferTrbVariant) -> u32
     }
 }
 
+// The immediate data flag of a DataStage or Normal TRB; of any other, off.
+pub fn immediate_data(variant: TransferTrbVariant) -> bool
+    ensures { λ r. ⌜ r ≡ immediateOf variant ⌝ }
+{
+    match variant {
+        TransferTrbVariant::SetupStage(_) => false,
+        TransferTrbVariant::DataStage(data_stage) => data_stage.immediate_data,
+        TransferTrbVariant::StatusStage(_) => false,
+        TransferTrbVariant::Normal(normal) => normal.immediate_data,
+        TransferTrbVariant::EventData(_) => false,
+        TransferTrbVariant::NoOp(_) => false,
+        TransferTrbVariant::Isoch => false,
+        TransferTrbVariant::Unrecognized => false,
+    }
+}
+
 // The chain bit; of a kind without one, off.
 pub fn chain_of(variant: TransferTrbVariant) -> bool
     ensures { λ r. ⌜ r ≡ chainOf variant ⌝ }
@@ -301,6 +317,7 @@ pub enum Refusal {
     MalformedLog,
     WriteOutOfRange,
     IdOutOfRange,
+    ImmediateInput,
     NotEncodable,
 }
 
@@ -320,6 +337,7 @@ pub fn refusal_number(refusal: Refusal) -> u8
         Refusal::MalformedLog => 10,
         Refusal::WriteOutOfRange => 11,
         Refusal::IdOutOfRange => 12,
+        Refusal::ImmediateInput => 21,
         Refusal::NotEncodable => 23,
     }
 }

@@ -12,7 +12,7 @@ use Rattle.control_block.specs.declared.BlockFacts.{BlockFacts}
 use Rattle.control_block.specs.Facts.{soundBlock}
 use Rattle.control_block.proofs.BlockLaws.{sound-held, sound-collected}
 use Rattle.control_questions.specs.Submission.{submissionQuestions}
-use Rattle.control_questions.proofs.SubmissionLaws.{from-block, from-turn, from-length, from-held, from-window, from-collected}
+use Rattle.control_questions.proofs.SubmissionLaws.{from-block, from-turn, from-length, from-flag, from-held, from-window, from-collected}
 use borrow.Author.Needs.{needs}
 use Rattle.control_questions.proofs.ask_submission.Statement.{statement}
 use Rattle.control_questions.proofs.ask_submission.Tie as tie
@@ -36,13 +36,16 @@ at-turn c = at-block (c .before .before)
 abbrev at-length : tie.Else4 → tie.Start
 at-length c = at-turn (c .before .before)
 
-abbrev at-held : tie.Else5 → tie.Start
-at-held c = at-length (c .before .before)
+abbrev at-flag : tie.Else5 → tie.Start
+at-flag c = at-length (c .before .before)
 
-abbrev at-window : tie.Else6 → tie.Start
+abbrev at-held : tie.Else6 → tie.Start
+at-held c = at-flag (c .before .before)
+
+abbrev at-window : tie.Else7 → tie.Start
 at-window c = at-held (c .before .before)
 
-abbrev at-collected : tie.Else7 → tie.Start
+abbrev at-collected : tie.Else8 → tie.Start
 at-collected c = at-window (c .before .before)
 
 long : (c : tie.Else2) → number (at-block c) ≡ left from-block (at-block c)
@@ -60,23 +63,29 @@ due : (c : tie.Else4) → number (at-length c) ≡ left from-length (at-length c
 unfolding firstNo
 due c = sound (c .before .before) ∙ rw (← c .before .submission-due .ensures, not-false (c .before .submission-due .result) (c .if4 .left))
 
-short : (c : tie.Else5) → number (at-held c) ≡ left from-held (at-held c)
+short : (c : tie.Else5) → number (at-flag c) ≡ left from-flag (at-flag c)
 unfolding firstNo
 short c = due (c .before .before) ∙ rw (← c .before .transfer-length .ensures, le-leb _ _ (c .if5 .left))
 
-roomy : (c : tie.Else6) → number (at-window c) ≡ left from-window (at-window c)
-unfolding firstNo
-roomy c = short (c .before .before) ∙ rw (← c .before .is-room .ensures, not-false (c .before .is-room .result) (c .if6 .left))
-
 -- the data that is asked about is the TRB's
-abbrev data-known : tie.Else6 → tie.After-data-of
-data-known c = c .before .before .before .before .before .before .before .before .before .before
+abbrev data-known : tie.Else5 → tie.After-data-of
+data-known c = c .before .before .before .before .before .before .before .before
 
-reached : (c : tie.Else7) → number (at-collected c) ≡ left from-collected (at-collected c)
+allowed : (c : tie.Else6) → number (at-held c) ≡ left from-held (at-held c)
+unfolding firstNo
+allowed c =
+    short (c .before .before)
+    ∙ rw (← data-known (c .before .before) .data-of .ensures, ← c .before .is-immediate-allowed .ensures, not-false (c .before .is-immediate-allowed .result) (c .if6 .left))
+
+roomy : (c : tie.Else7) → number (at-window c) ≡ left from-window (at-window c)
+unfolding firstNo
+roomy c = allowed (c .before .before) ∙ rw (← c .before .is-room .ensures, not-false (c .before .is-room .result) (c .if7 .left))
+
+reached : (c : tie.Else8) → number (at-collected c) ≡ left from-collected (at-collected c)
 unfolding firstNo
 reached c =
     roomy (c .before .before)
-    ∙ rw (← data-known (c .before .before) .data-of .ensures, ← c .before .is-reached .ensures, not-false (c .before .is-reached .result) (c .if7 .left))
+    ∙ rw (← data-known (c .before .before .before .before .before .before) .data-of .ensures, ← c .before .is-reached .ensures, not-false (c .before .is-reached .result) (c .if8 .left))
 
 -- ---- The needs
 
@@ -112,38 +121,49 @@ returns-5 : tie.Need-returns-5
 unfolding firstNo
 returns-5 c = sym (due (c .before .before) ∙ rw (← c .before .transfer-length .ensures, lt-leb _ _ (c .if5 .taken)))
 
-is-room-requires : tie.Need-is-room-requires
-is-room-requires c κs = sound-held (at-held c .args .facts) (is-sound (c .before .before .before .before))
+is-immediate-allowed-requires : tie.Need-is-immediate-allowed-requires
+is-immediate-allowed-requires c κs = search needs
 
 returns-6 : tie.Need-returns-6
 unfolding firstNo
-returns-6 c = sym (short (c .before .before) ∙ rw (← c .before .is-room .ensures, not-true (c .before .is-room .result) (c .if6 .taken)))
+returns-6 c =
+    sym (short (c .before .before)
+    ∙ rw (← data-known (c .before .before) .data-of .ensures, ← c .before .is-immediate-allowed .ensures, not-true (c .before .is-immediate-allowed .result) (c .if6 .taken)))
 
-is-reached-requires : tie.Need-is-reached-requires
-is-reached-requires c κs = search needs
+is-room-requires : tie.Need-is-room-requires
+is-room-requires c κs = sound-held (at-held c .args .facts) (is-sound (c .before .before .before .before .before .before))
 
 returns-7 : tie.Need-returns-7
 unfolding firstNo
-returns-7 c =
-    sym (roomy (c .before .before)
-    ∙ rw (← data-known (c .before .before) .data-of .ensures, ← c .before .is-reached .ensures, not-true (c .before .is-reached .result) (c .if7 .taken)))
+returns-7 c = sym (allowed (c .before .before) ∙ rw (← c .before .is-room .ensures, not-true (c .before .is-room .result) (c .if7 .taken)))
 
-is-collectable-requires : tie.Need-is-collectable-requires
-is-collectable-requires c κs = sound-collected (at-collected c .args .facts) (is-sound (c .before .before .before .before .before .before .before .before))
+is-reached-requires : tie.Need-is-reached-requires
+is-reached-requires c κs = search needs
 
 returns-8 : tie.Need-returns-8
 unfolding firstNo
 returns-8 c =
     let if7 = c .before .before in
-    sym (reached if7
-    ∙ rw (← data-known (if7 .before .before) .data-of .ensures, ← c .before .is-collectable .ensures, not-true (c .before .is-collectable .result) (c .if8 .taken)))
+    sym (roomy if7
+    ∙ rw (← data-known (if7 .before .before .before .before) .data-of .ensures, ← c .before .is-reached .ensures, not-true (c .before .is-reached .result) (c .if8 .taken)))
+
+is-collectable-requires : tie.Need-is-collectable-requires
+is-collectable-requires c κs =
+    sound-collected (at-collected c .args .facts) (is-sound (c .before .before .before .before .before .before .before .before .before .before))
 
 returns-9 : tie.Need-returns-9
 unfolding firstNo
 returns-9 c =
-    let if7 = c .before .before in
-    sym (reached if7
-    ∙ rw (← data-known (if7 .before .before) .data-of .ensures, ← c .before .is-collectable .ensures, not-false (c .before .is-collectable .result) (c .if8 .left)))
+    let if8 = c .before .before in
+    sym (reached if8
+    ∙ rw (← data-known (if8 .before .before .before .before .before .before) .data-of .ensures, ← c .before .is-collectable .ensures, not-true (c .before .is-collectable .result) (c .if9 .taken)))
+
+returns-10 : tie.Need-returns-10
+unfolding firstNo
+returns-10 c =
+    let if8 = c .before .before in
+    sym (reached if8
+    ∙ rw (← data-known (if8 .before .before .before .before .before .before) .data-of .ensures, ← c .before .is-collectable .ensures, not-false (c .before .is-collectable .result) (c .if9 .left)))
 
 pub ask-submission-spec : {M : Type 1} → statement M
 ask-submission-spec =
@@ -158,10 +178,12 @@ ask-submission-spec =
     returns-4
     transfer-length-requires
     returns-5
-    is-room-requires
+    is-immediate-allowed-requires
     returns-6
-    is-reached-requires
+    is-room-requires
     returns-7
-    is-collectable-requires
+    is-reached-requires
     returns-8
-    returns-9)
+    is-collectable-requires
+    returns-9
+    returns-10)

@@ -1,0 +1,3 @@
+pub mod Held
+pub mod InCalls
+pub mod ControlCalls
