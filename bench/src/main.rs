@@ -65,6 +65,7 @@ fn tables(measure: &mut dyn Measure) {
     control_table(bytes, measure);
     carry_out_table(bytes, measure);
     raw_table(measure);
+    compact_table(measure);
 }
 
 /// All sides answer the same. A row answers what the whole TD has beyond its submissions.
@@ -215,4 +216,60 @@ fn raw_table(measure: &mut dyn Measure) {
         let costs = measure.measure(RAW_TRBS, &mut sides);
         println!("| {name} | {:.1} | {:.1} | {:.2} |", costs[0], costs[1], costs[1] / costs[0]);
     }
+}
+
+const LOG_RECORDS: u32 = 2048;
+
+/// Record number k of a log.
+type LogRecord = fn(u32) -> [u8; 32];
+
+fn log_record(kind: u8, address: u64, length: u32, start: u32) -> [u8; 32] {
+    let mut record = [0; 32];
+    record[0] = kind;
+    record[3..5].copy_from_slice(&[3, 2]);
+    record[8..16].copy_from_slice(&address.to_le_bytes());
+    record[16..20].copy_from_slice(&length.to_le_bytes());
+    record[20..24].copy_from_slice(&start.to_le_bytes());
+    record
+}
+
+/// Of frames one behind the other: the writes of twenty full Normals, and the last one's event.
+fn frame_record(k: u32) -> [u8; 32] {
+    let k = k % (FRAME_TRBS + 1);
+    if k == FRAME_TRBS {
+        return log_record(2, 0x1000, 0, 0);
+    }
+    log_record(1, 0x8000 + u64::from(k * TRANSFER_LENGTH), TRANSFER_LENGTH, k * TRANSFER_LENGTH)
+}
+
+fn compact_table(measure: &mut dyn Measure) {
+    println!("\nCompacting a log of {LOG_RECORDS} records, per record\n\n| Records | kept | memcpy | laid and compacted |\n|---|---|---|---|");
+    let frames = LOG_RECORDS.div_ceil(FRAME_TRBS + 1) + LOG_RECORDS / (FRAME_TRBS + 1);
+    let rows: [(&str, LogRecord, u32); 5] = [
+        ("frames of twenty writes and an event", frame_record, frames),
+        ("writes that go on, all joined", |k| log_record(1, 0x8000 + 512 * u64::from(k), 512, 512 * k), 1),
+        ("writes that do not", |k| log_record(1, 0x8000 + 1024 * u64::from(k), 512, 512 * k), LOG_RECORDS),
+        ("writes of 0 bytes", |_| log_record(1, 0x8000, 0, 0), 0),
+        ("events", |k| log_record(2, 0x1000 + 16 * u64::from(k), 0, 0), LOG_RECORDS),
+    ];
+    for (name, record, kept) in rows {
+        let log: Vec<u8> = (0..LOG_RECORDS).flat_map(record).collect();
+        let mut buffer = log.clone();
+        assert!(product::compact(&log, &mut buffer, 1) == u64::from(kept), "{name}: another number is kept");
+        let mut copy = log.clone();
+        let mut sides: [Calls; 2] = [
+            Box::new(|repeats| copy_log(&log, &mut copy, repeats)),
+            Box::new(|repeats| product::compact(&log, &mut buffer, repeats)),
+        ];
+        let costs = measure.measure(LOG_RECORDS, &mut sides);
+        println!("| {name} | {kept} | {:.1} | {:.1} |", costs[0], costs[1]);
+    }
+}
+
+fn copy_log(log: &[u8], buffer: &mut [u8], repeats: u32) -> u64 {
+    for _ in 0..repeats {
+        buffer.copy_from_slice(std::hint::black_box(log));
+        std::hint::black_box(&mut *buffer);
+    }
+    u64::from(repeats)
 }

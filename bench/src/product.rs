@@ -44,6 +44,8 @@ extern "C" {
 
     fn bench_raw_decode(trbs: *const u8, trbs_length: usize, repeats: u32) -> u64;
 
+    fn bench_compact(log: *const u8, log_length: usize, buffer: *mut u8, buffer_length: usize, repeats: u32) -> u64;
+
     fn bench_calls_control(
         log: *mut u8,
         log_length: usize,
@@ -174,4 +176,10 @@ pub fn carry_out(log: &[u8], data: &[u8], base: u64, memory: &mut [u8], repeats:
 /// Decodes a row of raw TRBs, 16 bytes each.
 pub fn decode(trbs: &[u8], repeats: u32) -> u64 {
     unsafe { bench_raw_decode(trbs.as_ptr(), trbs.len(), repeats) }
+}
+
+/// Lays a log into a buffer of its length and compacts it there; answers the records kept.
+pub fn compact(log: &[u8], buffer: &mut [u8], repeats: u32) -> u64 {
+    // SAFETY: as above.
+    unsafe { bench_compact(log.as_ptr(), log.len(), buffer.as_mut_ptr(), buffer.len(), repeats) }
 }

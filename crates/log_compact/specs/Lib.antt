@@ -1,0 +1,6 @@
+pub mod Rows
+pub mod Compact
+pub mod Kept
+pub mod Compacting
+pub mod Before
+pub mod Examples
