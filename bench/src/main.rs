@@ -156,18 +156,48 @@ fn carry_out_table(bytes: &'static [u8], measure: &mut dyn Measure) {
     product::in_by_value(&mut log, &frame, true, 1);
     let records = log.records(FRAME_TRBS as usize + 1);
     let mut memory = vec![0; frame.data.len()];
-    product::carry_out(records, frame.data, 0, &mut memory, 1);
+    product::carry_out(records, frame.data, &mut memory, HIGH_BASE, &mut [], 1);
     assert!(memory == frame.data, "carry-out has not moved the frame");
+    let alternating = in_turns(records);
+    let (mut low, mut high) = (vec![0; frame.data.len()], vec![0; frame.data.len()]);
+    product::carry_out(&alternating, frame.data, &mut low, HIGH_BASE, &mut high, 1);
+    assert!(
+        interleaved(&low, &high)[..frame.data.len()] == *frame.data,
+        "carry-out has not moved the frame to two regions"
+    );
     let mut copy = memory.clone();
-    let mut sides: [Calls; 2] = [
+    let mut sides: [Calls; 3] = [
         Box::new(|repeats| copy_frame(frame.data, &mut copy, repeats)),
-        Box::new(|repeats| product::carry_out(records, frame.data, 0, &mut memory, repeats)),
+        Box::new(|repeats| product::carry_out(records, frame.data, &mut memory, HIGH_BASE, &mut [], repeats)),
+        Box::new(|repeats| product::carry_out(&alternating, frame.data, &mut low, HIGH_BASE, &mut high, repeats)),
     ];
     let costs = measure.measure(FRAME_TRBS, &mut sides);
-    let (copied, carried_out) = (costs[0], costs[1]);
+    let (copied, carried_out, in_two) = (costs[0], costs[1], costs[2]);
     println!("Carry-out of a frame of {FRAME_TRBS} writes of {TRANSFER_LENGTH} bytes, per write\n");
-    println!("| memcpy | carry_out | memcpy to carry_out |\n|---|---|---|");
-    println!("| {copied:.0} | {carried_out:.0} | {:.2} |", copied / carried_out);
+    println!(
+        "| memcpy | carry_out | memcpy to carry_out | carry_out, alternating between two regions |\n|---|---|---|---|"
+    );
+    println!("| {copied:.0} | {carried_out:.0} | {:.2} | {in_two:.0} |", copied / carried_out);
+}
+
+/// Where the high region starts: behind the 4 GiB hole.
+const HIGH_BASE: u64 = 1 << 32;
+
+/// The log with every other write in the high region; in each the writes lie end to end.
+fn in_turns(log: &[u8]) -> Vec<u8> {
+    let mut log = log.to_vec();
+    let writes = log.chunks_mut(32).filter(|record| record[0] == 1);
+    for (k, record) in (0..).zip(writes) {
+        let address = k / 2 * u64::from(TRANSFER_LENGTH) + k % 2 * HIGH_BASE;
+        record[8..16].copy_from_slice(&address.to_le_bytes());
+    }
+    log
+}
+
+/// What two regions have, a write from each in turn.
+fn interleaved(low: &[u8], high: &[u8]) -> Vec<u8> {
+    let length = TRANSFER_LENGTH as usize;
+    low.chunks(length).zip(high.chunks(length)).flat_map(|(a, b)| [a, b].concat()).collect()
 }
 
 fn copy_frame(data: &[u8], memory: &mut [u8], repeats: u32) -> u64 {
@@ -203,8 +233,11 @@ const RAW_TRBS: u32 = 64;
 
 fn raw_table(measure: &mut dyn Measure) {
     println!("\nRaw TRBs decoded, per TRB\n\n| TRBs | the Rust's parser | decode | ratio |\n|---|---|---|---|");
-    let rows: [(&str, &[u8]); 3] =
-        [("Normal", &[1]), ("Setup, Data, Status", &[2, 3, 4]), ("of every type, and one unknown", &[1, 2, 3, 4, 5, 7, 8, 6])];
+    let rows: [(&str, &[u8]); 3] = [
+        ("Normal", &[1]),
+        ("Setup, Data, Status", &[2, 3, 4]),
+        ("of every type, and one unknown", &[1, 2, 3, 4, 5, 7, 8, 6]),
+    ];
     for (name, types) in rows {
         let trbs = raw_trbs(types);
         let mut sides: [Calls; 2] = [

@@ -64,9 +64,12 @@ extern "C" {
         log_length: usize,
         data: *const u8,
         data_length: usize,
-        base: u64,
-        memory: *mut u8,
-        memory_length: usize,
+        low_base: u64,
+        low: *mut u8,
+        low_length: usize,
+        high_base: u64,
+        high: *mut u8,
+        high_length: usize,
         repeats: u32,
     ) -> u64;
 }
@@ -157,7 +160,8 @@ impl Control {
     }
 }
 
-pub fn carry_out(log: &[u8], data: &[u8], base: u64, memory: &mut [u8], repeats: u32) -> u64 {
+/// The low region starts at 0, the high one at `high_base`.
+pub fn carry_out(log: &[u8], data: &[u8], low: &mut [u8], high_base: u64, high: &mut [u8], repeats: u32) -> u64 {
     // SAFETY: as above.
     unsafe {
         bench_calls_carry_out(
@@ -165,9 +169,12 @@ pub fn carry_out(log: &[u8], data: &[u8], base: u64, memory: &mut [u8], repeats:
             log.len(),
             data.as_ptr(),
             data.len(),
-            base,
-            memory.as_mut_ptr(),
-            memory.len(),
+            0,
+            low.as_mut_ptr(),
+            low.len(),
+            high_base,
+            high.as_mut_ptr(),
+            high.len(),
             repeats,
         )
     }

@@ -115,9 +115,36 @@ impl Status {
         [Self::Success, Self::Stall, Self::TransactionError, Self::Disconnect, Self::SuccessfulControlOut];
 }
 
+/// `length` bytes of guest memory from `base`. Addresses are whole numbers: a region may reach past 2^64.
+#[derive(Debug, Clone, Copy, PartialEq, Eq)]
+pub struct Region {
+    pub base: u64,
+    pub length: u64,
+}
+
+impl Region {
+    pub const NONE: Self = Self { base: 0, length: 0 };
+
+    pub fn end(self) -> u128 {
+        u128::from(self.base) + u128::from(self.length)
+    }
+
+    /// Is there an address in both?
+    pub fn shares_an_address(self, other: Self) -> bool {
+        u128::from(self.base.max(other.base)) < self.end().min(other.end())
+    }
+}
+
+impl Display for Region {
+    fn fmt(&self, f: &mut Formatter<'_>) -> fmt::Result {
+        write!(f, "{:x} {:x}", self.base, self.length)
+    }
+}
+
 #[derive(Debug, Clone, Copy, PartialEq, Eq)]
 pub enum Call {
-    Window { base: u64, length: u64 },
+    /// Where one region is named, the other is empty.
+    Window { low: Region, high: Option<Region> },
     Buffers { log: u64, collect: u64 },
     /// In the mode named; where none is, as ported.
     CreateIn { endpoint: u8, slot: u8, mode: Option<u8> },
@@ -150,7 +177,8 @@ impl Call {
 impl Display for Call {
     fn fmt(&self, f: &mut Formatter<'_>) -> fmt::Result {
         match self {
-            Self::Window { base, length } => write!(f, "w {base:x} {length:x}"),
+            Self::Window { low, high: None } => write!(f, "w {low}"),
+            Self::Window { low, high: Some(high) } => write!(f, "w {low} {high}"),
             Self::Buffers { log, collect } => write!(f, "b {log:x} {collect:x}"),
             Self::CreateIn { endpoint, slot, mode: None } => write!(f, "i {endpoint:x} {slot:x}"),
             Self::CreateIn { endpoint, slot, mode: Some(mode) } => write!(f, "i {endpoint:x} {slot:x} {mode:x}"),
@@ -172,10 +200,12 @@ impl Display for Call {
     }
 }
 
-pub const MAX_WINDOW: u64 = 0x40000;
+/// Of both regions together.
+pub const MAX_WINDOW: u64 = 0x140000;
+pub const FIRST_REGION: Region = Region { base: 0x8000, length: 0x40000 };
 pub const MAX_LOG: u64 = MIN_LOG;
 pub const MAX_COLLECT: u64 = 0x10000;
-pub const MAX_DATA: u64 = 0x100000;
+pub const MAX_DATA: u64 = MAX_WINDOW;
 
 /// A number in lower-case hex with no leading zeros, at most `limit`.
 fn number(field: &str, limit: u64) -> Option<u64> {
@@ -216,6 +246,10 @@ fn trb(fields: &[&str]) -> Option<Trb> {
     has_only_its_own.then_some(trb)
 }
 
+fn region(base: &str, length: &str) -> Option<Region> {
+    Some(Region { base: number(base, u64::MAX)?, length: number(length, MAX_WINDOW)? })
+}
+
 fn ids(endpoint: &str, slot: &str) -> Option<(u8, u8)> {
     Some((number(endpoint, 0xff)? as u8, number(slot, 0xff)? as u8))
 }
@@ -224,7 +258,14 @@ fn ids(endpoint: &str, slot: &str) -> Option<(u8, u8)> {
 pub fn parse(line: &str) -> Option<Call> {
     let fields: Vec<&str> = line.split(' ').collect();
     let call = match fields[..] {
-        ["w", base, length] => Call::Window { base: number(base, u64::MAX)?, length: number(length, MAX_WINDOW)? },
+        ["w", base, length] => Call::Window { low: region(base, length)?, high: None },
+        ["w", low_base, low_length, high_base, high_length] => {
+            let (low, high) = (region(low_base, low_length)?, region(high_base, high_length)?);
+            if low.length + high.length > MAX_WINDOW {
+                return None;
+            }
+            Call::Window { low, high: Some(high) }
+        }
         ["b", log, collect] => Call::Buffers { log: number(log, MAX_LOG)?, collect: number(collect, MAX_COLLECT)? },
         ["i", endpoint, slot] => {
             let (endpoint, slot) = ids(endpoint, slot)?;

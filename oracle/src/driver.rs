@@ -3,7 +3,7 @@
 use std::sync::Arc;
 
 use crate::{
-    call::{parse, Call, Status, Trb, MAX_LOG, MAX_WINDOW},
+    call::{parse, Call, Region, Status, Trb, FIRST_REGION, MAX_LOG},
     device::xhci::{
         interrupter::EventSender,
         real_endpoint_handle::{ControlRequestProcessingResult, InTrbProcessingResult, InTrbProcessingStatus},
@@ -76,7 +76,6 @@ struct Driver {
     endpoint: Option<Endpoint>,
 }
 
-const FIRST_BASE: u64 = 0x8000;
 const FIRST_BUFFERS: Buffers = Buffers { log: MAX_LOG, collect: 0xffff };
 
 fn asked(question: Option<u8>) -> Result<(), Stop> {
@@ -111,7 +110,7 @@ fn control_result(status: Status, data: Vec<u8>) -> DeviceResult {
 impl Driver {
     fn new() -> Self {
         let effects = EffectLog::default();
-        let memory = Arc::new(GuestMemory::new(FIRST_BASE, MAX_WINDOW as usize, effects.clone()));
+        let memory = Arc::new(GuestMemory::new(FIRST_REGION, Region::NONE, effects.clone()));
         let device = ScriptedDevice::new(effects.clone());
         Self {
             connections: Connections {
@@ -134,7 +133,7 @@ impl Driver {
     /// Makes the call; its answer, if it is one that prints.
     fn call(&mut self, call: Call) -> Result<Option<String>, Stop> {
         match call {
-            Call::Window { base, length } => self.memory.fill_anew(base, length as usize),
+            Call::Window { low, high } => self.memory.fill_anew(low, high.unwrap_or(Region::NONE)),
             Call::Buffers { log, collect } => self.buffers = Buffers { log, collect },
             Call::Hold(trb) => self.hold(&trb)?,
             Call::MakeUpIn { state } => match self.endpoint()? {
@@ -227,7 +226,7 @@ impl Driver {
             Effect::Write { address, bytes } => Some((*address, &bytes[..])),
             _ => None,
         });
-        let carried_out = if self.memory.carry_out(writes) { 0 } else { 11 };
+        let carried_out = self.memory.carry_out(writes);
         self.answer(&fields.to_string(), &effects, &data, &format!("out {carried_out}\n"))
     }
 

@@ -2,7 +2,7 @@
 //! request length past 2^32.
 
 use crate::{
-    call::{Call, Kind, Status, Trb, CHAIN, CYCLE, INTERRUPT_ON_COMPLETION, INTERRUPT_ON_SHORT, MAX_WINDOW},
+    call::{Call, Kind, Status, Trb, CHAIN, CYCLE, Region, INTERRUPT_ON_COMPLETION, INTERRUPT_ON_SHORT, MAX_WINDOW},
     model::{Due, Script},
     questions::{MAX_HELD, MAX_TRB_LENGTH},
 };
@@ -215,7 +215,7 @@ fn wrap(_part: usize) -> String {
     let mut script = Script::default();
     let mut length = u64::from(MAX_TRB_LENGTH);
     let mut position = 2;
-    script.call(Call::Window { base: FIRST_BYTE, length: MAX_WINDOW });
+    script.call(Call::Window { low: Region { base: FIRST_BYTE, length: MAX_WINDOW }, high: None });
     script.call(Call::CreateControl { endpoint: ENDPOINT, slot: SLOT, release: None });
     let long = |kind, position: usize| Trb { a: FIRST_BYTE, ..symbol(kind, CHAIN, 0, MAX_TRB_LENGTH).at(position) };
     let start = [symbol(Kind::SetupStage, 0, 0x80, 0).at(0), long(Kind::DataStage, 1)];

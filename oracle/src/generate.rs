@@ -2,7 +2,7 @@
 
 use crate::{
     call::{
-        parse, Call, Kind, Status, Trb, CHAIN, CYCLE, DIRECTION, IMMEDIATE_DATA, INTERRUPT_ON_COMPLETION, INTERRUPT_ON_SHORT,
+        parse, Call, Kind, Region, Status, Trb, CHAIN, CYCLE, DIRECTION, IMMEDIATE_DATA, INTERRUPT_ON_COMPLETION, INTERRUPT_ON_SHORT,
         MAX_COLLECT, MAX_DATA, MAX_LOG, MAX_WINDOW,
     },
     model::{Due, Model, Phase, Script, PHASES},
@@ -24,7 +24,8 @@ const BASES: [u64; 10] = [
     u64::MAX - 0xff,
     u64::MAX,
 ];
-const WINDOW_LENGTHS: [u64; 8] = [0, 1, 8, 512, 0x1_0000, 0x2_0000, MAX_WINDOW - 1, MAX_WINDOW];
+/// Of a region; two of them are not more than both may have.
+const REGION_LENGTHS: [u64; 8] = [0, 1, 8, 512, 0x1_0000, 0x2_0000, MAX_WINDOW / 2 - 1, MAX_WINDOW / 2];
 const REQUEST_LENGTHS: [u32; 8] = [0, 1, 18, 1 << 31, u32::MAX, u32::MAX - 7, u32::MAX - 511, u32::MAX - 131_071];
 const GET_DESCRIPTOR: u64 = 0x0040_0000_0100_0680;
 
@@ -44,7 +45,7 @@ struct Style {
     /// No TRB is longer than this.
     longest: u32,
     at_longest: u64,
-    /// Per thousand calls, how many something else goes before: a cancel, another endpoint, window or block.
+    /// Per thousand calls, how many something else goes before: a cancel, another endpoint, guest memory or block.
     disturbed: u64,
     calls: u64,
 }
@@ -129,13 +130,42 @@ impl Generator {
         }
     }
 
-    fn change_window(&mut self) {
+    fn any_region(&mut self) -> Region {
         let any_base = self.random.number();
         let base = self.random.pick(&BASES);
-        let base = self.random.pick(&[base, base, 0x8000, any_base]);
-        let length = self.random.pick(&WINDOW_LENGTHS);
-        let length = self.random.pick(&[length, MAX_WINDOW, MAX_WINDOW]);
-        self.script.call(Call::Window { base, length });
+        let length = self.random.pick(&REGION_LENGTHS);
+        Region {
+            base: self.random.pick(&[base, base, 0x8000, any_base]),
+            length: self.random.pick(&[length, 0x4_0000, 0x4_0000]),
+        }
+    }
+
+    /// A region that starts where the other one ends, or ends where it starts.
+    fn touching(&mut self, region: Region) -> Region {
+        let length = self.random.pick(&REGION_LENGTHS);
+        let before = region.base.wrapping_sub(length);
+        let behind = region.base.wrapping_add(region.length);
+        Region { base: self.random.pick(&[before, behind]), length }
+    }
+
+    /// One region, or two that share no address.
+    fn change_window(&mut self) {
+        let low = self.any_region();
+        let apart = self.any_region();
+        let touching = self.touching(low);
+        let high = self.random.pick(&[apart, touching, touching]);
+        let two = self.random.percent(70) && !low.shares_an_address(high);
+        self.script.call(Call::Window { low, high: two.then_some(high) });
+    }
+
+    /// One of the regions, and not an empty one if there is another.
+    fn region(&mut self) -> Region {
+        let Script { low, high, .. } = self.script;
+        match (low.length, high.length) {
+            (_, 0) => low,
+            (0, _) => high,
+            _ => self.random.pick(&[low, high]),
+        }
     }
 
     /// Buffers that are too short for submission and completion, but not for cancel, or a collect buffer of any length.
@@ -334,19 +364,20 @@ impl Generator {
 
     fn any_pointer(&mut self) -> u64 {
         let any = self.random.number();
-        let base = self.script.window_base;
-        let end = base.wrapping_add(self.script.window_length);
+        let Region { base, length } = self.region();
+        let end = base.wrapping_add(length);
         self.random.pick(&[any, 0, u64::MAX, base, base.wrapping_sub(1), end, end.wrapping_sub(8)])
     }
 
-    /// A range of the window, shorter than `length` if that does not fit in.
+    /// A range of one region, shorter than `length` if that does not fit in.
     fn place(&mut self, length: u32) -> (u64, u32) {
-        let length = u64::from(length).min(self.script.window_length);
-        let last = (self.script.window_length - length).min(u64::MAX - self.script.window_base);
+        let region = self.region();
+        let length = u64::from(length).min(region.length);
+        let last = (region.length - length).min(u64::MAX - region.base);
         let any = self.random.below(last + 1);
         let close = 64 * self.random.below(1 + last.min(2048) / 64);
         let offset = self.random.pick(&[close, close, close, any, 0, last]);
-        (self.script.window_base + offset, length as u32)
+        (region.base + offset, length as u32)
     }
 
     /// A TRB that the questions let in.
@@ -373,7 +404,7 @@ impl Generator {
         trb
     }
 
-    /// A made-up TRB may point outside the window.
+    /// A made-up TRB may point outside guest memory.
     fn made_up_trb(&mut self, kind: Kind) -> Trb {
         let mut trb = self.trb(kind);
         if kind.has_length() && self.random.percent(70) {

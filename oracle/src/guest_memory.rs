@@ -1,70 +1,97 @@
-//! The window of guest memory, as the device on the endpoints' bus.
+//! Guest memory in two regions, as the device on the endpoints' bus.
 
 use std::sync::Mutex;
 
 use crate::{
+    call::Region,
     device::bus::{BusDevice, Request},
     effects::{Effect, EffectLog},
 };
 
-/// `bytes.len()` bytes from `base`. Addresses are whole numbers: the window may reach past 2^64.
 #[derive(Debug)]
-struct Window {
-    base: u64,
+struct Memory {
+    region: Region,
     bytes: Vec<u8>,
 }
 
-impl Window {
-    fn filled(base: u64, length: usize) -> Self {
-        let byte_at = |offset: usize| base.wrapping_add(offset as u64).wrapping_mul(7).wrapping_add(13) as u8;
-        Self { base, bytes: (0..length).map(byte_at).collect() }
+impl Memory {
+    fn filled(region: Region) -> Self {
+        let byte_at = |offset: u64| region.base.wrapping_add(offset).wrapping_mul(7).wrapping_add(13) as u8;
+        Self { region, bytes: (0..region.length).map(byte_at).collect() }
     }
 
-    /// Where in the window a range starts, if it lies in there.
-    fn offset_of(&self, address: u64, length: usize) -> Option<usize> {
-        let offset = usize::try_from(address.checked_sub(self.base)?).ok()?;
-        (offset.checked_add(length)? <= self.bytes.len()).then_some(offset)
+    /// The bytes of a range, if it lies in here.
+    fn part(&mut self, address: u64, length: usize) -> Option<&mut [u8]> {
+        let offset = usize::try_from(address.checked_sub(self.region.base)?).ok()?;
+        self.bytes.get_mut(offset..offset.checked_add(length)?)
     }
 }
 
-/// Reads are served from the window. Writes are recorded and reach the window by `carry_out` alone.
+#[derive(Debug)]
+struct Memories {
+    low: Memory,
+    high: Memory,
+}
+
+impl Memories {
+    fn filled(low: Region, high: Region) -> Self {
+        Self { low: Memory::filled(low), high: Memory::filled(high) }
+    }
+
+    /// The bytes of a range, of whichever region holds all of it.
+    fn part(&mut self, address: u64, length: usize) -> Option<&mut [u8]> {
+        self.low.part(address, length).or_else(|| self.high.part(address, length))
+    }
+
+    fn share_an_address(&self) -> bool {
+        self.low.region.shares_an_address(self.high.region)
+    }
+}
+
+/// Reads are served from the regions. Writes are recorded and reach them by `carry_out` alone.
 #[derive(Debug)]
 pub struct GuestMemory {
-    window: Mutex<Window>,
+    memories: Mutex<Memories>,
     effects: EffectLog,
 }
 
 impl GuestMemory {
-    pub fn new(base: u64, length: usize, effects: EffectLog) -> Self {
-        Self { window: Mutex::new(Window::filled(base, length)), effects }
+    pub fn new(low: Region, high: Region, effects: EffectLog) -> Self {
+        Self { memories: Mutex::new(Memories::filled(low, high)), effects }
     }
 
-    pub fn fill_anew(&self, base: u64, length: usize) {
-        *self.window.lock().unwrap() = Window::filled(base, length);
+    pub fn fill_anew(&self, low: Region, high: Region) {
+        *self.memories.lock().unwrap() = Memories::filled(low, high);
+    }
+
+    pub fn share_an_address(&self) -> bool {
+        self.memories.lock().unwrap().share_an_address()
     }
 
     pub fn contains(&self, address: u64, length: usize) -> bool {
-        self.window.lock().unwrap().offset_of(address, length).is_some()
+        self.memories.lock().unwrap().part(address, length).is_some()
     }
 
-    /// Performs the writes, or none of them if one of nonzero length lies outside the window. Says whether it did.
-    pub fn carry_out<'a>(&self, writes: impl Iterator<Item = (u64, &'a [u8])> + Clone) -> bool {
-        let mut window = self.window.lock().unwrap();
-        let mut writes = writes.filter(|(_, bytes)| !bytes.is_empty());
-        if !writes.clone().all(|(address, bytes)| window.offset_of(address, bytes.len()).is_some()) {
-            return false;
+    /// Performs the writes, or none of them if the regions share an address or a write of nonzero length lies outside both. The
+    /// number of the question answered with no, or 0.
+    pub fn carry_out<'a>(&self, writes: impl Iterator<Item = (u64, &'a [u8])> + Clone) -> u8 {
+        let mut memories = self.memories.lock().unwrap();
+        let writes = writes.filter(|(_, bytes)| !bytes.is_empty());
+        if memories.share_an_address() {
+            return 13;
         }
-        writes.all(|(address, bytes)| {
-            let offset = window.offset_of(address, bytes.len()).unwrap();
-            window.bytes[offset..offset + bytes.len()].copy_from_slice(bytes);
-            true
-        })
+        if !writes.clone().all(|(address, bytes)| memories.part(address, bytes.len()).is_some()) {
+            return 11;
+        }
+        writes.for_each(|(address, bytes)| memories.part(address, bytes.len()).unwrap().copy_from_slice(bytes));
+        0
     }
 }
 
 impl BusDevice for GuestMemory {
     fn size(&self) -> u64 {
-        self.window.lock().unwrap().bytes.len() as u64
+        let memories = self.memories.lock().unwrap();
+        memories.low.region.length + memories.high.region.length
     }
 
     fn read(&self, _req: Request) -> u64 {
@@ -79,9 +106,9 @@ impl BusDevice for GuestMemory {
         if data.is_empty() {
             return;
         }
-        let window = self.window.lock().unwrap();
-        let offset = window.offset_of(address, data.len()).expect("question 6 keeps reads in the window");
-        data.copy_from_slice(&window.bytes[offset..offset + data.len()]);
+        let mut memories = self.memories.lock().unwrap();
+        let part = memories.part(address, data.len()).expect("question 6 keeps reads in a region");
+        data.copy_from_slice(part);
     }
 
     fn write_bulk(&self, address: u64, data: &[u8]) {

@@ -2,7 +2,7 @@
 //! the control phase, the direction and the bytes collected.
 
 use crate::{
-    call::{Call, Kind, Trb, CHAIN, IMMEDIATE_DATA, MAX_WINDOW},
+    call::{Call, Kind, Region, Trb, CHAIN, FIRST_REGION, IMMEDIATE_DATA},
     questions::{MAX_COLLECTED, MAX_HELD},
 };
 
@@ -168,8 +168,8 @@ pub struct Script {
     /// Calls that print an answer.
     pub answered: usize,
     pub model: Option<Model>,
-    pub window_base: u64,
-    pub window_length: u64,
+    pub low: Region,
+    pub high: Region,
     pub collect: u64,
 }
 
@@ -179,8 +179,8 @@ impl Default for Script {
             text: String::new(),
             answered: 0,
             model: None,
-            window_base: 0x8000,
-            window_length: MAX_WINDOW,
+            low: FIRST_REGION,
+            high: Region::NONE,
             collect: 0xffff,
         }
     }
@@ -191,7 +191,7 @@ impl Script {
         self.text.push_str(&format!("{call}\n"));
         self.answered += usize::from(call.is_answered());
         match call {
-            Call::Window { base, length } => (self.window_base, self.window_length) = (base, length),
+            Call::Window { low, high } => (self.low, self.high) = (low, high.unwrap_or(Region::NONE)),
             Call::Buffers { collect, .. } => self.collect = collect,
             Call::CreateIn { .. } => self.model = Some(Model::new_in()),
             Call::CreateControl { .. } => self.model = Some(Model::new_control()),

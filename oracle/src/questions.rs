@@ -1,4 +1,4 @@
-//! The questions of document 01, asked of the Rust's own state, as the Rust itself refuses nothing.
+//! The questions of documents 01 and 02, asked of the Rust's own state, as the Rust itself refuses nothing.
 //! Each function gives the number of the first question whose answer is no.
 
 use crate::{
@@ -100,6 +100,7 @@ pub fn of_submission(endpoint: &mut Endpoint, trb: &Trb, buffers: Buffers, memor
     });
     first_no(&[
         (1, buffers.log >= MIN_LOG && (!is_control || buffers.collect >= MIN_COLLECT)),
+        (13, !memory.share_an_address()),
         (2, is_sound(endpoint)),
         (3, submission_is_due(endpoint)),
         (4, trb.length <= MAX_TRB_LENGTH),

@@ -3,7 +3,7 @@
 use std::collections::BTreeSet;
 
 use oracle::{
-    call::{parse, Call},
+    call::{parse, Call, Region, FIRST_REGION},
     driver::run,
     exhaustive::FAMILIES,
     generate::script,
@@ -28,17 +28,35 @@ fn first_and_last_parts_are_accepted() {
     }
 }
 
+/// The regions that the writes of a log are in.
+fn regions_written(text: &str, low: Region, high: Region) -> BTreeSet<&'static str> {
+    let touch = low.end() == u128::from(high.base) || high.end() == u128::from(low.base);
+    let holds = |region: Region, address: u64| u128::from(address) < region.end() && address >= region.base;
+    let addresses = text.lines().filter_map(|line| {
+        let fields: Vec<&str> = line.split(' ').collect();
+        (fields[0] == "1" && fields[6] != "0").then(|| u64::from_str_radix(fields[5], 16).unwrap())
+    });
+    addresses
+        .map(|address| match (holds(low, address), touch && low.length != 0 && high.length != 0) {
+            (true, false) => "low",
+            (true, true) => "low, touching,",
+            (false, false) => "high",
+            (false, true) => "high, touching,",
+        })
+        .collect()
+}
+
 /// What a script's calls meet, as short texts.
 fn seen(script: &str) -> BTreeSet<String> {
     let mut seen = BTreeSet::new();
     let mut answers = run(script.as_bytes()).answers.into_iter();
     let mut before = vec![];
-    let mut window_end = 0;
+    let (mut low, mut high) = (FIRST_REGION, Region::NONE);
     let mut request_length = 0;
     for line in script.lines() {
         let call = parse(line).unwrap();
-        if let Call::Window { base, length } = call {
-            window_end = u128::from(base) + u128::from(length);
+        if let Call::Window { low: lower, high: higher } = call {
+            (low, high) = (lower, higher.unwrap_or(Region::NONE));
         }
         if let Call::MakeUpControl { length, .. } = call {
             request_length = length;
@@ -81,8 +99,13 @@ fn seen(script: &str) -> BTreeSet<String> {
         if text.contains("\nout 11\n") {
             seen.insert(format!("{} out 11", state[1]));
         }
-        if text.contains("\n1 ") && text.contains("\nout 0\n") && window_end > 1 << 64 {
-            seen.insert("write in a window past 2^64".to_string());
+        if text.contains("\nout 0\n") {
+            for region in regions_written(&text, low, high) {
+                seen.insert(format!("write in the {region} region"));
+            }
+            if text.contains("\n1 ") && low.end().max(high.end()) > 1 << 64 {
+                seen.insert("write with a region past 2^64".to_string());
+            }
         }
         if state[1] == "control" {
             if state[7] == "65535" {
@@ -119,8 +142,8 @@ fn random_scripts_reach_every_case() {
     let control_due = ["submit", "collecting", "parser", "unexpected", "request"];
     wanted.extend(control_due.map(|due| format!("control cancel in {due}")));
     wanted.extend(["in collecting full", "in real full", "control request full"].map(str::to_string));
-    wanted
-        .extend(["in out 11", "control out 11", "collected 65535", "write in a window past 2^64"].map(str::to_string));
+    wanted.extend(["in out 11", "control out 11", "collected 65535", "write with a region past 2^64"].map(str::to_string));
+    wanted.extend(["low", "high", "low, touching,", "high, touching,"].map(|region| format!("write in the {region} region")));
     wanted.push("request length past 2^32".to_string());
     let missing: Vec<_> = wanted.iter().filter(|case| !seen.contains(*case)).collect();
     assert!(missing.is_empty(), "never reached: {missing:?}");

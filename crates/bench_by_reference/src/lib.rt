@@ -97,6 +97,7 @@ fn sum_with_completion(sum: u64, completed: CompletionOutcome) -> u64 {
 }
 
 // `repeats` TDs of `trbs` Normals, as `bench_calls_in_by_value` has them, over one block that is lent to each call.
+// Both regions are the bytes of `window`, of which a submission reads the length alone.
 #[no_mangle]
 pub extern "C" fn bench_calls_in_by_reference(
     log: &mut [u8],
@@ -116,7 +117,15 @@ pub extern "C" fn bench_calls_in_by_reference(
     let mut k: u64 = 0;
     while k < turns {
         let t = trb_of(work, next);
-        let submitted = by_reference::in_submit_trb(log, &mut block, t, 0, window);
+        let submitted = by_reference::in_submit_trb(
+            log,
+            &mut block,
+            t,
+            0,
+            window,
+            bench_work::HIGH_BASE,
+            window,
+        );
         sum = sum_with_submission(sum, submitted);
         if is_cancelled(work, next) {
             by_reference::in_cancel(&mut block);

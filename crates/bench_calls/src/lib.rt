@@ -15,6 +15,7 @@ use trb::TransferTrbVariant;
 
 // `repeats` TDs of `trbs` Normals, whose buffers lie end to end from the window's start: each TRB is submitted and its completion asked for, the last one's with the device's result;
 // where the TD is not to complete, it is cancelled in the place of its last completion.
+// Both regions are the bytes of `window`: a submission that collects nothing reads their lengths alone.
 #[no_mangle]
 pub extern "C" fn bench_calls_in_by_value(
     log: &mut [u8],
@@ -38,7 +39,15 @@ pub extern "C" fn bench_calls_in_by_value(
             let ends = next == trbs;
             let t = bench_work::normal_at(i, pointer, transfer_length, !ends);
             pointer = std::num::wrapping_add_u64(pointer, transfer_length as u64);
-            let submitted = in_endpoint::submit_trb(log, block, t, 0, window);
+            let submitted = in_endpoint::submit_trb(
+                log,
+                block,
+                t,
+                0,
+                window,
+                bench_work::HIGH_BASE,
+                window,
+            );
             let answer = submitted.answer;
             sum = std::num::wrapping_add_u64(sum, bench_work::sum_of(answer, submitted.records));
             block = submitted.block;
@@ -136,7 +145,16 @@ pub extern "C" fn bench_calls_control(
         let mut i = 0;
         while i < 3 {
             let t = stage_at(i, transfer_length);
-            let submitted = control_endpoint::submit_trb(log, collect, block, t, 0, window);
+            let submitted = control_endpoint::submit_trb(
+                log,
+                collect,
+                block,
+                t,
+                0,
+                window,
+                bench_work::HIGH_BASE,
+                window,
+            );
             let answer = submitted.answer;
             sum = std::num::wrapping_add_u64(sum, bench_work::sum_of(answer, submitted.records));
             block = submitted.block;
@@ -157,19 +175,21 @@ pub extern "C" fn bench_calls_control(
 
 // ---- Carry-out
 
-// Carries out a log `repeats` times; how often it was accepted.
+// Carries out a log on two regions `repeats` times; how often it was accepted.
 #[no_mangle]
 pub extern "C" fn bench_calls_carry_out(
     log: &[u8],
     data: &[u8],
-    base: u64,
-    memory: &mut [u8],
+    low_base: u64,
+    low: &mut [u8],
+    high_base: u64,
+    high: &mut [u8],
     repeats: u32,
 ) -> u64 {
     let mut sum = 0;
     let mut k = 0;
     while k < repeats {
-        let answer = carry_out::carry_out(log, data, base, memory);
+        let answer = carry_out::carry_out(log, data, low_base, low, high_base, high);
         sum = std::num::wrapping_add_u64(sum, bench_work::sum_of(answer, 1));
         k += 1;
     }

@@ -18,6 +18,9 @@ pub const FIRST_TRB: u64 = 4096;
 
 pub const TRB_BYTES: u64 = 16;
 
+// Where the high region of guest memory starts: behind the 4 GiB hole.
+pub const HIGH_BASE: u64 = 0x100000000;
+
 // ---- The checksum
 
 pub fn sum_of(answer: Answer, records: usize) -> u64 {

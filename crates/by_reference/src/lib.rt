@@ -9,6 +9,8 @@ use trb::TransferTrb;
 ghost use mathlib.Core.Path.{_≡_};
 ghost use lib.ListN.{length};
 ghost use Rattle.log.specs.Calls.{Meets};
+ghost use Rattle.guest_memory.specs.Regions.{guestRegions};
+ghost use Rattle.guest_memory.specs.Places.{memoryOf};
 ghost use Rattle.in_endpoint.specs.Creation.{cancelled};
 ghost use Rattle.in_endpoint.specs.Submission.{Submits as SubmitsIn};
 ghost use Rattle.in_endpoint.specs.Completion.{Completes as CompletesIn};
@@ -32,12 +34,14 @@ pub fn in_submit_trb(
     log: &mut [u8],
     block: &mut InBlock,
     t: TransferTrb,
-    window_base: u64,
-    window: &[u8],
+    low_base: u64,
+    low: &[u8],
+    high_base: u64,
+    high: &[u8],
 ) -> SubmissionOutcome
-    ensures { λ r. ⌜ SubmitsIn (now (block .entry)) t «window_base» (length (now (window .entry))) (now (log .entry)) (submittedIn r (now (block .exit))) (now (log .exit)) ⌝ }
+    ensures { λ r. ⌜ SubmitsIn (now (block .entry)) t (guestRegions «low_base» (length (now (low .entry))) «high_base» (length (now (high .entry)))) (now (log .entry)) (submittedIn r (now (block .exit))) (now (log .exit)) ⌝ }
 {
-    let r = in_endpoint::submit_trb(log, *block, t, window_base, window);
+    let r = in_endpoint::submit_trb(log, *block, t, low_base, low, high_base, high);
     *block = r.block;
     SubmissionOutcome {
         answer: r.answer,
@@ -69,17 +73,19 @@ pub fn in_cancel(block: &mut InBlock)
 
 // ---- Control endpoint
 
-pub fn control_submit_trb(
+pub fn control_submit_trb<'a>(
     log: &mut [u8],
     collect: &mut [u8],
     block: &mut ControlBlock,
     t: TransferTrb,
-    window_base: u64,
-    window: &[u8],
+    low_base: u64,
+    low: &'a [u8],
+    high_base: u64,
+    high: &'a [u8],
 ) -> SubmissionOutcome
-    ensures { λ r. ⌜ SubmitsControl (now (block .entry)) t «window_base» (now (window .entry)) (now (log .entry)) (now (collect .entry)) (submittedControl r (now (block .exit))) (now (log .exit)) (now (collect .exit)) ⌝ }
+    ensures { λ r. ⌜ SubmitsControl (now (block .entry)) t (memoryOf «low_base» (now (low .entry)) «high_base» (now (high .entry))) (now (log .entry)) (now (collect .entry)) (submittedControl r (now (block .exit))) (now (log .exit)) (now (collect .exit)) ⌝ }
 {
-    let r = control_endpoint::submit_trb(log, collect, *block, t, window_base, window);
+    let r = control_endpoint::submit_trb(log, collect, *block, t, low_base, low, high_base, high);
     *block = r.block;
     SubmissionOutcome {
         answer: r.answer,

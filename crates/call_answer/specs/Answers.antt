@@ -11,6 +11,7 @@ use Rattle.trb.specs.declared.Answer.the-variants.{Accepted, Refused as Refused
 use Rattle.trb.specs.declared.CompletionAnswer.{CompletionAnswer}
 use Rattle.trb.specs.declared.CompletionAnswer.the-variants.{Completed, Refused}
 use Rattle.numerals.specs.Written.{Written}
+use Rattle.guest_memory.specs.Places.{Memory, regionsOf}
 use Rattle.carry_out.specs.CarryOut.{answerOf, memoryAfter}
 use Rattle.call_text.specs.Widths.{maxFirst, maxRecordLines, maxCarriedOut}
 use Rattle.call_text.specs.Lines.{refusedLine, acceptedLine, completedLine, carriedOutLine, countOf, recordLines}
@@ -21,8 +22,8 @@ answerText Accepted n log = acceptedLine (countOf n) ++ recordLines n log
 answerText (RefusedCall q) n log = refusedLine (refusalNumber q)
 
 -- what carry-out answers of the first n records of the log
-abbrev pub carriedOut : ℕ → List ℕ → List ℕ → ℕ → List ℕ → Answer
-carriedOut n log bytes base memory = answerOf (take (recordLength * n) log) (length bytes) base (length memory)
+abbrev pub carriedOut : ℕ → List ℕ → List ℕ → Memory → Answer
+carriedOut n log bytes m = answerOf (take (recordLength * n) log) (length bytes) (regionsOf m)
 
 -- a completion, with n records in the log and carry-out's answer
 unfoldable pub completionText : CompletionAnswer → ℕ → List ℕ → Answer → List ℕ
@@ -30,16 +31,16 @@ completionText (Completed r) n log carried = completedLine (countOf n) r ++ reco
 completionText (Refused q) n log carried = refusedLine (refusalNumber q)
 
 -- guest memory afterwards: a completion that is accepted is carried out
-unfoldable pub completionMemory : CompletionAnswer → ℕ → List ℕ → List ℕ → ℕ → List ℕ → List ℕ
-completionMemory (Completed r) n log bytes base memory = memoryAfter (carriedOut n log bytes base memory) (take (recordLength * n) log) bytes base memory
-completionMemory (Refused q) n log bytes base memory = memory
+unfoldable pub completionMemory : CompletionAnswer → ℕ → List ℕ → List ℕ → Memory → Memory
+completionMemory (Completed r) n log bytes m = memoryAfter (carriedOut n log bytes m) (take (recordLength * n) log) bytes m
+completionMemory (Refused q) n log bytes m = m
 
 -- of carrying out the first n records, with carry-out's line written into the text t at index at
-pub record CarriedOut (n : ℕ) (log bytes : List ℕ) (base : ℕ) (memory t : List ℕ) (at r : ℕ) (t' memory' : List ℕ) : Type 0 where
-  pub text : Written maxCarriedOut t at (carriedOutLine (numberOf (carriedOut n log bytes base memory))) r t'
-  pub after : memory' ≡ memoryAfter (carriedOut n log bytes base memory) (take (recordLength * n) log) bytes base memory
+pub record CarriedOut (n : ℕ) (log bytes : List ℕ) (m : Memory) (t : List ℕ) (at r : ℕ) (t' : List ℕ) (m' : Memory) : Type 0 where
+  pub text : Written maxCarriedOut t at (carriedOutLine (numberOf (carriedOut n log bytes m))) r t'
+  pub after : m' ≡ memoryAfter (carriedOut n log bytes m) (take (recordLength * n) log) bytes m
 
--- of a completion's answer that was written into the text t at index at: the text became t', r is the index behind, guest memory became memory'
-pub record Answered (a : CompletionAnswer) (n : ℕ) (log bytes : List ℕ) (base : ℕ) (memory t : List ℕ) (at r : ℕ) (t' memory' : List ℕ) : Type 0 where
-  pub text : Written (maxFirst + maxRecordLines + maxCarriedOut) t at (completionText a n log (carriedOut n log bytes base memory)) r t'
-  pub after : memory' ≡ completionMemory a n log bytes base memory
+-- of a completion's answer that was written into the text t at index at: the text became t', r is the index behind, guest memory became m'
+pub record Answered (a : CompletionAnswer) (n : ℕ) (log bytes : List ℕ) (m : Memory) (t : List ℕ) (at r : ℕ) (t' : List ℕ) (m' : Memory) : Type 0 where
+  pub text : Written (maxFirst + maxRecordLines + maxCarriedOut) t at (completionText a n log (carriedOut n log bytes m)) r t'
+  pub after : m' ≡ completionMemory a n log bytes m

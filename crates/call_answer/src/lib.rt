@@ -6,6 +6,7 @@ ghost use Prim.Native.Nat.{_+_, _≤_};
 ghost use lib.ListN.{length};
 ghost use Rattle.trb.specs.Answers.{numberOf};
 ghost use Rattle.trb.specs.Limits.{minLog};
+ghost use Rattle.guest_memory.specs.Places.{memoryOf};
 ghost use Rattle.numerals.specs.Written.{Written};
 ghost use Rattle.call_text.specs.Widths.{maxFirst, maxRecordLines, maxCarriedOut};
 ghost use Rattle.call_text.specs.Lines.{recordLines};
@@ -53,14 +54,16 @@ fn put_carry_out(
     records: usize,
     log: &[u8],
     data: &[u8],
-    base: u64,
-    window: &mut [u8],
+    low_base: u64,
+    low: &mut [u8],
+    high_base: u64,
+    high: &mut [u8],
 ) -> usize
     requires { ⌜ at + maxCarriedOut ≤ length (now text) ⌝ }
-    ensures { λ r. ⌜ CarriedOut records (now (log .entry)) (now («data» .entry)) base (now (window .entry)) (now (text .entry)) at r (now (text .exit)) (now (window .exit)) ⌝ }
+    ensures { λ r. ⌜ CarriedOut records (now (log .entry)) (now («data» .entry)) (memoryOf «low_base» (now (low .entry)) «high_base» (now (high .entry))) (now (text .entry)) at r (now (text .exit)) (memoryOf «low_base» (now (low .exit)) «high_base» (now (high .exit))) ⌝ }
 {
     let shown = call_text::first_records(log, records);
-    let answer = carry_out::carry_out(shown, data, base, window);
+    let answer = carry_out::carry_out(shown, data, low_base, low, high_base, high);
     call_text::put_carried_out(text, at, answer_number(answer))
 }
 
@@ -72,18 +75,30 @@ pub fn put_completion(
     records: usize,
     log: &[u8],
     data: &[u8],
-    base: u64,
-    window: &mut [u8],
+    low_base: u64,
+    low: &mut [u8],
+    high_base: u64,
+    high: &mut [u8],
 ) -> usize
     requires { ⌜ at + (maxFirst + maxRecordLines + maxCarriedOut) ≤ length (now text) ⌝ }
     requires { ⌜ length (now log) ≤ minLog ⌝ }
-    ensures { λ r. ⌜ Answered answer records (now (log .entry)) (now («data» .entry)) base (now (window .entry)) (now (text .entry)) at r (now (text .exit)) (now (window .exit)) ⌝ }
+    ensures { λ r. ⌜ Answered answer records (now (log .entry)) (now («data» .entry)) (memoryOf «low_base» (now (low .entry)) «high_base» (now (high .entry))) (now (text .entry)) at r (now (text .exit)) (memoryOf «low_base» (now (low .exit)) «high_base» (now (high .exit))) ⌝ }
 {
     match answer {
         CompletionAnswer::Completed(result) => {
             let next = call_text::put_completed(text, at, call_text::count(records), result);
             let end = put_first_records(text, next, records, log);
-            put_carry_out(text, end, records, log, data, base, window)
+            put_carry_out(
+                text,
+                end,
+                records,
+                log,
+                data,
+                low_base,
+                low,
+                high_base,
+                high,
+            )
         }
         CompletionAnswer::Refused(refusal) => call_text::put_refused(
             text,

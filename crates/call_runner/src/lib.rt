@@ -40,7 +40,8 @@ fn run_line(
     log: &mut [u8],
     collect: &mut [u8],
     data: &[u8],
-    window: &mut [u8],
+    low: &mut [u8],
+    high: &mut [u8],
 ) -> Progress
     requires { ⌜ maxAnswer ≤ length (now text) ⌝ }
     requires { ⌜ length (now log) ≤ minLog ⌝ }
@@ -48,7 +49,7 @@ fn run_line(
     let before = progress.session;
     let at = script_lines::make_room(text, progress.end, state_text::MAX_ANSWER);
     let call = call_script::read_call(line);
-    let ran = session::run_call(text, at, before, call, log, collect, data, window);
+    let ran = session::run_call(text, at, before, call, log, collect, data, low, high);
     let after = ran.session;
     Progress {
         session: after,
@@ -90,7 +91,8 @@ fn run_step(
     log: &mut [u8],
     collect: &mut [u8],
     data: &[u8],
-    window: &mut [u8],
+    low: &mut [u8],
+    high: &mut [u8],
 ) -> Progress
     requires { ⌜ maxAnswer ≤ length (now text) ⌝ }
     requires { ⌜ length (now log) ≤ minLog ⌝ }
@@ -107,7 +109,8 @@ fn run_step(
             log,
             collect,
             data,
-            window,
+            low,
+            high,
         ),
         Found::Piece => progress,
         Found::End => ended(progress),
@@ -122,7 +125,8 @@ fn run_input(
     log: &mut [u8],
     collect: &mut [u8],
     data: &[u8],
-    window: &mut [u8],
+    low: &mut [u8],
+    high: &mut [u8],
 ) -> Progress
     requires { ⌜ maxAnswer ≤ length (now text) ⌝ }
     requires { ⌜ length (now log) ≤ minLog ⌝ }
@@ -133,7 +137,7 @@ fn run_input(
     let mut turns = u64::MAX;
     while 0 < turns {
         let step = script_lines::next_line(input, from, filled);
-        progress = run_step(text, progress, input, step, log, collect, data, window);
+        progress = run_step(text, progress, input, step, log, collect, data, low, high);
         from = step.next;
         filled = step.filled;
         turns = script_lines::turns_left(turns, progress.more);
@@ -164,7 +168,8 @@ fn collect_buffer() -> [u8; call_script::MAX_LENT_COLLECT]
     [0u8; call_script::MAX_LENT_COLLECT]
 }
 
-fn window_buffer() -> [u8; call_script::MAX_WINDOW]
+// Either region may have all of guest memory.
+fn region_buffer() -> [u8; call_script::MAX_WINDOW]
     ensures { λ r. ⌜ length r ≡ maxWindow ⌝ }
 {
     [0u8; call_script::MAX_WINDOW]
@@ -182,17 +187,19 @@ pub fn run() {
     let mut text = text_buffer();
     let mut log = log_buffer();
     let mut collect = collect_buffer();
-    let mut window = window_buffer();
+    let mut low = region_buffer();
+    let mut high = region_buffer();
     let mut data = data_buffer();
     script_bytes::fill_device(&mut data);
-    script_bytes::fill_guest(&mut window, session::FIRST_BASE);
+    script_bytes::fill_guest(&mut low, session::FIRST_BASE);
     let progress = run_input(
         &mut text,
         &mut input,
         &mut log,
         &mut collect,
         &data,
-        &mut window,
+        &mut low,
+        &mut high,
     );
     script_lines::finish(&text, progress.end, progress.lines, progress.good);
 }

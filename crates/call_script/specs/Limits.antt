@@ -1,13 +1,13 @@
 -- The limits of a call script. `script_limits` in src/lib.rt proves that the code's constants are these. Assumes nothing.
-use Prim.Native.Nat.{ℕ, _≤_}
+use Prim.Native.Nat.{ℕ, _+_, _≤_}
 use Rattle.trb.specs.Limits.{minLog}
 use Rattle.call_script.specs.declared.ScriptLimits.{ScriptLimits}
 use Rattle.call_script.specs.declared.Call.{Call}
 use Rattle.call_script.specs.declared.Call.the-variants.{Window, Buffers, CreateIn, CreateControl, Submit, CompleteWithResult, CompleteWithout, Cancel, Hold, MakeUpIn, MakeUpControl, Bad}
 
--- bytes of the guest window
+-- bytes of guest memory, both regions together
 abbrev pub maxWindow : ℕ
-maxWindow = 0x40000
+maxWindow = 0x140000
 
 -- bytes of the lent log: as many as a call may ask for
 abbrev pub maxLentLog : ℕ
@@ -17,16 +17,16 @@ maxLentLog = minLog
 abbrev pub maxLentCollect : ℕ
 maxLentCollect = 0x10000
 
--- bytes of the device's data
+-- bytes of the device's data: as many as guest memory can have
 abbrev pub maxScriptData : ℕ
-maxScriptData = 0x100000
+maxScriptData = maxWindow
 
 abbrev pub scriptLimits : ScriptLimits
 scriptLimits = record { window = maxWindow; log = maxLentLog; collect = maxLentCollect; «script_data» = maxScriptData }
 
 -- a good line keeps the limits; the other numbers are as wide as their types
 abbrev pub WithinLimits : Call → Type 0
-WithinLimits (Window base size) = size ≤ maxWindow
+WithinLimits (Window lowBase lowLength highBase highLength) = lowLength + highLength ≤ maxWindow
 WithinLimits (Buffers log collect) = (log ≤ maxLentLog) × (collect ≤ maxLentCollect)
 WithinLimits (CompleteWithResult status n) = n ≤ maxScriptData
 WithinLimits (CompleteWithout n) = n ≤ maxScriptData

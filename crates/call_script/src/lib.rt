@@ -23,8 +23,8 @@ ghost use Rattle.call_script.specs.Limits.{scriptLimits, WithinLimits};
 
 // ---- Limits: each has this name here and one in specs/Limits.antt; `script_limits` ties the two.
 
-// Bytes of the guest window.
-pub const MAX_WINDOW: usize = 0x40000;
+// Bytes of guest memory, both regions together.
+pub const MAX_WINDOW: usize = 0x140000;
 
 // Bytes of the lent log: as many as a call may ask for.
 pub const MAX_LENT_LOG: usize = trb::MIN_LOG;
@@ -32,8 +32,8 @@ pub const MAX_LENT_LOG: usize = trb::MIN_LOG;
 // Bytes of the lent collect buffer.
 pub const MAX_LENT_COLLECT: usize = 0x10000;
 
-// Bytes of device data.
-pub const MAX_SCRIPT_DATA: usize = 0x100000;
+// Bytes of device data: as many as guest memory can have.
+pub const MAX_SCRIPT_DATA: usize = MAX_WINDOW;
 
 pub struct ScriptLimits {
     pub window: usize,
@@ -80,7 +80,7 @@ pub enum DeviceStatus {
 }
 
 pub enum Call {
-    Window(u64, usize),
+    Window(u64, usize, u64, usize),
     Buffers(usize, usize),
     CreateIn(EndpointId, SlotId, InMode),
     CreateControl(EndpointId, SlotId, GuestRelease),
@@ -410,18 +410,35 @@ fn trb_fields(fields: Fields) -> TrbFields {
 
 // ---- Calls of each letter
 
+// Two regions of these bases and lengths.
+fn window_of(low_base: u64, low_length: usize, high_base: u64, high_length: usize) -> Call
+    ensures { λ r. ⌜ WithinLimits r ⌝ }
+{
+    if MAX_WINDOW < low_length {
+        return Call::Bad;
+    }
+    if MAX_WINDOW - low_length < high_length {
+        return Call::Bad;
+    }
+    Call::Window(low_base, low_length, high_base, high_length)
+}
+
+// A line that names one region leaves the other empty, at 0.
 fn window(fields: Fields) -> Call
     ensures { λ r. ⌜ WithinLimits r ⌝ }
 {
     let numbers = fields.numbers;
-    let length = numbers[1];
-    if fields.count != 2 {
-        return Call::Bad;
+    let count = fields.count;
+    match count {
+        2 => window_of(numbers[0], numbers[1] as usize, 0, 0),
+        4 => window_of(
+            numbers[0],
+            numbers[1] as usize,
+            numbers[2],
+            numbers[3] as usize,
+        ),
+        _ => Call::Bad,
     }
-    if MAX_WINDOW < length as usize {
-        return Call::Bad;
-    }
-    Call::Window(numbers[0], length as usize)
 }
 
 fn buffers(fields: Fields) -> Call

@@ -16,6 +16,9 @@ use Rattle.trb.specs.declared.Refusal.the-variants.{WriteOutOfRange}
 use Rattle.log.specs.declared.Record.{Record}
 use Rattle.log.specs.Logs.{encodeAll, logged, recordsIn, AllFit}
 use Rattle.log.proofs.LogLaws.{length-encodeAll, recordsIn-encodeAll}
+use Rattle.guest_memory.specs.declared.Regions.{Regions}
+use Rattle.guest_memory.specs.Regions.{shareAnAddress}
+use Rattle.guest_memory.specs.Places.{Memory}
 use Rattle.log_check.specs.WellFormed.{kindsKnown, wellFormed}
 use Rattle.carry_out.specs.Writes.{recordsOf, writesInRange, written}
 use Rattle.carry_out.specs.CarryOut.{answerOf, memoryAfter}
@@ -39,16 +42,16 @@ module _ (rs : List Record) (fits : AllFit rs) where
       let whole : length (encodeAll rs) % recordLength ≡ 0 = omega (arith, length-encodeAll rs) in
       rw (eq-eqb _ _ whole, recordsOf-encodeAll)
 
-  -- of known kinds: only question 11 is left
-  pub answerOf-encodeAll : (n base size : ℕ) → kindsKnown rs ≡ true
-      → answerOf (encodeAll rs) n base size ≡ cond (writesInRange n base size rs) Accepted (Refused WriteOutOfRange)
+  -- of known kinds, on regions that share no address: only question 11 is left
+  pub answerOf-encodeAll : (n : ℕ) (regions : Regions) → shareAnAddress regions ≡ false → kindsKnown rs ≡ true
+      → answerOf (encodeAll rs) n regions ≡ cond (writesInRange n regions rs) Accepted (Refused WriteOutOfRange)
   unfolding firstNo refusalOf
-  answerOf-encodeAll n base size known = rw (wellFormed-encodeAll, known, recordsOf-encodeAll) (by-range (writesInRange n base size rs))
+  answerOf-encodeAll n regions apart known = rw (apart, wellFormed-encodeAll, known, recordsOf-encodeAll) (by-range (writesInRange n regions rs))
     where
-      by-range : (b : Bool) → afterQuestions ((true, 10) ∷ (b, 11) ∷ []) (λ k. Refused (refusalOf k)) Accepted ≡ cond b Accepted (Refused WriteOutOfRange)
+      by-range : (b : Bool) → afterQuestions ((true, 13) ∷ (true, 10) ∷ (b, 11) ∷ []) (λ k. Refused (refusalOf k)) Accepted ≡ cond b Accepted (Refused WriteOutOfRange)
       by-range true = refl
       by-range false = refl
 
   -- accepted: the records are carried out
-  pub memoryAfter-encodeAll : (bytes : List ℕ) (base : ℕ) (memory : List ℕ) → memoryAfter Accepted (encodeAll rs) bytes base memory ≡ written bytes base memory rs
-  memoryAfter-encodeAll bytes base memory = ap (written bytes base memory) recordsOf-encodeAll
+  pub memoryAfter-encodeAll : (bytes : List ℕ) (m : Memory) → memoryAfter Accepted (encodeAll rs) bytes m ≡ written bytes m rs
+  memoryAfter-encodeAll bytes m = ap (written bytes m) recordsOf-encodeAll

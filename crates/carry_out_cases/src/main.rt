@@ -1,5 +1,5 @@
 // Carries out logs on 16 bytes of guest memory, all dots, with the eight device bytes a to h. A line has a log's name, the
-// answer and the memory afterwards.
+// answer and the memory afterwards: the bytes of one region, or of two with a space between them.
 use libc::STDOUT_FILENO;
 use log::Record;
 use trb::Answer;
@@ -26,14 +26,34 @@ fn print_answer(answer: Answer) {
     }
 }
 
-// A log, carried out with guest memory at `base`.
+// A log, carried out with guest memory in one region, at `base`.
 fn case(name: &[u8], base: u64, log: &[u8]) {
     let mut memory = [b'.'; 16];
-    let answer = carry_out::carry_out(log, b"abcdefgh", base, &mut memory);
+    let mut none = [b'.'; 1];
+    let answer = carry_out::carry_out(log, b"abcdefgh", base, &mut memory, 0, &mut none[..0]);
     print(name);
     print(b": ");
     print_answer(answer);
     print(&memory);
+    print(b"\n");
+}
+
+// A log, carried out with guest memory in two regions.
+fn case_in_two(
+    name: &[u8],
+    log: &[u8],
+    low_base: u64,
+    low: &mut [u8],
+    high_base: u64,
+    high: &mut [u8],
+) {
+    let answer = carry_out::carry_out(log, b"abcdefgh", low_base, low, high_base, high);
+    print(name);
+    print(b": ");
+    print_answer(answer);
+    print(low);
+    print(b" ");
+    print(high);
     print(b"\n");
 }
 
@@ -150,7 +170,7 @@ fn order() {
     free_bytes();
 }
 
-// The window's base is 2^64 - 16, then 2^64 - 8.
+// The region's base is 2^64 - 16, then 2^64 - 8.
 fn windows() {
     one(
         b"up to 2^64, where the window ends",
@@ -182,8 +202,48 @@ fn windows() {
     );
 }
 
+// A log, carried out in two regions of 8 bytes.
+fn log_in_two(name: &[u8], low_base: u64, high_base: u64, log: &[u8]) {
+    let mut low = [b'.'; 8];
+    let mut high = [b'.'; 8];
+    case_in_two(name, log, low_base, &mut low, high_base, &mut high);
+}
+
+// A log of one write, likewise.
+fn one_in_two(name: &[u8], low_base: u64, high_base: u64, address: u64, length: u32) {
+    let mut log = [0u8; 32];
+    log::put_record(&mut log, 0, write(address, length, 0));
+    log_in_two(name, low_base, high_base, &log);
+}
+
+// An empty log, with the high region empty.
+fn high_empty(name: &[u8], low_base: u64, high_base: u64) {
+    let mut low = [b'.'; 8];
+    let mut high = [b'.'; 1];
+    case_in_two(name, b"", low_base, &mut low, high_base, &mut high[..0]);
+}
+
+// Below and above the 4 GiB hole, and without one.
+fn regions() {
+    let none = [0u8; 33];
+    one_in_two(b"in the low region", BASE, 0x1_0000_0000, 0x8002, 4);
+    one_in_two(b"in the high region", BASE, 0x1_0000_0000, 0x1_0000_0002, 4);
+    one_in_two(b"in the hole", BASE, 0x1_0000_0000, 0x8008, 1);
+    one_in_two(b"across regions that touch", BASE, 0x8008, 0x8006, 4);
+    one_in_two(b"up to where they touch", BASE, 0x8008, 0x8004, 4);
+    one_in_two(b"from where they touch", BASE, 0x8008, 0x8008, 4);
+    one_in_two(b"the other one lower", 0x8008, BASE, 0x8001, 4);
+    one_in_two(b"across them, the other one lower", 0x8008, BASE, 0x8006, 4);
+    one_in_two(b"one address shared", BASE, 0x8007, 0x8000, 4);
+    log_in_two(b"an empty log, one address shared", BASE, 0x8007, b"");
+    log_in_two(b"33 bytes, one address shared", BASE, 0x8007, &none);
+    high_empty(b"an empty region inside the other", BASE, 0x8004);
+    high_empty(b"an empty region at the base of the other", BASE, BASE);
+}
+
 fn main() {
     questions();
     order();
     windows();
+    regions();
 }

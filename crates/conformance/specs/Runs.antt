@@ -1,10 +1,10 @@
 -- Calls on a fresh endpoint, run on the engine's definitions, and what the public texts say of the same TRBs, in the same words.
--- Endpoint 3, slot 2; a guest window of 32 bytes at 0x8000. Assumes nothing.
+-- Endpoint 3, slot 2; guest memory of 32 bytes at 0x8000. Assumes nothing.
 use Prim.Native.Nat.{ℕ}
 use mathlib.Core.Bool.{Bool, true, false}
 use mathlib.Core.List.{List, [], _∷_, _++_}
 use mathlib.Core.Option.{Option, none, some}
-use lib.ListN.{replicate, length}
+use lib.ListN.{replicate}
 use Rattle.trb.specs.Answers.{numberOf, refusalOf}
 use Rattle.trb.specs.Limits.{minLog, maxCollected}
 use Rattle.trb.specs.Questions.{firstNo}
@@ -27,7 +27,8 @@ use Rattle.in_questions.specs.Questions.{submissionQuestions as submissionQuest
 use Rattle.in_td.specs.Td.{handleNormal, processTrb}
 use Rattle.in_td.specs.declared.InMode.{InMode}
 use Rattle.in_td.specs.declared.InMode.the-variants.{AsPorted}
-use Rattle.guest_memory.specs.Places.{placeOf, rangeInside}
+use Rattle.guest_memory.specs.Regions as regions
+use Rattle.guest_memory.specs.Places.{inRegion, placeOf, rangeInside, Memory, memoryOf, regionsOf, bytesAt}
 use Rattle.held.specs.Places.{cleared}
 use Rattle.held.specs.Sound.{soundTrb}
 use Rattle.td_part.specs.Parts.{putDma, realizeDma}
@@ -48,7 +49,7 @@ use Rattle.control_endpoint.specs.Completion.{blockBehind, accepted as accepted
 use Rattle.control_endpoint.specs.Submission.{blockAfter, recordsOf, accepted as acceptedSubmission, submission as submissionControl, bytesCollected}
 use Rattle.control_questions.specs.Completion.{completionQuestions}
 use Rattle.control_questions.specs.Submission.{hasRoom, reaches, submissionQuestions}
-use Rattle.control_transfer.specs.Data.{inReach, windowBytes, bytesOf}
+use Rattle.control_transfer.specs.Data.{inReach, bytesOf}
 use Rattle.control_transfer.specs.Transfers.{transferAfter, collects}
 use Rattle.standard.specs.Usb.{Setup}
 use Rattle.standard.specs.Xhci.{Trb, TransferEvent, Reading, Ending, outcome, events, Delivery, deliveries, haltedAt}
@@ -78,13 +79,11 @@ haltThere (some a) = haltsAt a
 abbrev pub standardSeen : Reading → Ending → (n : ℕ) (td : List Trb) → Seen
 standardSeen r e n td = record { events = events r (outcome e n td) n td; writes = deliveries n td; halt = haltThere (haltedAt (outcome e n td) n td) }
 
--- ---- The guest window
+-- ---- Guest memory
 
-abbrev windowBase : ℕ
-windowBase = 0x8000
-
-abbrev guestBytes : List ℕ
-guestBytes = replicate 32 7
+-- one region; the other is empty
+abbrev memory : Memory
+memory = memoryOf 0x8000 (replicate 32 7) 0 []
 
 -- ---- IN
 
@@ -95,13 +94,13 @@ pub data InCall : Type 0 where
 unfoldable pub inFrom : InBlock → List Record → Halt → List InCall → Seen
 inFrom b rs h [] = seen rs h
 inFrom b rs h (inCall t r n ∷ calls) =
-    let o = submissionIn minLog b t windowBase (length guestBytes) in
+    let o = submissionIn minLog b t (regionsOf memory) in
     let p = completionIn minLog (o .state .block) r n in
     inFrom (p .state .block) (rs ++ (o .records ++ p .records)) (haltAnswered (p .state .answer)) calls
 
 -- in this mode
 unfoldable pub inRunIn : InMode → List InCall → Seen
-unfolding inFrom submissionIn submissionQuestionsIn outcomeOf completionIn completionQuestionsIn firstNo transferred idsInRange soundIn soundTrb all rangeInside placeOf cleared walk processTrb handleNormal putDma realizeDma
+unfolding inFrom submissionIn submissionQuestionsIn outcomeOf completionIn completionQuestionsIn firstNo transferred idsInRange soundIn soundTrb all rangeInside placeOf inRegion regions.shareAnAddress regions.sharesAt regions.holds cleared walk processTrb handleNormal putDma realizeDma
 inRunIn mode calls = inFrom (freshBlock (record { 0 = 3 }) (record { 0 = 2 }) mode) [] runsOn calls
 
 unfoldable pub inRun : List InCall → Seen
@@ -110,8 +109,8 @@ inRun calls = inRunIn AsPorted calls
 
 -- what one submission to a fresh block answers, by its number
 unfoldable pub inNumber : TransferTrb → ℕ
-unfolding submissionIn submissionQuestionsIn outcomeOf firstNo refusalOf idsInRange soundIn all rangeInside placeOf
-inNumber t = numberOf (submissionIn minLog (freshBlock (record { 0 = 3 }) (record { 0 = 2 }) AsPorted) t windowBase (length guestBytes) .state .answer)
+unfolding submissionIn submissionQuestionsIn outcomeOf firstNo refusalOf idsInRange soundIn all rangeInside placeOf inRegion regions.shareAnAddress regions.sharesAt regions.holds
+inNumber t = numberOf (submissionIn minLog (freshBlock (record { 0 = 3 }) (record { 0 = 2 }) AsPorted) t (regionsOf memory) .state .answer)
 
 -- the completion of a made-up block that holds this TRB alone and awaits the device
 unfoldable pub inMadeUp : TransferTrb → InTrbProcessingResult → (n : ℕ) → Seen
@@ -135,18 +134,18 @@ pub record ControlRan : Type 0 where
 unfoldable pub controlFrom : ControlRan → List ControlCall → ControlRan
 controlFrom ran [] = ran
 controlFrom ran (controlCall t r n ∷ calls) =
-    let o = submissionControl minLog maxCollected (ran .block) t windowBase (length guestBytes) in
+    let o = submissionControl minLog maxCollected (ran .block) t (regionsOf memory) in
     let p = completionControl minLog (o .state .block) r n in
     controlFrom (record {
       block = p .state .block;
       records = ran .records ++ (o .records ++ p .records);
-      collected = ran .collected ++ bytesCollected minLog maxCollected (ran .block) t windowBase guestBytes;
+      collected = ran .collected ++ bytesCollected minLog maxCollected (ran .block) t memory;
       halt = haltAnswered (p .state .answer);
     }) calls
 
 -- on an endpoint created for guests of this release
 unfoldable pub controlRunFor : GuestRelease → List ControlCall → ControlRan
-unfolding controlFrom submissionControl firstNo submissionQuestions hasRoom reaches collects inReach rangeInside windowBytes bytesOf bytesCollected acceptedSubmission blockAfter recordsOf transferAfter becomes successes completionControl completionQuestions acceptedCompletion blockBehind errorAddress firstAt endingRecords realizeTrb realizeDataStage realizeNormal moveOut idsInRange soundControl soundTrb all placeOf cleared walk putDma realizeDma
+unfolding controlFrom submissionControl firstNo submissionQuestions hasRoom reaches collects inReach rangeInside bytesAt bytesOf bytesCollected acceptedSubmission blockAfter recordsOf transferAfter becomes successes completionControl completionQuestions acceptedCompletion blockBehind errorAddress firstAt endingRecords realizeTrb realizeDataStage realizeNormal moveOut idsInRange soundControl soundTrb all placeOf inRegion regions.shareAnAddress regions.sharesAt regions.holds cleared walk putDma realizeDma
 controlRunFor release calls =
     controlFrom (record { block = freshControl (record { 0 = 3 }) (record { 0 = 2 }) release; records = []; collected = []; halt = runsOn }) calls
 

@@ -97,7 +97,7 @@ pub fn create(
 }
 
 // Of the collect buffer, the first `lent` bytes are lent.
-fn submit(
+fn submit<'a>(
     text: &mut [u8],
     at: usize,
     log: &mut [u8],
@@ -105,15 +105,26 @@ fn submit(
     lent: usize,
     block: ControlBlock,
     t: TransferTrb,
-    base: u64,
-    window: &[u8],
+    low_base: u64,
+    low: &'a [u8],
+    high_base: u64,
+    high: &'a [u8],
 ) -> ControlRan
     requires { ⌜ at + maxAnswer ≤ length (now text) ⌝ }
     requires { ⌜ length (now log) ≤ minLog ⌝ }
     ensures { λ r. ⌜ r .end ≤ at + maxAnswer ⌝ }
 {
     let end = call_script::least(lent, collect.len());
-    let submitted = control_endpoint::submit_trb(log, &mut collect[..end], block, t, base, window);
+    let submitted = control_endpoint::submit_trb(
+        log,
+        &mut collect[..end],
+        block,
+        t,
+        low_base,
+        low,
+        high_base,
+        high,
+    );
     let answer = submitted.answer;
     let after = submitted.block;
     let next = call_answer::put_answer(text, at, answer, submitted.records, log);
@@ -128,8 +139,10 @@ fn complete(
     block: ControlBlock,
     result: ControlRequestProcessingResult,
     data: &[u8],
-    base: u64,
-    window: &mut [u8],
+    low_base: u64,
+    low: &mut [u8],
+    high_base: u64,
+    high: &mut [u8],
 ) -> ControlRan
     requires { ⌜ at + maxAnswer ≤ length (now text) ⌝ }
     requires { ⌜ length (now log) ≤ minLog ⌝ }
@@ -145,8 +158,10 @@ fn complete(
         completed.records,
         log,
         data,
-        base,
-        window,
+        low_base,
+        low,
+        high_base,
+        high,
     );
     answered(text, next, after, collect)
 }
@@ -221,19 +236,33 @@ pub fn run(
     block: ControlBlock,
     call: Call,
     data: &[u8],
-    base: u64,
-    window: &mut [u8],
+    low_base: u64,
+    low: &mut [u8],
+    high_base: u64,
+    high: &mut [u8],
 ) -> ControlRan
     requires { ⌜ at + maxAnswer ≤ length (now text) ⌝ }
     requires { ⌜ length (now log) ≤ minLog ⌝ }
     ensures { λ r. ⌜ r .end ≤ at + maxAnswer ⌝ }
 {
     match call {
-        Call::Window(_, _) => bad(block, at),
+        Call::Window(_, _, _, _) => bad(block, at),
         Call::Buffers(_, _) => bad(block, at),
         Call::CreateIn(_, _, _) => bad(block, at),
         Call::CreateControl(_, _, _) => bad(block, at),
-        Call::Submit(t) => submit(text, at, log, collect, lent, block, t, base, window),
+        Call::Submit(t) => submit(
+            text,
+            at,
+            log,
+            collect,
+            lent,
+            block,
+            t,
+            low_base,
+            low,
+            high_base,
+            high,
+        ),
         Call::CompleteWithResult(status, n) => {
             let given = call_script::least(n, data.len());
             complete(
@@ -244,8 +273,10 @@ pub fn run(
                 block,
                 result_of(status),
                 &data[..given],
-                base,
-                window,
+                low_base,
+                low,
+                high_base,
+                high,
             )
         }
         Call::CompleteWithout(n) => {
@@ -258,8 +289,10 @@ pub fn run(
                 block,
                 ControlRequestProcessingResult::NoneGiven,
                 &data[..given],
-                base,
-                window,
+                low_base,
+                low,
+                high_base,
+                high,
             )
         }
         Call::Cancel => cancel(text, at, block, collect),

@@ -205,7 +205,16 @@ fn complete(block: ControlBlock) -> ControlBlock {
 fn submit(window: &[u8], block: ControlBlock, t: TransferTrb) -> ControlBlock {
     let mut log = log_buffer();
     let mut collect = io::large_buffer();
-    let submitted = control_endpoint::submit_trb(&mut log, &mut collect, block, t, 0, window);
+    let submitted = control_endpoint::submit_trb(
+        &mut log,
+        &mut collect,
+        block,
+        t,
+        0,
+        window,
+        0,
+        b"",
+    );
     let answer = submitted.answer;
     print_answer(t.addr, answer);
     print_records(&log, submitted.records);
@@ -230,7 +239,16 @@ fn run(window: &[u8], block: ControlBlock, trbs: [TransferTrb; ROW], count: usiz
 fn pass(window: &[u8], block: ControlBlock, t: TransferTrb) -> ControlBlock {
     let mut log = log_buffer();
     let mut collect = io::large_buffer();
-    let submitted = control_endpoint::submit_trb(&mut log, &mut collect, block, t, 0, window);
+    let submitted = control_endpoint::submit_trb(
+        &mut log,
+        &mut collect,
+        block,
+        t,
+        0,
+        window,
+        0,
+        b"",
+    );
     let between = submitted.block;
     let completed = control_endpoint::next_completion(
         &mut log,

@@ -21,6 +21,7 @@ use Rattle.trb.specs.declared.SlotId.{SlotId}
 use Rattle.trb.specs.declared.TransferTrb.{TransferTrb}
 use Rattle.trb.specs.declared.TrbProcessingResult.{TrbProcessingResult}
 use Rattle.log.specs.Calls.{Out}
+use Rattle.guest_memory.specs.declared.Regions.{Regions}
 use Rattle.phase_table.specs.declared.Outcome.{Outcome}
 use Rattle.phase_table.specs.Outcomes.{holds, restarts, stateAfter}
 use Rattle.phase_table.specs.Table.{becomes}
@@ -163,13 +164,13 @@ module _ (one other : GuestRelease) (b : ControlBlock) (t : TransferTrb) where
       }) (held-under (restarts o) (holds o))
 
   -- a submission under one rule and under the other: the same, but for the rule
-  pub submission-under : (log collect base size : ℕ)
-      → submittedUnder other (submission log collect (under one b) t base size) ≡ submittedUnder other (submission log collect (under other b) t base size)
+  pub submission-under : (log collect : ℕ) (regions : Regions)
+      → submittedUnder other (submission log collect (under one b) t regions) ≡ submittedUnder other (submission log collect (under other b) t regions)
   unfolding submission
-  submission-under log collect base size = by (eqb asked 0)
+  submission-under log collect regions = by (eqb asked 0)
     where
       asked : ℕ
-      asked = firstNo (questionsOf log collect b t base size)
+      asked = firstNo (questionsOf log collect b t regions)
 
       by : (yes : Bool)
           → submittedUnder other (cond yes (submits.accepted (becomes (b .phase) (t .variant)) (under one b) t) (submits.refused (under one b) asked))
@@ -194,15 +195,15 @@ module _ (b : ControlBlock) where
   held-keeps t false true = refl
   held-keeps t false false = refl
 
-  pub submission-keeps : (t : TransferTrb) (log collect base size : ℕ) → submission log collect b t base size .state .block .release ≡ b .release
+  pub submission-keeps : (t : TransferTrb) (log collect : ℕ) (regions : Regions) → submission log collect b t regions .state .block .release ≡ b .release
   unfolding submission submits.accepted blockAfter
-  submission-keeps t log collect base size = by (eqb asked 0)
+  submission-keeps t log collect regions = by (eqb asked 0)
     where
       o : Outcome
       o = becomes (b .phase) (t .variant)
 
       asked : ℕ
-      asked = firstNo (questionsOf log collect b t base size)
+      asked = firstNo (questionsOf log collect b t regions)
 
       by : (yes : Bool) → cond yes (submits.accepted o b t) (submits.refused b asked) .state .block .release ≡ b .release
       by true = held-keeps t (restarts o) (holds o)

@@ -28,6 +28,8 @@ use Rattle.held.specs.Places.{cleared}
 use Rattle.td_part.specs.declared.TdInfo.{TdInfo}
 use Rattle.td_part.specs.Parts.{atStart}
 use Rattle.walks.specs.Walk.{walk}
+use Rattle.guest_memory.specs.declared.Regions.{Regions}
+use Rattle.guest_memory.specs.Places.{Memory, regionsOf}
 use Rattle.phase_table.specs.declared.Outcome.{Outcome}
 use Rattle.phase_table.specs.Outcomes.{holds, restarts, requests, stateAfter}
 use Rattle.phase_table.specs.Table.{becomes}
@@ -47,28 +49,28 @@ use Rattle.control_endpoint.proofs.FreeingLaws.{freed-none, freed-all}
 
 -- ---- What the call comes to
 
-module _ (b : ControlBlock) (t : TransferTrb) (base : ℕ) (w l c : List ℕ) where
+module _ (b : ControlBlock) (t : TransferTrb) (m : Memory) (l c : List ℕ) where
   abbrev questions : List (Bool × ℕ)
-  questions = questionsOf (length l) (length c) b t base (length w)
+  questions = questionsOf (length l) (length c) b t (regionsOf m)
 
-  pub submits-refused : (q : Refusal) (a : Answer) → a ≡ Refused q → numberOf a ≡ firstNo questions → Submits b t base w l c (record { answer = a; records = 0; block = b }) l c
+  pub submits-refused : (q : Refusal) (a : Answer) → a ≡ Refused q → numberOf a ≡ firstNo questions → Submits b t m l c (record { answer = a; records = 0; block = b }) l c
   unfolding submission bytesCollected
   submits-refused q a no-to numbered =
       let first : numberOf (Refused q) ≡ firstNo questions = ap numberOf (sym no-to) ∙ numbered in
       record {
         number = numbered;
         met = meets (answered-no questions (refused b) (accepted (becomes (b .phase) (t .variant)) b t) (Refused q) first refl) (meets-silent 0 l (rw (no-to, refusalOf-number q)));
-        collect = rw (answered-no questions nothingCollected (bytesTaken (becomes (b .phase) (t .variant)) (b .direction) (t .variant) base w) (Refused q) first refl) (sym (patch-none c (b .collected)));
+        collect = rw (answered-no questions nothingCollected (bytesTaken (becomes (b .phase) (t .variant)) (b .direction) (t .variant) m) (Refused q) first refl) (sym (patch-none c (b .collected)));
       }
 
   pub submits-accepted : (o : Outcome) → o ≡ becomes (b .phase) (t .variant) → firstNo questions ≡ 0 → (r : Submitted) (l' c' : List ℕ) → r ≡ accepted o b t .state
-      → Put l 0 (recordsOf o b) l' → c' ≡ patch c (b .collected) (bytesTaken o (b .direction) (t .variant) base w) → Submits b t base w l c r l' c'
+      → Put l 0 (recordsOf o b) l' → c' ≡ patch c (b .collected) (bytesTaken o (b .direction) (t .variant) m) → Submits b t m l c r l' c'
   unfolding submission bytesCollected accepted
   submits-accepted o same none r l' c' e p collected = record {
     number = ap (λ (x : Submitted). numberOf (x .answer)) e ∙ sym none;
     met = meets (answered-yes questions (refused b) (accepted (becomes (b .phase) (t .variant)) b t) Accepted (sym none) refl ∙ ap (λ (y : Outcome). accepted y b t) (sym same)) (record { state = e; log = p .log; fits = p .fits });
-    collect = rw (answered-yes questions nothingCollected (bytesTaken (becomes (b .phase) (t .variant)) (b .direction) (t .variant) base w) Accepted (sym none) refl)
-        (collected ∙ ap (λ (y : Outcome). patch c (b .collected) (bytesTaken y (b .direction) (t .variant) base w)) same);
+    collect = rw (answered-yes questions nothingCollected (bytesTaken (becomes (b .phase) (t .variant)) (b .direction) (t .variant) m) Accepted (sym none) refl)
+        (collected ∙ ap (λ (y : Outcome). patch c (b .collected) (bytesTaken y (b .direction) (t .variant) m)) same);
   }
 
 -- ---- The places
@@ -160,13 +162,13 @@ length-recordsOf b o few =
       length-when (requests o) (controlRequest (b .request) (b .«endpoint_id») (b .«slot_id»)),
     )
 
-pub length-submission : (log collect : ℕ) (b : ControlBlock) (t : TransferTrb) (base size : ℕ) → length (submission log collect b t base size .records) ≤ maxRecords
+pub length-submission : (log collect : ℕ) (b : ControlBlock) (t : TransferTrb) (regions : Regions) → length (submission log collect b t regions .records) ≤ maxRecords
 unfolding submission accepted
-length-submission log collect b t base size = by (firstNo (questionsOf log collect b t base size)) refl
+length-submission log collect b t regions = by (firstNo (questionsOf log collect b t regions)) refl
   where
     o : Outcome
     o = becomes (b .phase) (t .variant)
 
-    by : (n : ℕ) → firstNo (questionsOf log collect b t base size) ≡ n → length (cond (eqb n 0) (accepted o b t) (refused b n) .records) ≤ maxRecords
-    by zero none = length-recordsOf b o (passed (factsOf b) o t base size log collect none .held)
+    by : (n : ℕ) → firstNo (questionsOf log collect b t regions) ≡ n → length (cond (eqb n 0) (accepted o b t) (refused b n) .records) ≤ maxRecords
+    by zero none = length-recordsOf b o (passed (factsOf b) o t regions log collect none .held)
     by (suc n) no-to = rw (ne-eqb (suc n) 0 (λ z. omega arith)) (lit≤ tt)

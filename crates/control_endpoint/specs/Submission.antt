@@ -12,6 +12,8 @@ use Rattle.trb.specs.declared.Answer.the-variants.{Accepted, Refused}
 use Rattle.trb.specs.declared.TransferTrb.{TransferTrb}
 use Rattle.log.specs.declared.Record.{Record}
 use Rattle.log.specs.Calls.{Out, silent, Meets}
+use Rattle.guest_memory.specs.declared.Regions.{Regions}
+use Rattle.guest_memory.specs.Places.{Memory, regionsOf}
 use Rattle.phase_table.specs.declared.Outcome.{Outcome}
 use Rattle.phase_table.specs.Outcomes.{holds, restarts, stateAfter}
 use Rattle.phase_table.specs.Table.{becomes}
@@ -54,27 +56,26 @@ refused b n = silent (record { answer = Refused (refusalOf n); records = 0; bloc
 unfoldable pub accepted : Outcome → ControlBlock → TransferTrb → Out Submitted
 accepted o b t = record { state = record { answer = Accepted; records = length (recordsOf o b); block = blockAfter o b t }; records = recordsOf o b }
 
-abbrev pub questionsOf : ℕ → ℕ → ControlBlock → TransferTrb → ℕ → ℕ → List (Bool × ℕ)
-questionsOf log collect b t base size = submissionQuestions log collect (factsOf b) (becomes (b .phase) (t .variant)) t base size
+abbrev pub questionsOf : ℕ → ℕ → ControlBlock → TransferTrb → Regions → List (Bool × ℕ)
+questionsOf log collect b t regions = submissionQuestions log collect (factsOf b) (becomes (b .phase) (t .variant)) t regions
 
--- with a log, a collect buffer and a window at base of these lengths
-unfoldable pub submission : ℕ → ℕ → ControlBlock → TransferTrb → ℕ → ℕ → Out Submitted
-submission log collect b t base size =
-    afterQuestions (questionsOf log collect b t base size) (refused b) (accepted (becomes (b .phase) (t .variant)) b t)
+-- with a log and a collect buffer of these lengths, and guest memory in these regions
+unfoldable pub submission : ℕ → ℕ → ControlBlock → TransferTrb → Regions → Out Submitted
+submission log collect b t regions =
+    afterQuestions (questionsOf log collect b t regions) (refused b) (accepted (becomes (b .phase) (t .variant)) b t)
 
 -- on OUT bytes are collected; a no leaves the collect buffer as it was
 abbrev pub nothingCollected : ℕ → List ℕ
 nothingCollected n = []
 
--- with a window of the bytes w at base
-unfoldable pub bytesCollected : ℕ → ℕ → ControlBlock → TransferTrb → ℕ → List ℕ → List ℕ
-bytesCollected log collect b t base w =
-    afterQuestions (questionsOf log collect b t base (length w)) nothingCollected
-    (bytesTaken (becomes (b .phase) (t .variant)) (b .direction) (t .variant) base w)
+-- with guest memory m
+unfoldable pub bytesCollected : ℕ → ℕ → ControlBlock → TransferTrb → Memory → List ℕ
+bytesCollected log collect b t m =
+    afterQuestions (questionsOf log collect b t (regionsOf m)) nothingCollected (bytesTaken (becomes (b .phase) (t .variant)) (b .direction) (t .variant) m)
 
--- a submission to the block b, with the log l and the collect buffer c, returned r and left l' and c'. The bytes collected stand just
+-- a submission to the block b, with guest memory m, the log l and the collect buffer c, returned r and left l' and c'. The bytes collected stand just
 -- behind those already collected
-pub record Submits (b : ControlBlock) (t : TransferTrb) (base : ℕ) (w l c : List ℕ) (r : Submitted) (l' c' : List ℕ) : Type 0 where
-  pub number : numberOf (r .answer) ≡ firstNo (questionsOf (length l) (length c) b t base (length w))
-  pub met : Meets (submission (length l) (length c) b t base (length w)) 0 l r l'
-  pub collect : c' ≡ patch c (b .collected) (bytesCollected (length l) (length c) b t base w)
+pub record Submits (b : ControlBlock) (t : TransferTrb) (m : Memory) (l c : List ℕ) (r : Submitted) (l' c' : List ℕ) : Type 0 where
+  pub number : numberOf (r .answer) ≡ firstNo (questionsOf (length l) (length c) b t (regionsOf m))
+  pub met : Meets (submission (length l) (length c) b t (regionsOf m)) 0 l r l'
+  pub collect : c' ≡ patch c (b .collected) (bytesCollected (length l) (length c) b t m)

@@ -16,6 +16,7 @@ use trb::TransferTrb;
 use trb::TrbProcessingResult;
 ghost use mathlib.Core.Path.{_≡_};
 ghost use lib.ListN.{length};
+ghost use Rattle.guest_memory.specs.Places.{memoryOf};
 ghost use Rattle.control_endpoint.specs.Completion.{Completes};
 ghost use Rattle.control_endpoint.specs.Creation.{Creates};
 ghost use Rattle.control_endpoint.specs.Submission.{placesDropped, Submits};
@@ -66,17 +67,19 @@ fn places_dropped(restarts: bool, held: usize) -> usize
     if restarts { held } else { 0 }
 }
 
-// Takes a TRB. The window of guest memory is `window`'s bytes at `window_base`. The places are copied once, and there is one way out:
+// Takes a TRB. Guest memory is `low`'s bytes at `low_base` and `high`'s at `high_base`. The places are copied once, and there is one way out:
 // copies of the block are most of what a call costs.
-pub fn submit_trb(
+pub fn submit_trb<'a>(
     log: &mut [u8],
     collect: &mut [u8],
     block: ControlBlock,
     t: TransferTrb,
-    window_base: u64,
-    window: &[u8],
+    low_base: u64,
+    low: &'a [u8],
+    high_base: u64,
+    high: &'a [u8],
 ) -> Submitted
-    ensures { λ r. ⌜ Submits block t «window_base» (now (window .entry)) (now (log .entry)) (now (collect .entry)) r (now (log .exit)) (now (collect .exit)) ⌝ }
+    ensures { λ r. ⌜ Submits block t (memoryOf «low_base» (now (low .entry)) «high_base» (now (high .entry))) (now (log .entry)) (now (collect .entry)) r (now (log .exit)) (now (collect .exit)) ⌝ }
 {
     let endpoint_id = block.endpoint_id;
     let slot_id = block.slot_id;
@@ -107,6 +110,7 @@ pub fn submit_trb(
         held: held,
         sound: sound,
     };
+    let regions = guest_memory::guest_regions(low_base, low.len(), high_base, high.len());
     let outcome = phase_table::becomes(phase, variant);
     let answer = control_questions::ask_submission(
         log.len(),
@@ -114,8 +118,7 @@ pub fn submit_trb(
         facts,
         outcome,
         t,
-        window_base,
-        window.len(),
+        regions,
     );
     let mut records = 0;
     match answer {
@@ -151,8 +154,10 @@ pub fn submit_trb(
                 direction,
                 collected,
                 variant,
-                window_base,
-                window,
+                low_base,
+                low,
+                high_base,
+                high,
             );
             if phase_table::is_held(outcome) {
                 trbs[held] = t;

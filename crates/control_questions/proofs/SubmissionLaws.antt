@@ -1,7 +1,7 @@
 -- What follows for a submission where no question is answered no. Assumes nothing.
 use Prim.Native.Nat.{ℕ, _+_, _<_, _≤_}
 use mathlib.Core.Path.{_≡_}
-use mathlib.Core.Bool.{Bool, true, false}
+use mathlib.Core.Bool.{Bool, true, false, not}
 use mathlib.Core.List.{List, [], _∷_}
 use native.Mathlib.Omega.{arith}
 use lib.Dec.{leb}
@@ -12,6 +12,8 @@ use Rattle.trb.specs.Trbs.{transferLength}
 use Rattle.trb.proofs.QuestionLaws.{yes-first, yes-behind}
 use Rattle.trb.proofs.TestLaws.{and-left, and-right}
 use Rattle.trb.specs.declared.TransferTrb.{TransferTrb}
+use Rattle.guest_memory.specs.declared.Regions.{Regions}
+use Rattle.guest_memory.specs.Regions.{shareAnAddress}
 use Rattle.phase_table.specs.declared.Outcome.{Outcome}
 use Rattle.phase_table.specs.Outcomes.{holds, restarts}
 use Rattle.control_block.specs.declared.BlockFacts.{BlockFacts}
@@ -39,12 +41,12 @@ pub record Passed (log collect : ℕ) (f : BlockFacts) (o : Outcome) (t : Transf
   pub size : collectable o (f .direction) (f .collected) (dataOf (t .variant)) ≡ true
 
 -- the questions from each on
-module _ (f : BlockFacts) (o : Outcome) (t : TransferTrb) (base size : ℕ) where
+module _ (f : BlockFacts) (o : Outcome) (t : TransferTrb) (regions : Regions) where
   abbrev pub from-collected : List (Bool × ℕ)
   from-collected = (collectable o (f .direction) (f .collected) (dataOf (t .variant)), 7) ∷ []
 
   abbrev pub from-window : List (Bool × ℕ)
-  from-window = (reaches o (f .direction) (dataOf (t .variant)) base size, 6) ∷ from-collected
+  from-window = (reaches o (f .direction) (dataOf (t .variant)) regions, 6) ∷ from-collected
 
   abbrev pub from-held : List (Bool × ℕ)
   from-held = (hasRoom o (f .held), 5) ∷ from-window
@@ -61,18 +63,22 @@ module _ (f : BlockFacts) (o : Outcome) (t : TransferTrb) (base size : ℕ) wher
   abbrev pub from-block : List (Bool × ℕ)
   from-block = (soundBlock f, 2) ∷ from-turn
 
-  pub passed : (log collect : ℕ) → firstNo (submissionQuestions log collect f o t base size) ≡ 0 → Passed log collect f o t
+  abbrev pub from-regions : List (Bool × ℕ)
+  from-regions = (not (shareAnAddress regions), 13) ∷ from-block
+
+  pub passed : (log collect : ℕ) → firstNo (submissionQuestions log collect f o t regions) ≡ 0 → Passed log collect f o t
   unfolding submissionQuestions
   passed log collect none =
-      let long = yes-first (longEnough log collect) 0 from-block none in
-      let second : firstNo from-block ≡ 0 = yes-behind (longEnough log collect) 0 from-block none in
+      let long = yes-first (longEnough log collect) 0 from-regions none in
+      let apart : firstNo from-regions ≡ 0 = yes-behind (longEnough log collect) 0 from-regions none in
+      let second : firstNo from-block ≡ 0 = yes-behind (not (shareAnAddress regions)) 12 from-block apart in
       let sound = yes-first (soundBlock f) 1 from-turn second in
       let third : firstNo from-turn ≡ 0 = yes-behind (soundBlock f) 1 from-turn second in
       let fourth : firstNo from-length ≡ 0 = yes-behind (submissionDue (f .state)) 2 from-length third in
       let flag : firstNo from-flag ≡ 0 = yes-behind (leb (transferLength (t .variant)) maxTransferLength) 3 from-flag fourth in
       let fifth : firstNo from-held ≡ 0 = yes-behind (immediateAllowed o (f .direction) (dataOf (t .variant))) 20 from-held flag in
       let sixth : firstNo from-window ≡ 0 = yes-behind (hasRoom o (f .held)) 4 from-window fifth in
-      let seventh : firstNo from-collected ≡ 0 = yes-behind (reaches o (f .direction) (dataOf (t .variant)) base size) 5 from-collected sixth in
+      let seventh : firstNo from-collected ≡ 0 = yes-behind (reaches o (f .direction) (dataOf (t .variant)) regions) 5 from-collected sixth in
       record {
         log-long = leb-true _ _ (and-left (leb minLog log) (leb maxCollected collect) long);
         collect-long = leb-true _ _ (and-right (leb minLog log) (leb maxCollected collect) long);

@@ -7,6 +7,8 @@ use Rattle.trb.specs.Limits.{maxHeld, maxTransferLength, maxCollected, minLog}
 use Rattle.trb.specs.Questions.{askedIf}
 use Rattle.trb.specs.Trbs.{transferLength}
 use Rattle.trb.specs.declared.TransferTrb.{TransferTrb}
+use Rattle.guest_memory.specs.declared.Regions.{Regions}
+use Rattle.guest_memory.specs.Regions.{shareAnAddress}
 use Rattle.phase_table.specs.declared.Outcome.{Outcome}
 use Rattle.phase_table.specs.Outcomes.{holds, restarts}
 use Rattle.control_block.specs.declared.BlockFacts.{BlockFacts}
@@ -28,18 +30,20 @@ unfoldable pub hasRoom : Outcome → ℕ → Bool
 hasRoom o held = askedIf (holds o) (leb (cond (restarts o) 1 (held + 1)) maxHeld)
 
 -- if it would be held, does its data lie in the guest window?
-unfoldable pub reaches : Outcome → Bool → TrbData → ℕ → ℕ → Bool
-reaches o input d base size = askedIf (holds o) (inReach input d base size)
+unfoldable pub reaches : Outcome → Bool → TrbData → Regions → Bool
+reaches o input d regions = askedIf (holds o) (inReach input d regions)
 
--- of a log, a collect buffer and a window at base of these lengths, and a TRB that becomes o
-unfoldable pub submissionQuestions : ℕ → ℕ → BlockFacts → Outcome → TransferTrb → ℕ → ℕ → List (Bool × ℕ)
-submissionQuestions log collect f o t base size =
+-- of a log and a collect buffer of these lengths, guest memory in these regions, and a TRB that becomes o; 02, R-1: do the regions share no
+-- address?
+unfoldable pub submissionQuestions : ℕ → ℕ → BlockFacts → Outcome → TransferTrb → Regions → List (Bool × ℕ)
+submissionQuestions log collect f o t regions =
     (longEnough log collect, 1)
+    ∷ (not (shareAnAddress regions), 13)
     ∷ (soundBlock f, 2)
     ∷ (submissionDue (f .state), 3)
     ∷ (leb (transferLength (t .variant)) maxTransferLength, 4)
     ∷ (immediateAllowed o (f .direction) (dataOf (t .variant)), 21)
     ∷ (hasRoom o (f .held), 5)
-    ∷ (reaches o (f .direction) (dataOf (t .variant)) base size, 6)
+    ∷ (reaches o (f .direction) (dataOf (t .variant)) regions, 6)
     ∷ (collectable o (f .direction) (f .collected) (dataOf (t .variant)), 7)
     ∷ []

@@ -1,6 +1,7 @@
 // The questions asked on a control endpoint, in the order of document 01, over the facts of its block.
 use control_block::BlockFacts;
 use control_transfer::TrbData;
+use guest_memory::Regions;
 use phase_table::Outcome;
 use trb::Answer;
 use trb::ControlRequestProcessingResult;
@@ -44,14 +45,14 @@ fn is_room(outcome: Outcome, held: usize) -> bool
     held + 1 <= trb::MAX_HELD
 }
 
-// Question 6: if it would be held, does its data lie in the guest window?
-fn is_reached(outcome: Outcome, input: bool, data: TrbData, base: u64, size: usize) -> bool
-    ensures { λ r. ⌜ r ≡ reaches outcome input «data» base size ⌝ }
+// Question 6: if it would be held, does its data lie in guest memory?
+fn is_reached(outcome: Outcome, input: bool, data: TrbData, regions: Regions) -> bool
+    ensures { λ r. ⌜ r ≡ reaches outcome input «data» regions ⌝ }
 {
     if !phase_table::is_held(outcome) {
         return true;
     }
-    control_transfer::is_in_reach(input, data, base, size)
+    control_transfer::is_in_reach(input, data, regions)
 }
 
 // Question 7: on OUT, would the collected count be at most 65,535?
@@ -66,17 +67,17 @@ fn is_collectable(outcome: Outcome, input: bool, collected: usize, data: TrbData
     collected + size <= trb::MAX_COLLECTED
 }
 
-// Questions 1 to 4, 21 and 5 to 7, of a log, a collect buffer and a window at `base` of these lengths, and a TRB that becomes this.
+// Questions 1, 13, 2 to 4, 21 and 5 to 7, of a log and a collect buffer of these lengths, guest memory in these regions, and a TRB that
+// becomes this.
 pub fn ask_submission(
     log_length: usize,
     collect_length: usize,
     facts: BlockFacts,
     outcome: Outcome,
     t: TransferTrb,
-    base: u64,
-    size: usize,
+    regions: Regions,
 ) -> Answer
-    ensures { λ r. ⌜ numberOf r ≡ firstNo (submissionQuestions «log_length» «collect_length» facts outcome t base size) ⌝ }
+    ensures { λ r. ⌜ numberOf r ≡ firstNo (submissionQuestions «log_length» «collect_length» facts outcome t regions) ⌝ }
 {
     let state = facts.state;
     let variant = t.variant;
@@ -86,6 +87,9 @@ pub fn ask_submission(
     }
     if collect_length < trb::MAX_COLLECTED {
         return Answer::Refused(Refusal::BufferTooShort);
+    }
+    if guest_memory::share_an_address(regions) {
+        return Answer::Refused(Refusal::RegionsOverlap);
     }
     if !control_block::is_sound(facts) {
         return Answer::Refused(Refusal::UnsoundBlock);
@@ -102,7 +106,7 @@ pub fn ask_submission(
     if !is_room(outcome, facts.held) {
         return Answer::Refused(Refusal::TooManyHeld);
     }
-    if !is_reached(outcome, facts.direction, data, base, size) {
+    if !is_reached(outcome, facts.direction, data, regions) {
         return Answer::Refused(Refusal::OutsideGuestMemory);
     }
     if !is_collectable(outcome, facts.direction, facts.collected, data) {

@@ -1,12 +1,10 @@
 -- 01, Control endpoint: what a DataStage or Normal TRB counts and collects. Assumes nothing.
 use Prim.Native.Nat.{ℕ, min}
 use mathlib.Core.Bool.{Bool, false, not, cond, _||_}
-use mathlib.Core.List.{List, []}
-use lib.ListN.{length, take, drop}
+use mathlib.Core.List.{List}
 use Rattle.buffers.specs.LittleEndian.{leBytes}
-use Rattle.guest_memory.specs.declared.Place.{Place}
-use Rattle.guest_memory.specs.declared.Place.the-variants.{Outside, At}
-use Rattle.guest_memory.specs.Places.{placeOf, rangeInside}
+use Rattle.guest_memory.specs.declared.Regions.{Regions}
+use Rattle.guest_memory.specs.Places.{rangeInside, Memory, bytesAt}
 use Rattle.trb.specs.Questions.{askedIf}
 use Rattle.trb.specs.declared.TransferTrbVariant.{TransferTrbVariant}
 use Rattle.trb.specs.declared.TransferTrbVariant.the-variants.{SetupStage, DataStage, StatusStage, Normal, EventData, NoOp, Isoch, Unrecognized}
@@ -34,20 +32,12 @@ immediateLength n = min 8 n
 abbrev pub sizeOf : TrbData → ℕ
 sizeOf d = cond (d .«immediate_data») (immediateLength (d .«transfer_length»)) (d .«transfer_length»)
 
--- 01, Submission: does pointer to pointer + length lie in the guest window? Not asked of immediate data in a control OUT transfer
-unfoldable pub inReach : Bool → TrbData → ℕ → ℕ → Bool
-inReach input d base size = askedIf (input || not (d .«immediate_data»)) (rangeInside base size (d .«data_pointer») (d .«transfer_length»))
-
-abbrev pub bytesAt : Place → ℕ → List ℕ → List ℕ
-bytesAt Outside n w = []
-bytesAt (At offset) n w = take n (drop offset w)
-
--- the n bytes from pointer on, of the window with the bytes w at base
-unfoldable pub windowBytes : ℕ → List ℕ → ℕ → ℕ → List ℕ
-windowBytes base w pointer n = bytesAt (placeOf base (length w) pointer n) n w
+-- 01, Submission: does pointer to pointer + length lie in the guest window? 02, R-1: in one of the regions. Not asked of immediate data in a control OUT transfer
+unfoldable pub inReach : Bool → TrbData → Regions → Bool
+inReach input d regions = askedIf (input || not (d .«immediate_data»)) (rangeInside regions (d .«data_pointer») (d .«transfer_length»))
 
 -- on OUT bytes are collected: from memory, or min(8, length) little-endian pointer bytes
-unfoldable pub bytesOf : ℕ → List ℕ → TrbData → List ℕ
-bytesOf base w d =
+unfoldable pub bytesOf : Memory → TrbData → List ℕ
+bytesOf m d =
     cond (d .«immediate_data») (leBytes (immediateLength (d .«transfer_length»)) (d .«data_pointer»))
-    (windowBytes base w (d .«data_pointer») (d .«transfer_length»))
+    (bytesAt m (d .«data_pointer») (d .«transfer_length»))

@@ -14,6 +14,7 @@ use Rattle.trb.specs.declared.TransferTrbVariant.the-variants.{SetupStage, Data
 use Rattle.trb.specs.declared.UsbRequest.{UsbRequest}
 use Rattle.log.specs.declared.Record.{Record}
 use Rattle.log.specs.Records.{controlRequest, when}
+use Rattle.guest_memory.specs.Places.{Memory}
 use Rattle.phase_table.specs.declared.Outcome.{Outcome}
 use Rattle.phase_table.specs.Outcomes.{holds, requests, phaseAfter}
 use Rattle.control_block.specs.declared.ControlTransfer.{ControlTransfer}
@@ -86,6 +87,6 @@ collects o input = holds o && not input
 abbrev pub collectable : Outcome → Bool → ℕ → TrbData → Bool
 collectable o input collected d = askedIf (collects o input) (leb (collected + sizeOf d) maxCollected)
 
--- of a window with the bytes w at base
-abbrev pub bytesTaken : Outcome → Bool → TransferTrbVariant → ℕ → List ℕ → List ℕ
-bytesTaken o input v base w = cond (collects o input) (bytesOf base w (dataOf v)) []
+-- of guest memory m
+abbrev pub bytesTaken : Outcome → Bool → TransferTrbVariant → Memory → List ℕ
+bytesTaken o input v m = cond (collects o input) (bytesOf m (dataOf v)) []

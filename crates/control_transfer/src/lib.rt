@@ -1,8 +1,8 @@
 // What a TRB makes of a control transfer: its request, the bytes asked for and the bytes collected; and the TRB's data, its size, whether
-// it lies in the guest window, and its collecting on OUT. Ports `instantiate_setup_trb`, `collect_transfer_length` and
+// it lies in guest memory, and its collecting on OUT. Ports `instantiate_setup_trb`, `collect_transfer_length` and
 // `collect_transfer_data`.
 use control_block::ControlTransfer;
-use guest_memory::Place;
+use guest_memory::Regions;
 use phase_table::Outcome;
 use trb::EndpointId;
 use trb::SetupStageTrb;
@@ -16,8 +16,9 @@ ghost use lib.ListN.{length};
 ghost use Rattle.buffers.specs.LittleEndian.{leBytes};
 ghost use Rattle.buffers.specs.Patch.{patch};
 ghost use Rattle.trb.specs.Limits.{recordLength, maxCollected};
+ghost use Rattle.guest_memory.specs.Places.{memoryOf, bytesAt};
 ghost use Rattle.log.specs.Calls.{Meets, counted};
-ghost use Rattle.control_transfer.specs.Data.{noData, dataOf, immediateLength, sizeOf, inReach, windowBytes, bytesOf};
+ghost use Rattle.control_transfer.specs.Data.{noData, dataOf, immediateLength, sizeOf, inReach, bytesOf};
 ghost use Rattle.control_transfer.specs.Transfers.{requestOf, begun, lengthened, grown, takenBy, heldInto, transferAfter, requestsOf, collects, collectable, bytesTaken};
 
 // ---- The data of a TRB
@@ -94,13 +95,13 @@ fn is_range_asked(input: bool, immediate: bool) -> bool
 }
 
 // Question 6, of the data of a TRB that is held; `input`: the transfer is IN.
-pub fn is_in_reach(input: bool, data: TrbData, base: u64, size: usize) -> bool
-    ensures { λ r. ⌜ r ≡ inReach input «data» base size ⌝ }
+pub fn is_in_reach(input: bool, data: TrbData, regions: Regions) -> bool
+    ensures { λ r. ⌜ r ≡ inReach input «data» regions ⌝ }
 {
     if !is_range_asked(input, data.immediate_data) {
         return true;
     }
-    guest_memory::range_inside(base, size, data.data_pointer, data.transfer_length)
+    guest_memory::range_inside(regions, data.data_pointer, data.transfer_length)
 }
 
 fn le_bytes(x: u64) -> [u8; 8]
@@ -135,23 +136,35 @@ fn collect_immediate(collect: &mut [u8], at: usize, pointer: u64, count: usize)
 }
 
 // Lays the `count` bytes of guest memory from `pointer` on over `collect` from index `at` on.
-fn collect_memory(collect: &mut [u8], at: usize, pointer: u64, count: u32, base: u64, window: &[u8])
+fn collect_memory<'a>(
+    collect: &mut [u8],
+    at: usize,
+    pointer: u64,
+    count: u32,
+    low_base: u64,
+    low: &'a [u8],
+    high_base: u64,
+    high: &'a [u8],
+)
     requires { ⌜ at + count ≤ length (now collect) ⌝ }
-    ensures { λ _. ⌜ now (collect .exit) ≡ patch (now (collect .entry)) at (windowBytes base (now (window .entry)) pointer count) ⌝ }
+    ensures { λ _. ⌜ now (collect .exit) ≡ patch (now (collect .entry)) at (bytesAt (memoryOf «low_base» (now (low .entry)) «high_base» (now (high .entry))) pointer count) ⌝ }
 {
-    let place = guest_memory::place_range(base, window.len(), pointer, count);
-    match place {
-        Place::Outside => {}
-        Place::At(offset) => {
-            guest_memory::read_bulk(window, offset, count as usize, collect, at);
-        }
-    }
+    let part = guest_memory::get_slice(low_base, low, high_base, high, pointer, count);
+    buffers::lay(collect, at, part);
 }
 
 // Lays the bytes of a TRB of an OUT transfer over `collect` from index `at` on; ports `collect_transfer_data`.
-pub fn collect_transfer_data(collect: &mut [u8], at: usize, data: TrbData, base: u64, window: &[u8])
+pub fn collect_transfer_data<'a>(
+    collect: &mut [u8],
+    at: usize,
+    data: TrbData,
+    low_base: u64,
+    low: &'a [u8],
+    high_base: u64,
+    high: &'a [u8],
+)
     requires { ⌜ at + sizeOf «data» ≤ length (now collect) ⌝ }
-    ensures { λ _. ⌜ now (collect .exit) ≡ patch (now (collect .entry)) at (bytesOf base (now (window .entry)) «data») ⌝ }
+    ensures { λ _. ⌜ now (collect .exit) ≡ patch (now (collect .entry)) at (bytesOf (memoryOf «low_base» (now (low .entry)) «high_base» (now (high .entry))) «data») ⌝ }
 {
     if data.immediate_data {
         let count = immediate_length(data.transfer_length);
@@ -162,8 +175,10 @@ pub fn collect_transfer_data(collect: &mut [u8], at: usize, data: TrbData, base:
             at,
             data.data_pointer,
             data.transfer_length,
-            base,
-            window,
+            low_base,
+            low,
+            high_base,
+            high,
         );
     }
 }
@@ -321,20 +336,22 @@ pub fn is_collected(outcome: Outcome, input: bool) -> bool
 }
 
 // Collects the TRB's bytes just behind the `collected` ones, on OUT.
-pub fn collect_trb(
+pub fn collect_trb<'a>(
     collect: &mut [u8],
     outcome: Outcome,
     input: bool,
     collected: usize,
     variant: TransferTrbVariant,
-    base: u64,
-    window: &[u8],
+    low_base: u64,
+    low: &'a [u8],
+    high_base: u64,
+    high: &'a [u8],
 )
     requires { ⌜ (maxCollected ≤ length (now collect)) × (collectable outcome input collected (dataOf variant) ≡ true) ⌝ }
-    ensures { λ _. ⌜ now (collect .exit) ≡ patch (now (collect .entry)) collected (bytesTaken outcome input variant base (now (window .entry))) ⌝ }
+    ensures { λ _. ⌜ now (collect .exit) ≡ patch (now (collect .entry)) collected (bytesTaken outcome input variant (memoryOf «low_base» (now (low .entry)) «high_base» (now (high .entry)))) ⌝ }
 {
     if is_collected(outcome, input) {
         let data = data_of(variant);
-        collect_transfer_data(collect, collected, data, base, window);
+        collect_transfer_data(collect, collected, data, low_base, low, high_base, high);
     }
 }

@@ -22,7 +22,8 @@ use Rattle.walks.specs.All.{all}
 use Rattle.walks.specs.Walk.{walk}
 use Rattle.td_part.specs.Parts.{putDma, realizeDma}
 use Rattle.in_td.specs.Td.{handleNormal, processTrb}
-use Rattle.guest_memory.specs.Places.{placeOf, rangeInside}
+use Rattle.guest_memory.specs.Regions as regions
+use Rattle.guest_memory.specs.Places.{inRegion, placeOf, rangeInside, bytesAt}
 use Rattle.in_block.specs.Facts.{soundBlock}
 use Rattle.in_block.specs.Outcomes.{outcomeOf}
 use Rattle.trb.specs.Questions.{firstNo}
@@ -39,7 +40,7 @@ use Rattle.control_endpoint.specs.Completion as completes
 use Rattle.control_endpoint.specs.Submission as submits
 use Rattle.control_questions.specs.Completion.{completionQuestions}
 use Rattle.control_questions.specs.Submission.{hasRoom, reaches, submissionQuestions}
-use Rattle.control_transfer.specs.Data.{inReach, windowBytes, bytesOf}
+use Rattle.control_transfer.specs.Data.{inReach, bytesOf}
 use Rattle.control_transfer.specs.Transfers.{transferAfter}
 use Rattle.control_transfer.specs.Transfers as transfers
 use Rattle.phase_table.specs.Table.{becomes}
@@ -170,5 +171,5 @@ examples =
 
 -- the definitions say of every example what the documents say
 bench : map (λ (e : Example). e .found) examples ≡ map (λ (e : Example). e .expected) examples
-unfolding examples wrote event eventDataOf requested asked collects ends normal eventData noOp setup dataStage status walk cleared all soundTrb placeOf idsInRange putDma realizeDma onIn onStrict play creation submission inQuestions.submissionQuestions outcomeOf completion inQuestions.completionQuestions transferred soundBlock rangeInside processTrb handleNormal onControl onControlFor onControlEndpoint.play becomes transferAfter controlBlock.soundBlock firstNo submissionQuestions hasRoom reaches transfers.collects inReach windowBytes bytesOf submits.submission submits.bytesCollected submits.accepted submits.recordsOf submits.blockAfter completionQuestions completes.completion completes.accepted completes.blockBehind endingRecords successes moveOut realizeDataStage realizeNormal realizeTrb
+unfolding examples wrote event eventDataOf requested asked collects ends normal eventData noOp setup dataStage status walk cleared all soundTrb placeOf inRegion regions.shareAnAddress regions.sharesAt regions.holds idsInRange putDma realizeDma onIn onStrict play creation submission inQuestions.submissionQuestions outcomeOf completion inQuestions.completionQuestions transferred soundBlock rangeInside processTrb handleNormal onControl onControlFor onControlEndpoint.play becomes transferAfter controlBlock.soundBlock firstNo submissionQuestions hasRoom reaches transfers.collects inReach bytesAt bytesOf submits.submission submits.bytesCollected submits.accepted submits.recordsOf submits.blockAfter completionQuestions completes.completion completes.accepted completes.blockBehind endingRecords successes moveOut realizeDataStage realizeNormal realizeTrb
 bench = refl

@@ -3,7 +3,7 @@
 use Prim.Native.Nat.{ℕ}
 use mathlib.Core.Bool.{Bool, true, false}
 use mathlib.Core.List.{List, [], _∷_, _++_}
-use lib.ListN.{length, replicate}
+use lib.ListN.{replicate}
 use Rattle.trb.specs.Limits.{minLog, maxCollected}
 use Rattle.trb.specs.declared.CompletionAnswer.the-variants.{Completed}
 use Rattle.trb.specs.declared.ControlRequestProcessingResult.{ControlRequestProcessingResult}
@@ -12,6 +12,7 @@ use Rattle.trb.specs.declared.TransferTrb.{TransferTrb}
 use Rattle.trb.specs.declared.TransferTrbVariant.the-variants.{SetupStage, DataStage, StatusStage}
 use Rattle.trb.specs.declared.TrbProcessingResult.the-variants.{Ok}
 use Rattle.log.specs.Calls.{Out}
+use Rattle.guest_memory.specs.Places.{Memory, memoryOf, regionsOf}
 use Rattle.control_block.specs.declared.ControlBlock.{ControlBlock}
 use Rattle.control_block.specs.declared.GuestRelease.{GuestRelease}
 use Rattle.control_block.specs.declared.GuestRelease.the-variants.{Release4}
@@ -20,17 +21,17 @@ use Rattle.control_endpoint.specs.Creation.{creation}
 use Rattle.control_endpoint.specs.Submission.{submission, bytesCollected}
 use Rattle.control_endpoint.specs.declared.Completed as call
 use Rattle.control_endpoint.specs.declared.Submitted.{Submitted}
-use Rattle.examples.specs.In.{Seen, windowBase}
+use Rattle.examples.specs.In.{Seen, guestBase}
 
--- 1,024 bytes of guest memory
-abbrev pub window : List ℕ
-window = replicate 1024 7
+-- 1,024 bytes of guest memory, in one region
+abbrev pub memory : Memory
+memory = memoryOf guestBase (replicate 1024 7) 0 []
 
 abbrev pub submit : ControlBlock → TransferTrb → Out Submitted
-submit b t = submission minLog maxCollected b t windowBase (length window)
+submit b t = submission minLog maxCollected b t (regionsOf memory)
 
 abbrev pub collect : ControlBlock → TransferTrb → List ℕ
-collect b t = bytesCollected minLog maxCollected b t windowBase window
+collect b t = bytesCollected minLog maxCollected b t memory
 
 abbrev pub complete : Out Submitted → ControlRequestProcessingResult → ℕ → Out call.Completed
 complete o r n = completion minLog (o .state .block) r n

@@ -12,6 +12,8 @@ use Rattle.trb.specs.declared.TransferTrbVariant.the-variants.{Normal, EventDat
 use Rattle.trb.specs.declared.TrbProcessingResult.the-variants.{Ok}
 use Rattle.log.specs.Calls.{Out}
 use Rattle.log.specs.declared.Record.{Record}
+use Rattle.guest_memory.specs.declared.Regions.{Regions}
+use Rattle.guest_memory.specs.Regions.{guestRegions}
 use Rattle.in_td.specs.declared.InMode.the-variants.{AsPorted, Strict}
 use Rattle.in_block.specs.declared.InBlock.{InBlock}
 use Rattle.in_endpoint.specs.Completion.{completion}
@@ -26,12 +28,12 @@ pub record Seen : Type 0 where
   pub answer : CompletionAnswer
   pub collected : List ℕ
 
--- the guest window of the examples
-abbrev pub windowBase : ℕ
-windowBase = 0x8000
+-- guest memory of the examples: one region, at this base; the other is empty
+abbrev pub guestBase : ℕ
+guestBase = 0x8000
 
-abbrev pub windowSize : ℕ
-windowSize = 0x40000
+abbrev pub regions : Regions
+regions = guestRegions guestBase 0x40000 0 0
 
 -- a submission, then its completion
 abbrev pub complete : Out Submitted → InTrbProcessingResult → ℕ → Out call.Completed
@@ -44,11 +46,11 @@ also rs s = record { records = rs ++ s .records; answer = s .answer; collected =
 unfoldable pub play : InBlock → List TransferTrb → InTrbProcessingResult → ℕ → Seen
 play b [] r n = record { records = []; answer = Completed Ok; collected = [] }
 play b (t ∷ []) r n =
-    let o = submission minLog b t windowBase windowSize in
+    let o = submission minLog b t regions in
     let p = complete o r n in
     record { records = o .records ++ p .records; answer = p .state .answer; collected = [] }
 play b (t ∷ u ∷ ts) r n =
-    let o = submission minLog b t windowBase windowSize in
+    let o = submission minLog b t regions in
     let p = complete o NoneGiven 0 in
     also (o .records ++ p .records) (play (p .state .block) (u ∷ ts) r n)
 

@@ -23,7 +23,8 @@ use Rattle.held.specs.Places.{cleared}
 use Rattle.held.specs.Sound.{soundTrb}
 use Rattle.walks.specs.All.{all}
 use Rattle.walks.specs.Walk.{walk}
-use Rattle.guest_memory.specs.Places.{placeOf, rangeInside}
+use Rattle.guest_memory.specs.Regions as regions
+use Rattle.guest_memory.specs.Places.{inRegion, placeOf, rangeInside, bytesAt}
 use Rattle.phase_table.specs.Table.{becomes}
 use Rattle.control_block.specs.declared.GuestRelease.{GuestRelease}
 use Rattle.control_block.specs.declared.GuestRelease.the-variants.{Release4, Release5}
@@ -36,7 +37,7 @@ use Rattle.control_endpoint.specs.Completion as completes
 use Rattle.control_endpoint.specs.Submission as submits
 use Rattle.control_questions.specs.Completion.{completionQuestions}
 use Rattle.control_questions.specs.Submission.{hasRoom, reaches, submissionQuestions}
-use Rattle.control_transfer.specs.Data.{inReach, windowBytes, bytesOf}
+use Rattle.control_transfer.specs.Data.{inReach, bytesOf}
 use Rattle.control_transfer.specs.Transfers.{transferAfter, collects}
 use Rattle.examples.specs.Control.{play, onControlFor, setup, dataStage, status}
 use Rattle.examples.specs.In.{Seen, eventData}
@@ -132,7 +133,7 @@ expected f a = record { records = f .before ++ (event (f .code) a ∷ []); answe
 -- the definitions say of every case, under either rule, what document 02 says
 failed-there :
     map (λ (f : Failure). found Release4 f ∷ found Release5 f ∷ []) failures ≡ map (λ (f : Failure). expected f (f .release4) ∷ expected f (f .release5) ∷ []) failures
-unfolding failures found expected event asked getDescriptor chainedStatus unrecognized eventData setup dataStage status onControlFor play submits.submission submits.bytesCollected submits.accepted submits.recordsOf submits.blockAfter submissionQuestions hasRoom reaches collects inReach rangeInside placeOf windowBytes bytesOf becomes transferAfter completes.completion completes.accepted completes.blockBehind completionQuestions endingRecords successes errorAddress firstAt firstNo idsInRange soundBlock soundTrb all cleared walk
+unfolding failures found expected event asked getDescriptor chainedStatus unrecognized eventData setup dataStage status onControlFor play submits.submission submits.bytesCollected submits.accepted submits.recordsOf submits.blockAfter submissionQuestions hasRoom reaches collects inReach rangeInside placeOf inRegion regions.shareAnAddress regions.sharesAt regions.holds bytesAt bytesOf becomes transferAfter completes.completion completes.accepted completes.blockBehind completionQuestions endingRecords successes errorAddress firstAt firstNo idsInRange soundBlock soundTrb all cleared walk
 failed-there = refl
 
 -- a Data Stage TRB counts even where a block, made up, has it behind a Status Stage TRB

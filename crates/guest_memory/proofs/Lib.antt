@@ -1,1 +1,2 @@
+pub mod RegionLaws
 pub mod PlaceLaws

@@ -81,14 +81,16 @@ fn submit(
     log: &mut [u8],
     block: InBlock,
     t: TransferTrb,
-    base: u64,
-    window: &[u8],
+    low_base: u64,
+    low: &[u8],
+    high_base: u64,
+    high: &[u8],
 ) -> InRan
     requires { ⌜ at + maxAnswer ≤ length (now text) ⌝ }
     requires { ⌜ length (now log) ≤ minLog ⌝ }
     ensures { λ r. ⌜ r .end ≤ at + maxAnswer ⌝ }
 {
-    let submitted = in_endpoint::submit_trb(log, block, t, base, window);
+    let submitted = in_endpoint::submit_trb(log, block, t, low_base, low, high_base, high);
     let answer = submitted.answer;
     let after = submitted.block;
     let next = call_answer::put_answer(text, at, answer, submitted.records, log);
@@ -102,8 +104,10 @@ fn complete(
     block: InBlock,
     result: InTrbProcessingResult,
     data: &[u8],
-    base: u64,
-    window: &mut [u8],
+    low_base: u64,
+    low: &mut [u8],
+    high_base: u64,
+    high: &mut [u8],
 ) -> InRan
     requires { ⌜ at + maxAnswer ≤ length (now text) ⌝ }
     requires { ⌜ length (now log) ≤ minLog ⌝ }
@@ -119,8 +123,10 @@ fn complete(
         completed.records,
         log,
         data,
-        base,
-        window,
+        low_base,
+        low,
+        high_base,
+        high,
     );
     answered(text, next, after)
 }
@@ -145,8 +151,10 @@ fn complete_with_result(
     block: InBlock,
     status: DeviceStatus,
     data: &[u8],
-    base: u64,
-    window: &mut [u8],
+    low_base: u64,
+    low: &mut [u8],
+    high_base: u64,
+    high: &mut [u8],
 ) -> InRan
     requires { ⌜ at + maxAnswer ≤ length (now text) ⌝ }
     requires { ⌜ length (now log) ≤ minLog ⌝ }
@@ -162,8 +170,10 @@ fn complete_with_result(
             block,
             result,
             data,
-            base,
-            window,
+            low_base,
+            low,
+            high_base,
+            high,
         ),
     }
 }
@@ -202,22 +212,35 @@ pub fn run(
     block: InBlock,
     call: Call,
     data: &[u8],
-    base: u64,
-    window: &mut [u8],
+    low_base: u64,
+    low: &mut [u8],
+    high_base: u64,
+    high: &mut [u8],
 ) -> InRan
     requires { ⌜ at + maxAnswer ≤ length (now text) ⌝ }
     requires { ⌜ length (now log) ≤ minLog ⌝ }
     ensures { λ r. ⌜ r .end ≤ at + maxAnswer ⌝ }
 {
     match call {
-        Call::Window(_, _) => bad(block, at),
+        Call::Window(_, _, _, _) => bad(block, at),
         Call::Buffers(_, _) => bad(block, at),
         Call::CreateIn(_, _, _) => bad(block, at),
         Call::CreateControl(_, _, _) => bad(block, at),
-        Call::Submit(t) => submit(text, at, log, block, t, base, window),
+        Call::Submit(t) => submit(text, at, log, block, t, low_base, low, high_base, high),
         Call::CompleteWithResult(status, n) => {
             let given = call_script::least(n, data.len());
-            complete_with_result(text, at, log, block, status, &data[..given], base, window)
+            complete_with_result(
+                text,
+                at,
+                log,
+                block,
+                status,
+                &data[..given],
+                low_base,
+                low,
+                high_base,
+                high,
+            )
         }
         Call::CompleteWithout(n) => {
             let given = call_script::least(n, data.len());
@@ -228,8 +251,10 @@ pub fn run(
                 block,
                 InTrbProcessingResult::NoneGiven,
                 &data[..given],
-                base,
-                window,
+                low_base,
+                low,
+                high_base,
+                high,
             )
         }
         Call::Cancel => cancel(text, at, block),

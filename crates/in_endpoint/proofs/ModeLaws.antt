@@ -10,13 +10,21 @@ use Rattle.trb.specs.declared.SlotId.{SlotId}
 use Rattle.trb.specs.declared.TransferTrb.{TransferTrb}
 use Rattle.log.specs.Calls.{Out}
 use Rattle.in_td.specs.declared.InMode.{InMode}
+use Rattle.guest_memory.specs.declared.Regions.{Regions}
 use Rattle.in_block.specs.Blocks.{heldOf}
+use Rattle.guest_memory.specs.declared.Regions.{Regions}
 use Rattle.in_block.specs.Facts.{heldTest, factsOf}
+use Rattle.guest_memory.specs.declared.Regions.{Regions}
 use Rattle.in_block.specs.Outcomes.{outcomeOf, endingOf}
+use Rattle.guest_memory.specs.declared.Regions.{Regions}
 use Rattle.in_block.specs.declared.Ending.{Ending}
+use Rattle.guest_memory.specs.declared.Regions.{Regions}
 use Rattle.in_block.specs.declared.Ending.the-variants.{KeepCollecting, Transfer, ReportUnsupported}
+use Rattle.guest_memory.specs.declared.Regions.{Regions}
 use Rattle.in_block.specs.declared.InBlock.{InBlock}
+use Rattle.guest_memory.specs.declared.Regions.{Regions}
 use Rattle.in_block.specs.declared.Outcome.{Outcome}
+use Rattle.guest_memory.specs.declared.Regions.{Regions}
 use Rattle.in_block.specs.declared.Outcome.the-variants.{Drop, Collect, CompleteLocally, Request}
 use Rattle.in_questions.specs.Questions.{submissionQuestions, completionQuestions}
 use Rattle.in_endpoint.specs.Completion.{transferred, completedAs, completion}
@@ -42,10 +50,10 @@ submitted-keeps Collect b t = refl
 submitted-keeps CompleteLocally b t = refl
 submitted-keeps Request b t = refl
 
-pub submission-keeps : (l : ℕ) (b : InBlock) (t : TransferTrb) (base size : ℕ) → submission l b t base size .state .block .mode ≡ b .mode
+pub submission-keeps : (l : ℕ) (b : InBlock) (t : TransferTrb) (regions : Regions) → submission l b t regions .state .block .mode ≡ b .mode
 unfolding submission
-submission-keeps l b t base size =
-    either (λ (o : Out Submitted). o .state .block .mode) (b .mode) (eqb (firstNo (submissionQuestions l (factsOf b) t base size)) 0) _ _
+submission-keeps l b t regions =
+    either (λ (o : Out Submitted). o .state .block .mode) (b .mode) (eqb (firstNo (submissionQuestions l (factsOf b) t regions)) 0) _ _
     (submitted-keeps (outcomeOf (heldTest (heldOf b)) t) b t) refl
 
 completed-keeps : (x : Ending) (b : InBlock) → completedAs x b .state .block .mode ≡ b .mode

@@ -12,6 +12,7 @@ use Rattle.trb.specs.declared.TransferTrb.{TransferTrb}
 use Rattle.log.specs.Calls.{Out, silent, Meets}
 use Rattle.log.specs.Records.{inRequest}
 use Rattle.log.specs.declared.Record.{Record}
+use Rattle.guest_memory.specs.declared.Regions.{Regions}
 use Rattle.account.specs.Guest.{requested}
 use Rattle.in_block.specs.Blocks.{heldOf, withState, stored, emptied}
 use Rattle.in_block.specs.Facts.{heldTest, factsOf}
@@ -48,12 +49,12 @@ submittedAs Request b t = record {
   records = requestOf (heldOf (stored b t)) (b .«endpoint_id») (b .«slot_id») ∷ [];
 }
 
--- with a log of l bytes, and a guest window of size bytes at base
-unfoldable pub submission : ℕ → InBlock → TransferTrb → ℕ → ℕ → Out Submitted
-submission l b t base size =
-    afterQuestions (submissionQuestions l (factsOf b) t base size) (refused b) (submittedAs (outcomeOf (heldTest (heldOf b)) t) b t)
+-- with a log of l bytes, and guest memory in these regions
+unfoldable pub submission : ℕ → InBlock → TransferTrb → Regions → Out Submitted
+submission l b t regions =
+    afterQuestions (submissionQuestions l (factsOf b) t regions) (refused b) (submittedAs (outcomeOf (heldTest (heldOf b)) t) b t)
 
 -- of a submission with the log l, which returned r and left the log l'
-pub record Submits (b : InBlock) (t : TransferTrb) (base size : ℕ) (l : List ℕ) (r : Submitted) (l' : List ℕ) : Type 0 where
-  pub number : numberOf (r .answer) ≡ firstNo (submissionQuestions (length l) (factsOf b) t base size)
-  pub met : Meets (submission (length l) b t base size) 0 l r l'
+pub record Submits (b : InBlock) (t : TransferTrb) (regions : Regions) (l : List ℕ) (r : Submitted) (l' : List ℕ) : Type 0 where
+  pub number : numberOf (r .answer) ≡ firstNo (submissionQuestions (length l) (factsOf b) t regions)
+  pub met : Meets (submission (length l) b t regions) 0 l r l'

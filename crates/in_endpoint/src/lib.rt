@@ -21,6 +21,7 @@ ghost use Prim.Native.Nat.{_<_, _≤_, _^_};
 ghost use lib.ListN.{length, take};
 ghost use Rattle.trb.specs.Limits.{maxHeld, minLog};
 ghost use Rattle.log.specs.Calls.{Put};
+ghost use Rattle.guest_memory.specs.Regions.{guestRegions};
 ghost use Rattle.account.specs.Guest.{requested};
 ghost use Rattle.in_endpoint.specs.Creation.{Creates, cancelled};
 ghost use Rattle.in_endpoint.specs.Submission.{requestOf, Submits};
@@ -83,16 +84,18 @@ fn log_request(
     log::put_record(log, 0, request);
 }
 
-// Takes a TRB; ports `submit_trb`. Of the guest window only base and length are read. The places are copied once and changed where
+// Takes a TRB; ports `submit_trb`. Of guest memory only the regions' bases and lengths are read. The places are copied once and changed where
 // they lie: copies of the block are most of what a call costs.
 pub fn submit_trb(
     log: &mut [u8],
     block: InBlock,
     t: TransferTrb,
-    window_base: u64,
-    window: &[u8],
+    low_base: u64,
+    low: &[u8],
+    high_base: u64,
+    high: &[u8],
 ) -> Submitted
-    ensures { λ r. ⌜ Submits block t «window_base» (length (now (window .entry))) (now (log .entry)) r (now (log .exit)) ⌝ }
+    ensures { λ r. ⌜ Submits block t (guestRegions «low_base» (length (now (low .entry))) «high_base» (length (now (high .entry)))) (now (log .entry)) r (now (log .exit)) ⌝ }
 {
     let endpoint_id = block.endpoint_id;
     let slot_id = block.slot_id;
@@ -118,7 +121,8 @@ pub fn submit_trb(
         held: held,
         found: found,
     };
-    let answer = in_questions::ask_submission(log.len(), facts, t, window_base, window.len());
+    let regions = guest_memory::guest_regions(low_base, low.len(), high_base, high.len());
+    let answer = in_questions::ask_submission(log.len(), facts, t, regions);
     if !trb::is_accepted(answer) {
         return Submitted {
             answer: answer,

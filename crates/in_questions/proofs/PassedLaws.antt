@@ -14,6 +14,8 @@ use Rattle.trb.specs.declared.TransferTrb.{TransferTrb}
 use Rattle.trb.proofs.QuestionLaws.{yes-first, yes-behind}
 use Rattle.held.specs.Sound.{supported}
 use Rattle.held.specs.declared.EndpointKind.the-variants.{In}
+use Rattle.guest_memory.specs.declared.Regions.{Regions}
+use Rattle.guest_memory.specs.Regions.{shareAnAddress}
 use Rattle.in_block.specs.Facts.{submissionDue, awaitsDevice, soundBlock}
 use Rattle.in_block.specs.declared.BlockFacts.{BlockFacts}
 use Rattle.in_request.specs.Requests.{inGuestMemory}
@@ -26,10 +28,10 @@ pub record PassedSubmission (l : ℕ) (f : BlockFacts) (t : TransferTrb) : Type 
   pub from-memory : supported In (t .variant) ≡ true → immediateOf (t .variant) ≡ false
   pub room : supported In (t .variant) ≡ true → f .held < maxHeld
 
-module _ (l : ℕ) (f : BlockFacts) (t : TransferTrb) (base size : ℕ) where
+module _ (l : ℕ) (f : BlockFacts) (t : TransferTrb) (regions : Regions) where
   -- the questions that are left, number by number
   abbrev from-window : List (Bool × ℕ)
-  from-window = (askedIf (supported In (t .variant)) (inGuestMemory (t .variant) base size), 6) ∷ []
+  from-window = (askedIf (supported In (t .variant)) (inGuestMemory (t .variant) regions), 6) ∷ []
 
   abbrev from-held : List (Bool × ℕ)
   from-held = (askedIf (supported In (t .variant)) (leb (f .held + 1) maxHeld), 5) ∷ from-window
@@ -38,7 +40,7 @@ module _ (l : ℕ) (f : BlockFacts) (t : TransferTrb) (base size : ℕ) where
   from-flag = (askedIf (supported In (t .variant)) (not (immediateOf (t .variant))), 21) ∷ from-held
 
   abbrev from-trb : List (Bool × ℕ)
-  from-trb = trbQuestions (f .held) (t .variant) base size
+  from-trb = trbQuestions (f .held) (t .variant) regions
 
   abbrev from-turn : List (Bool × ℕ)
   from-turn = (submissionDue (f .state), 3) ∷ from-trb
@@ -46,16 +48,20 @@ module _ (l : ℕ) (f : BlockFacts) (t : TransferTrb) (base size : ℕ) where
   abbrev from-block : List (Bool × ℕ)
   from-block = (soundBlock f, 2) ∷ from-turn
 
-  pub passed-submission : firstNo (submissionQuestions l f t base size) ≡ 0 → PassedSubmission l f t
+  abbrev from-regions : List (Bool × ℕ)
+  from-regions = (not (shareAnAddress regions), 13) ∷ from-block
+
+  pub passed-submission : firstNo (submissionQuestions l f t regions) ≡ 0 → PassedSubmission l f t
   unfolding submissionQuestions
   passed-submission none =
-      let block = yes-behind (leb minLog l) 0 from-block none in
+      let apart = yes-behind (leb minLog l) 0 from-regions none in
+      let block = yes-behind (not (shareAnAddress regions)) 12 from-block apart in
       let turn = yes-behind (soundBlock f) 1 from-turn block in
       let trb = yes-behind (submissionDue (f .state)) 2 from-trb turn in
       let flag = yes-behind (leb (transferLength (t .variant)) maxTransferLength) 3 from-flag trb in
       let held = yes-behind (askedIf (supported In (t .variant)) (not (immediateOf (t .variant)))) 20 from-held flag in
       record {
-        log-long = leb-true _ _ (yes-first (leb minLog l) 0 from-block none);
+        log-long = leb-true _ _ (yes-first (leb minLog l) 0 from-regions none);
         sound = yes-first (soundBlock f) 1 from-turn block;
         short = leb-true _ _ (yes-first (leb (transferLength (t .variant)) maxTransferLength) 3 from-flag trb);
         from-memory = λ kind. not-true _ (rw kind at (yes-first (askedIf (supported In (t .variant)) (not (immediateOf (t .variant)))) 20 from-held flag));

@@ -12,26 +12,28 @@ use Rattle.trb.specs.declared.TransferTrb.{TransferTrb}
 use Rattle.trb.specs.declared.TransferTrbVariant.{TransferTrbVariant}
 use Rattle.held.specs.Sound.{supported}
 use Rattle.held.specs.declared.EndpointKind.the-variants.{In}
+use Rattle.guest_memory.specs.declared.Regions.{Regions}
+use Rattle.guest_memory.specs.Regions.{shareAnAddress}
 use Rattle.in_block.specs.Facts.{submissionDue, awaitsDevice, soundBlock}
 use Rattle.in_block.specs.declared.BlockFacts.{BlockFacts}
 use Rattle.in_request.specs.Requests.{inGuestMemory}
 
 -- ---- Submission
 
--- of a TRB behind h others that are held, with a guest window of size bytes at base: is the length of a Normal TRB at most 131,071?
+-- of a TRB behind h others that are held, with guest memory in these regions: is the length of a Normal TRB at most 131,071?
 -- If it would be held, is its data not immediate (02, R-14), are then at most 512 held, and does its range lie in the guest window?
-abbrev pub trbQuestions : ℕ → TransferTrbVariant → ℕ → ℕ → List (Bool × ℕ)
-trbQuestions h v base size =
+abbrev pub trbQuestions : ℕ → TransferTrbVariant → Regions → List (Bool × ℕ)
+trbQuestions h v regions =
     (leb (transferLength v) maxTransferLength, 4)
     ∷ (askedIf (supported In v) (not (immediateOf v)), 21)
     ∷ (askedIf (supported In v) (leb (h + 1) maxHeld), 5)
-    ∷ (askedIf (supported In v) (inGuestMemory v base size), 6)
+    ∷ (askedIf (supported In v) (inGuestMemory v regions), 6)
     ∷ []
 
--- with a log of l bytes: is it at least 32,768 bytes, is the block sound, is a submission due?
-unfoldable pub submissionQuestions : ℕ → BlockFacts → TransferTrb → ℕ → ℕ → List (Bool × ℕ)
-submissionQuestions l f t base size =
-    (leb minLog l, 1) ∷ (soundBlock f, 2) ∷ (submissionDue (f .state), 3) ∷ trbQuestions (f .held) (t .variant) base size
+-- with a log of l bytes: is it at least 32,768 bytes, do the regions share no address (02, R-1), is the block sound, is a submission due?
+unfoldable pub submissionQuestions : ℕ → BlockFacts → TransferTrb → Regions → List (Bool × ℕ)
+submissionQuestions l f t regions =
+    (leb minLog l, 1) ∷ (not (shareAnAddress regions), 13) ∷ (soundBlock f, 2) ∷ (submissionDue (f .state), 3) ∷ trbQuestions (f .held) (t .variant) regions
 
 -- ---- Completion
 

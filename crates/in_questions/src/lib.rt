@@ -1,4 +1,5 @@
 // The questions asked on an IN endpoint, in the order of document 01, over facts of the block and plain values.
+use guest_memory::Regions;
 use held::EndpointKind;
 use in_block::BlockFacts;
 use trb::Answer;
@@ -14,14 +15,9 @@ ghost use Rattle.trb.specs.Questions.{firstNo};
 ghost use Rattle.in_questions.specs.Questions.{trbQuestions, submissionQuestions, isGiven, completionQuestions};
 
 // Questions 4, 21, 5 and 6, of a TRB behind `held` others.
-fn ask_of_trb(
-    held: usize,
-    variant: TransferTrbVariant,
-    window_base: u64,
-    window_size: usize,
-) -> Answer
+fn ask_of_trb(held: usize, variant: TransferTrbVariant, regions: Regions) -> Answer
     requires { ⌜ held ≤ maxHeld ⌝ }
-    ensures { λ r. ⌜ numberOf r ≡ firstNo (trbQuestions held variant «window_base» «window_size») ⌝ }
+    ensures { λ r. ⌜ numberOf r ≡ firstNo (trbQuestions held variant regions) ⌝ }
 {
     if trb::MAX_TRANSFER_LENGTH < trb::transfer_length(variant) {
         return Answer::Refused(Refusal::TransferTooLong);
@@ -35,21 +31,20 @@ fn ask_of_trb(
     if trb::MAX_HELD < held + 1 {
         return Answer::Refused(Refusal::TooManyHeld);
     }
-    if !in_request::in_guest_memory(variant, window_base, window_size) {
+    if !in_request::in_guest_memory(variant, regions) {
         return Answer::Refused(Refusal::OutsideGuestMemory);
     }
     Answer::Accepted
 }
 
-// Questions 1 to 4, 21, 5 and 6, of a log and a guest window of these lengths.
+// Questions 1, 13, 2 to 4, 21, 5 and 6, of a log of this length and guest memory in these regions.
 pub fn ask_submission(
     log_length: usize,
     facts: BlockFacts,
     t: TransferTrb,
-    window_base: u64,
-    window_size: usize,
+    regions: Regions,
 ) -> Answer
-    ensures { λ r. ⌜ numberOf r ≡ firstNo (submissionQuestions «log_length» facts t «window_base» «window_size») ⌝ }
+    ensures { λ r. ⌜ numberOf r ≡ firstNo (submissionQuestions «log_length» facts t regions) ⌝ }
 {
     let state = facts.state;
     let held = facts.held;
@@ -57,13 +52,16 @@ pub fn ask_submission(
     if log_length < trb::MIN_LOG {
         return Answer::Refused(Refusal::BufferTooShort);
     }
+    if guest_memory::share_an_address(regions) {
+        return Answer::Refused(Refusal::RegionsOverlap);
+    }
     if !in_block::is_sound(facts) {
         return Answer::Refused(Refusal::UnsoundBlock);
     }
     if !in_block::submission_due(state) {
         return Answer::Refused(Refusal::OutOfTurn);
     }
-    ask_of_trb(held, variant, window_base, window_size)
+    ask_of_trb(held, variant, regions)
 }
 
 // Is a device result given?

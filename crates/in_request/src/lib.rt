@@ -1,4 +1,5 @@
 // What an IN submission asks of a TRB and of the TD that it ends: its guest range, and S, the bytes to request.
+use guest_memory::Regions;
 use trb::TransferTrb;
 use trb::TransferTrbVariant;
 ghost use mathlib.Core.Path.{_≡_};
@@ -9,16 +10,15 @@ ghost use Rattle.account.specs.Guest.{normalOf, lengthOf, requested};
 ghost use Rattle.in_request.specs.Requests.{inGuestMemory};
 
 // Question 6, of a TRB that an IN endpoint holds.
-pub fn in_guest_memory(variant: TransferTrbVariant, base: u64, size: usize) -> bool
-    ensures { λ r. ⌜ r ≡ inGuestMemory variant base size ⌝ }
+pub fn in_guest_memory(variant: TransferTrbVariant, regions: Regions) -> bool
+    ensures { λ r. ⌜ r ≡ inGuestMemory variant regions ⌝ }
 {
     match variant {
         TransferTrbVariant::SetupStage(_) => true,
         TransferTrbVariant::DataStage(_) => true,
         TransferTrbVariant::StatusStage(_) => true,
         TransferTrbVariant::Normal(normal) => guest_memory::range_inside(
-            base,
-            size,
+            regions,
             normal.data_pointer,
             normal.transfer_length,
         ),

@@ -1,10 +1,10 @@
 -- The layer
---     fn f(log: &mut [u8], collect: &mut [u8], block: &mut Block, x: X, y: Y, bytes: &[u8]) -> Outcome {
---         let r = callee(log, collect, *block, x, y, bytes);
+--     fn f<'a>(log: &mut [u8], collect: &mut [u8], block: &mut Block, x: X, y: Y, low: &'a [u8], z: Z, high: &'a [u8]) -> Outcome {
+--         let r = callee(log, collect, *block, x, y, low, z, high);
 --         *block = r.block;
 --         Outcome { answer: r.answer, records: r.records }
 --     }
--- over any `Layer`, any types X and Y that own only facts and any callee: it ensures whatever follows from what the callee ensures, with
+-- over any `Layer`, any types X, Y and Z that own only facts and any callee: it ensures whatever follows from what the callee ensures, with
 -- the block of the answer left in the place of the one that was lent. A walk of its MIR. Assumes nothing.
 use mathlib.Core.Path.{_≡_, refl}
 use mathlib.Core.List.{List, [], _∷_}
@@ -39,36 +39,37 @@ use denote.Triple.Walked.{Stays, stay-ref, stay-none, stay-none-slice, gave-slic
 use Rattle.lent_laws.proofs.LentLaws.{gives}
 use Rattle.lent_laws.proofs.Layers.{Takes, returning, Ensures, ensuring, Called, Hands, Told, Gone, Walk, Shape, ensures-from, and-local, owned-struct, owned-passed, frees, mirOf, Passed, Layer, slice-passed, called-and-stored, passes-slice, calls-and-stores}
 
-module _ (L : Layer) (X Y : Passed) where
+module _ (L : Layer) (X Y Z : Passed) where
   -- ---- The callee and the layer
 
   abbrev pub passed-on : Takes
-  passed-on = record { lifetimes = 3; params = mutSlice 0 tt (λ _. u8) ∷ mutSlice 1 tt (λ _. u8) ∷ plain (λ _. row (L .Block)) ∷ plain (λ _. X .type) ∷ plain (λ _. Y .type) ∷ shrSlice 2 tt (λ _. u8) ∷ []; kept = (yes, (yes, (yes, (yes, (yes, (yes, tt)))))) }
+  passed-on = record { lifetimes = 3; params = mutSlice 0 tt (λ _. u8) ∷ mutSlice 1 tt (λ _. u8) ∷ plain (λ _. row (L .Block)) ∷ plain (λ _. X .type) ∷ plain (λ _. Y .type) ∷ shrSlice 2 tt (λ _. u8) ∷ plain (λ _. Z .type) ∷ shrSlice 2 tt (λ _. u8) ∷ []; kept = (yes, (yes, (yes, (yes, (yes, (yes, (yes, (yes, tt)))))))) }
 
   abbrev pub by-value : Ended
   by-value = returning passed-on (row (L .Returned))
 
   abbrev pub by-reference : Ended
-  by-reference = returning (record { lifetimes = 4; params = mutSlice 0 tt (λ _. u8) ∷ mutSlice 1 tt (λ _. u8) ∷ mutRef 2 tt (λ _. row (L .Block)) ∷ plain (λ _. X .type) ∷ plain (λ _. Y .type) ∷ shrSlice 3 tt (λ _. u8) ∷ []; kept = (yes, (yes, (yes, (yes, (yes, (yes, tt)))))) }) (row (L .Outcome))
+  by-reference = returning (record { lifetimes = 4; params = mutSlice 0 tt (λ _. u8) ∷ mutSlice 1 tt (λ _. u8) ∷ mutRef 2 tt (λ _. row (L .Block)) ∷ plain (λ _. X .type) ∷ plain (λ _. Y .type) ∷ shrSlice 3 tt (λ _. u8) ∷ plain (λ _. Z .type) ∷ shrSlice 3 tt (λ _. u8) ∷ []; kept = (yes, (yes, (yes, (yes, (yes, (yes, (yes, (yes, tt)))))))) }) (row (L .Outcome))
 
   abbrev pub code : Name → Fn
   code callee = record {
     lifetimes = 4;
     outlives = [];
-    params = 6;
+    params = 8;
     locals = local (mirOf (L .Outcome)) valueLocal ∷ local (sliceTy (tyRef (named 0) mut (tyInt w8))) valueLocal ∷ local (sliceTy (tyRef (named 1) mut (tyInt w8))) valueLocal
         ∷ local (tyRef (named 2) mut (pointee (row (L .Block) .written))) valueLocal ∷ local (X .mir) valueLocal ∷ local (Y .mir) valueLocal
-        ∷ local (sliceTy (tyRef (named 3) imm (tyInt w8))) valueLocal ∷ local (mirOf (L .Returned)) valueLocal ∷ local (tyRef erased mut (tyInt w8)) valueLocal
+        ∷ local (sliceTy (tyRef (named 3) imm (tyInt w8))) valueLocal ∷ local (Z .mir) valueLocal ∷ local (sliceTy (tyRef (named 3) imm (tyInt w8))) valueLocal
+        ∷ local (mirOf (L .Returned)) valueLocal ∷ local (tyRef erased mut (tyInt w8)) valueLocal
         ∷ local (sliceTy (tyRef erased mut (tyInt w8))) valueLocal ∷ local (tyRef erased mut (tyInt w8)) valueLocal ∷ local (sliceTy (tyRef erased mut (tyInt w8))) valueLocal
         ∷ local (mirOf (L .Block)) valueLocal ∷ [];
-    body = slice-passed 1 8 9 (tyInt w8) (slice-passed 2 10 11 (tyInt w8)
-        (called-and-stored L callee (copy (place 9 []) ∷ copy (place 11 []) ∷ copy (place 12 []) ∷ copy (place 4 []) ∷ copy (place 5 []) ∷ copy (place 6 []) ∷ []) 7 3 12 return));
+    body = slice-passed 1 10 11 (tyInt w8) (slice-passed 2 12 13 (tyInt w8)
+        (called-and-stored L callee (copy (place 11 []) ∷ copy (place 13 []) ∷ copy (place 14 []) ∷ copy (place 4 []) ∷ copy (place 5 []) ∷ copy (place 6 []) ∷ copy (place 7 []) ∷ copy (place 8 []) ∷ []) 9 3 14 return));
   }
 
   -- the block is still lent, at its last value; the callee has each `&mut` slice for good
   abbrev pub stayed : Stays (by-reference .signature .params) (by-reference .kept)
   stayed =
-      (gave-slice (0 ∷ []) tt (plain (λ _. u8)), (gave-slice (1 ∷ []) tt (plain (λ _. u8)), (stay-ref (2 ∷ []) tt (plain (λ _. row (L .Block))), (stay-none (λ _. X .type) yes, (stay-none (λ _. Y .type) yes, (stay-none-slice (3 ∷ []) tt (plain (λ _. u8)) yes, tt))))))
+      (gave-slice (0 ∷ []) tt (plain (λ _. u8)), (gave-slice (1 ∷ []) tt (plain (λ _. u8)), (stay-ref (2 ∷ []) tt (plain (λ _. row (L .Block))), (stay-none (λ _. X .type) yes, (stay-none (λ _. Y .type) yes, (stay-none-slice (3 ∷ []) tt (plain (λ _. u8)) yes, (stay-none (λ _. Z .type) yes, (stay-none-slice (3 ∷ []) tt (plain (λ _. u8)) yes, tt))))))))
 
   pub gone : Gone by-reference stayed
   gone M 𝓤 H A W = (
@@ -81,7 +82,13 @@ module _ (L : Layer) (X Y : Passed) where
           goes-none 𝓤 H A W 4 (λ _. X .type) yes (λ κs x f. X .silent x f),
           (
             goes-none 𝓤 H A W 4 (λ _. Y .type) yes (λ κs x f. Y .silent x f),
-            (goes-none-slice 𝓤 H A W 4 (3 ∷ []) tt (plain (λ _. u8)) yes, tt),
+            (
+              goes-none-slice 𝓤 H A W 4 (3 ∷ []) tt (plain (λ _. u8)) yes,
+              (
+                goes-none 𝓤 H A W 4 (λ _. Z .type) yes (λ κs x f. Z .silent x f),
+                (goes-none-slice 𝓤 H A W 4 (3 ∷ []) tt (plain (λ _. u8)) yes, tt),
+              ),
+            ),
           ),
         ),
       ),
@@ -92,16 +99,18 @@ module _ (L : Layer) (X Y : Passed) where
   abbrev pub handed : Hands by-value by-reference
   handed = record {
     lfts = λ κs. (κs .0, (κs .1 .0, (κs .1 .1 .1 .0, tt)));
-    args = λ κs a. (a .0, (a .1 .0, (now (a .1 .1 .0), (a .1 .1 .1 .0, (a .1 .1 .1 .1 .0, (a .1 .1 .1 .1 .1 .0, tt))))));
+    args = λ κs a. (a .0, (a .1 .0, (now (a .1 .1 .0), (a .1 .1 .1 .0, (a .1 .1 .1 .1 .0, (a .1 .1 .1 .1 .1 .0, (a .1 .1 .1 .1 .1 .1 .0, (a .1 .1 .1 .1 .1 .1 .1 .0, tt))))))));
     result = λ κs r. L .outcome r;
-    lasts = λ κs a r ws. (ws .0, (ws .1 .0, (L .block r, (X .last (a .1 .1 .1 .0), (Y .last (a .1 .1 .1 .1 .0), (tt, tt))))));
+    lasts = λ κs a r ws. (ws .0, (ws .1 .0, (L .block r, (X .last (a .1 .1 .1 .0), (Y .last (a .1 .1 .1 .1 .0), (tt, (Z .last (a .1 .1 .1 .1 .1 .1 .0), (tt, tt))))))));
   }
 
   -- ---- The walk
 
   module _ {M : Type 1} (𝓤 : URA M) (H : Heap 𝓤) (A : Atoms 𝓤) (W : Given 𝓤 H A) (E : Ensures 𝓤 by-value) (F : Ensures 𝓤 by-reference) (told : Told 𝓤 handed E F)
-      (κ0 κ1 κ2 κ3 : Lft) (q0 q1 q2 q3 : Share) (log : RefT (List ℕ)) (collect : RefT (List ℕ)) (block : RefT (L .Block .D)) (x : X .type .Denot) (y : Y .type .Denot) (bytes : RefT (List ℕ))
-      (log-room : Room u8 (length (now log))) (collect-room : Room u8 (length (now collect))) (bytes-room : Room u8 (length (now bytes))) (x-is : Is (X .type) x (X .val x ∷ [])) (y-is : Is (Y .type) y (Y .val y ∷ [])) where
+      (κ0 κ1 κ2 κ3 : Lft) (q0 q1 q2 q3 : Share) (log : RefT (List ℕ)) (collect : RefT (List ℕ)) (block : RefT (L .Block .D)) (x : X .type .Denot) (y : Y .type .Denot) (low : RefT (List ℕ))
+      (z : Z .type .Denot) (high : RefT (List ℕ))
+      (log-room : Room u8 (length (now log))) (collect-room : Room u8 (length (now collect))) (low-room : Room u8 (length (now low))) (high-room : Room u8 (length (now high))) (x-is : Is (X .type) x (X .val x ∷ []))
+      (y-is : Is (Y .type) y (Y .val y ∷ [])) (z-is : Is (Z .type) z (Z .val z ∷ [])) where
     abbrev lfts : Lfts 4
     lfts = (κ0, (κ1, (κ2, (κ3, tt))))
 
@@ -109,10 +118,10 @@ module _ (L : Layer) (X Y : Passed) where
     shares = (q0, (q1, (q2, (q3, tt))))
 
     abbrev args : Args (by-reference .signature) lfts
-    args = (log, (collect, (block, (x, (y, (bytes, tt))))))
+    args = (log, (collect, (block, (x, (y, (low, (z, (high, tt))))))))
 
     abbrev vals : Vals (by-reference .signature) lfts
-    vals = (slice-vals log, (slice-vals collect, (ptr-vals block, (X .val x ∷ [], (Y .val y ∷ [], (slice-vals bytes, tt))))))
+    vals = (slice-vals log, (slice-vals collect, (ptr-vals block, (X .val x ∷ [], (Y .val y ∷ [], (slice-vals low, (Z .val z ∷ [], (slice-vals high, tt))))))))
 
     abbrev Walked : Contract 𝓤
     Walked = walkOf 𝓤 H A by-reference stayed (ensuring 𝓤 by-reference F)
@@ -124,15 +133,16 @@ module _ (L : Layer) (X Y : Passed) where
     Callee = Called 𝓤 H A by-value E
 
     abbrev to-callee : Val → Callee .Ghost
-    to-callee v = ((handed .lfts lfts, (q0, (q1, (q3, tt))), tt, handed .args lfts args, (slice-vals log, (slice-vals collect, (v ∷ [], (X .val x ∷ [], (Y .val y ∷ [], (slice-vals bytes, tt))))))), tt)
+    to-callee v = ((handed .lfts lfts, (q0, (q1, (q3, tt))), tt, handed .args lfts args, (slice-vals log, (slice-vals collect, (v ∷ [], (X .val x ∷ [], (Y .val y ∷ [], (slice-vals low, (Z .val z ∷ [], (slice-vals high, tt))))))))), tt)
 
     -- the caller has what the callee asks
     abbrev Handed : List (Item 𝓤)
-    Handed = ‵ (flft κ0 q0) ∷ ‵ (flft κ1 q1) ∷ ‵ (flft κ3 q3) ∷ ‵ (MutSlice (named 0) κ0 u8 .own log (slice-vals log)) ∷ ‵ (MutSlice (named 1) κ1 u8 .own collect (slice-vals collect)) ∷ ‵ (ShrSlice (named 3) κ3 u8 .own bytes (slice-vals bytes)) ∷ []
+    Handed = ‵ (flft κ0 q0) ∷ ‵ (flft κ1 q1) ∷ ‵ (flft κ3 q3) ∷ ‵ (MutSlice (named 0) κ0 u8 .own log (slice-vals log)) ∷ ‵ (MutSlice (named 1) κ1 u8 .own collect (slice-vals collect)) ∷ ‵ (ShrSlice (named 3) κ3 u8 .own low (slice-vals low))
+        ∷ ‵ (ShrSlice (named 3) κ3 u8 .own high (slice-vals high)) ∷ []
 
     hands : (v : Val) → Is (row (L .Block)) (now block) (v ∷ []) → ent 𝓤 (⋆ 𝓤 H A Handed) (Callee .pre (to-callee v))
     hands v is =
-        qed W Handed ∵ nothing ! $ move ! (6 ∷ 0 ∷ []) $ fjoin ! $ owned-passed ! Y y y-is $ fjoin ! $ owned-passed ! X x x-is $ fjoin ! $
+        qed W Handed ∵ nothing ! $ move ! (7 ∷ 0 ∷ []) $ fjoin ! $ owned-passed ! Z z z-is $ fjoin ! $ move ! (6 ∷ 0 ∷ []) $ fjoin ! $ owned-passed ! Y y y-is $ fjoin ! $ owned-passed ! X x x-is $ fjoin ! $
         owned-struct ! (L .Block) (L .block-plain) (now block) _ is $ fjoin ! $ move ! (5 ∷ 0 ∷ []) $ fjoin ! $ move ! (4 ∷ 0 ∷ []) $ fjoin ! $ nothing ! $ move ! (4 ∷ 0 ∷ []) $ join ! $
         move ! (3 ∷ 0 ∷ []) $ join ! $ move ! (2 ∷ 0 ∷ []) $ join ! $ join ! $ frame ! $ done !
 
@@ -142,14 +152,15 @@ module _ (L : Layer) (X Y : Passed) where
       Left =
           raw (E (handed .lfts lfts) (handed .args lfts args) r (atExit by-value (handed .lfts lfts) (handed .args lfts args) ws))
           ∷ ‵ (fobs (name block) (row (L .Block) .coded .code (L .block r))) ∷ ‵ (fbor κ2 (Body (mem (row (L .Block))) (ptr block .0) (ptr block .1) (name block))) ∷ ‵ (flft κ0 q0)
-          ∷ ‵ (flft κ1 q1) ∷ ‵ (flft κ2 q2) ∷ ‵ (flft κ3 q3) ∷ ‵ (ShrSlice (named 3) κ3 u8 .own bytes (slice-vals bytes)) ∷ ‵ (finally u8 (name log) (ws .0))
+          ∷ ‵ (flft κ1 q1) ∷ ‵ (flft κ2 q2) ∷ ‵ (flft κ3 q3) ∷ ‵ (ShrSlice (named 3) κ3 u8 .own low (slice-vals low)) ∷ ‵ (ShrSlice (named 3) κ3 u8 .own high (slice-vals high))
+          ∷ ‵ (finally u8 (name log) (ws .0))
           ∷ ‵ (finally u8 (name collect) (ws .1 .0)) ∷ []
 
       leaves : (u : Val) → length (ws .0) ≡ length (now log) → length (ws .1 .0) ≡ length (now collect) → Is (row (L .Outcome)) (L .outcome r) (u ∷ []) → ent 𝓤 (⋆ 𝓤 H A Left) (Walked .post bound u)
       leaves u log-long collect-long u-is =
-          qed W Left ∵ suffices ! _ (ends-at 𝓤 H A by-reference stayed (ensuring 𝓤 by-reference F) W bound u (L .outcome r) (handed .lasts lfts args r ws) (log-long, (collect-long, (tt, (tt, (tt, (tt, tt))))))) $
+          qed W Left ∵ suffices ! _ (ends-at 𝓤 H A by-reference stayed (ensuring 𝓤 by-reference F) W bound u (L .outcome r) (handed .lasts lfts args r ws) (log-long, (collect-long, (tt, (tt, (tt, (tt, (tt, (tt, tt))))))))) $
           ensures-from ! (told lfts args r ws) $ nothing ! $ move ! (6 ∷ 0 ∷ []) $ join ! $ move ! (5 ∷ 0 ∷ []) $ join ! $ move ! (4 ∷ 0 ∷ []) $ join ! $ move ! (3 ∷ 0 ∷ []) $ join ! $
-          frame ! $ nothing ! $ move ! (3 ∷ 0 ∷ []) $ fjoin ! $ owned-passed ! Y y y-is $ fjoin ! $ owned-passed ! X x x-is $ fjoin ! $ move ! (1 ∷ 2 ∷ []) $
+          frame ! $ nothing ! $ move ! (4 ∷ 0 ∷ []) $ fjoin ! $ owned-passed ! Z z z-is $ fjoin ! $ move ! (3 ∷ 0 ∷ []) $ fjoin ! $ owned-passed ! Y y y-is $ fjoin ! $ owned-passed ! X x x-is $ fjoin ! $ move ! (1 ∷ 2 ∷ []) $
           feqI ! (List Val) (ptr-vals block) (ptr-vals block) refl $ fjoin3 ! $ fjoin ! $ move ! (2 ∷ 0 ∷ []) $ fjoin ! $ move ! (1 ∷ 0 ∷ []) $ fjoin ! $
           owned-struct ! (L .Outcome) (L .outcome-plain) (L .outcome r) _ u-is $ move ! (1 ∷ 0 ∷ []) $ done !
 
@@ -158,37 +169,42 @@ module _ (L : Layer) (X Y : Passed) where
     walk C Λ callee fm known =
         qed W ((‵ (flft κ0 q0) ⊛ ‵ (flft κ1 q1) ⊛ ‵ (flft κ2 q2) ⊛ ‵ (flft κ3 q3) ⊛ ‵ ftrue) ∷ ‵ (owns (typesAt (by-reference .signature .params) lfts) args vals) ∷ []) ∵
         enter ! C Λ (code callee) _ _ $
-        alloc1 ! (λ l0. alloc1 ! (λ l1. alloc1 ! (λ l2. alloc1 ! (λ l3. alloc1 ! (λ l4. alloc1 ! (λ l5. alloc1 ! (λ l6. alloc1 ! (λ l7. alloc1 ! (λ l8. alloc1 ! (λ l9. alloc1 ! (λ l10. alloc1 ! (λ l11. alloc1 ! (λ l12. alloc0 ! $
-        params1 ! $
-        pass1 ! (init ! 22 refl (tt, (tt, (record { fits = log-room .0 }, tt)))) $ pass1 ! (init ! 20 refl (tt, (tt, (record { fits = collect-room .0 }, tt)))) $
-        pass1 ! (init ! 18 refl (tt, tt)) $ pass1 ! (init ! 16 refl (X .typed 𝓤 H A W x _ x-is)) $ pass1 ! (init ! 14 refl (Y .typed 𝓤 H A W y _ y-is)) $
-        pass1 ! (init ! 12 refl (tt, (tt, (record { fits = bytes-room .0 }, tt)))) $ pass0 ! $
+        alloc1 ! (λ l0. alloc1 ! (λ l1. alloc1 ! (λ l2. alloc1 ! (λ l3. alloc1 ! (λ l4. alloc1 ! (λ l5. alloc1 ! (λ l6. alloc1 ! (λ l7. alloc1 ! (λ l8. alloc1 ! (λ l9. alloc1 ! (λ l10. alloc1 ! (λ l11. alloc1 ! (λ l12.
+        alloc1 ! (λ l13. alloc1 ! (λ l14. alloc0 ! $ params1 ! $
+        pass1 ! (init ! 26 refl (tt, (tt, (record { fits = log-room .0 }, tt)))) $ pass1 ! (init ! 24 refl (tt, (tt, (record { fits = collect-room .0 }, tt)))) $
+        pass1 ! (init ! 22 refl (tt, tt)) $ pass1 ! (init ! 20 refl (X .typed 𝓤 H A W x _ x-is)) $ pass1 ! (init ! 18 refl (Y .typed 𝓤 H A W y _ y-is)) $
+        pass1 ! (init ! 16 refl (tt, (tt, (record { fits = low-room .0 }, tt)))) $ pass1 ! (init ! 14 refl (Z .typed 𝓤 H A W z _ z-is)) $
+        pass1 ! (init ! 12 refl (tt, (tt, (record { fits = high-room .0 }, tt)))) $ pass0 ! $
         -- each `&mut` slice is passed on
-        move ! (22 ∷ 8 ∷ 6 ∷ []) $ passes-slice ! refl refl refl log-room $
-        move ! (21 ∷ 7 ∷ 5 ∷ []) $ passes-slice ! refl refl refl collect-room $
+        move ! (26 ∷ 8 ∷ 6 ∷ []) $ passes-slice ! refl refl refl log-room $
+        move ! (25 ∷ 7 ∷ 5 ∷ []) $ passes-slice ! refl refl refl collect-room $
         -- what each parameter owns, and each token, by itself
-        move ! (27 ∷ []) $ fsplit ! $ move ! (1 ∷ []) $ fsplit ! $ move ! (1 ∷ []) $ fsplit ! $ fsplit3 ! $ drop ! $ move ! (2 ∷ []) $ fsplit ! $ drop ! $ fsplit ! $ drop ! $ fsplit ! $
-        use1 W (‵ (ShrSlice (named 3) κ3 u8 .own bytes (slice-vals bytes)) ⊛ ‵ (ShrSlice (named 3) κ3 u8 .own bytes (slice-vals bytes))) (shr-slice-copy 𝓤 H A W (named 3) κ3 u8 .twice bytes (slice-vals bytes)) $
+        move ! (31 ∷ []) $ fsplit ! $ move ! (1 ∷ []) $ fsplit ! $ move ! (1 ∷ []) $ fsplit ! $ fsplit3 ! $ drop ! $ move ! (2 ∷ []) $ fsplit ! $ drop ! $ fsplit ! $ drop ! $ fsplit ! $
+        use1 W (‵ (ShrSlice (named 3) κ3 u8 .own low (slice-vals low)) ⊛ ‵ (ShrSlice (named 3) κ3 u8 .own low (slice-vals low))) (shr-slice-copy 𝓤 H A W (named 3) κ3 u8 .twice low (slice-vals low)) $
+        split ! $ move ! (2 ∷ []) $ fsplit ! $ drop ! $ fsplit ! $
+        use1 W (‵ (ShrSlice (named 3) κ3 u8 .own high (slice-vals high)) ⊛ ‵ (ShrSlice (named 3) κ3 u8 .own high (slice-vals high))) (shr-slice-copy 𝓤 H A W (named 3) κ3 u8 .twice high (slice-vals high)) $
         split ! $ move ! (2 ∷ []) $ drop ! $
-        move ! (32 ∷ []) $ split ! $ move ! (1 ∷ []) $ split ! $ move ! (1 ∷ []) $ split ! $ move ! (1 ∷ []) $ split ! $ move ! (1 ∷ []) $ drop ! $
+        move ! (38 ∷ []) $ split ! $ move ! (1 ∷ []) $ split ! $ move ! (1 ∷ []) $ split ! $ move ! (1 ∷ []) $ split ! $ move ! (1 ∷ []) $ drop ! $
         -- the call
-        move ! (3 ∷ 2 ∷ 0 ∷ 9 ∷ 8 ∷ 4 ∷ []) $ gives W Handed (raw (⋆ 𝓤 H A Handed)) (id⊢ 𝓤 _) $ move ! (0 ∷ 3 ∷ 4 ∷ 1 ∷ 17 ∷ 25 ∷ 29 ∷ 11 ∷ []) $
-        calls-and-stores L passed-on ! E (now block) (ptr block .0) (ptr block .1) refl refl refl refl fm known to-callee hands (λ v. and-local ! 15 refl (and-local ! 12 refl (and-local ! 8 refl (and-local ! 26 refl (and-local ! 24 refl (and-local ! 22 refl (no-more !))))))) (λ v r ws u u-is.
+        move ! (3 ∷ 2 ∷ 0 ∷ 11 ∷ 10 ∷ 6 ∷ 4 ∷ []) $ gives W Handed (raw (⋆ 𝓤 H A Handed)) (id⊢ 𝓤 _) $ move ! (0 ∷ 4 ∷ 5 ∷ 1 ∷ 18 ∷ 30 ∷ 34 ∷ 12 ∷ []) $
+        calls-and-stores L passed-on ! E (now block) (ptr block .0) (ptr block .1) refl refl refl refl fm known to-callee hands
+        (λ v. and-local ! 16 refl (and-local ! 13 refl (and-local ! 8 refl (and-local ! 31 refl (and-local ! 29 refl (and-local ! 27 refl (and-local ! 25 refl (and-local ! 23 refl (no-more !))))))))) (λ v r ws u u-is.
         move ! (8 ∷ []) $ fsplit ! $ fsplit ! $ move ! (1 ∷ []) $ feqL ! (λ log-long. move ! (1 ∷ []) $ fsplit ! $ fsplit ! $ move ! (1 ∷ []) $ feqL ! (λ collect-long. move ! (1 ∷ []) $
         drop ! $
         move ! (10 ∷ []) $ use1 W (‵ (flft κ0 q0) ⊛ ‵ (flft κ1 q1) ⊛ ‵ (flft κ3 q3) ⊛ ‵ ftrue) (id⊢ 𝓤 _) $ split ! $ move ! (1 ∷ []) $ split ! $ move ! (1 ∷ []) $ split ! $ move ! (1 ∷ []) $
         drop ! $
         -- the locals are freed
         returns ! (look ! 10 refl) $
-        keep ! (10 ∷ 35 ∷ 17 ∷ 34 ∷ 14 ∷ 33 ∷ 9 ∷ 32 ∷ 30 ∷ 31 ∷ 28 ∷ 29 ∷ 26 ∷ 27 ∷ 8 ∷ 25 ∷ 18 ∷ 24 ∷ 19 ∷ 23 ∷ 15 ∷ 22 ∷ 16 ∷ 21 ∷ 11 ∷ 20 ∷ 12 ∷ 5 ∷ 6 ∷ 2 ∷ 1 ∷ 7 ∷ 0 ∷ 13 ∷ 4 ∷ 3 ∷ []) $
-        frees ! $ frees ! $ frees ! $ frees ! $ frees ! $ frees ! $ frees ! $ free1 ! $ frees ! $ frees ! $ frees ! $ frees ! $ frees ! $ free0 ! $
-        by ! (leaves r ws u log-long collect-long u-is)))))))))))))))))
+        keep ! (10 ∷ 40 ∷ 18 ∷ 39 ∷ 15 ∷ 38 ∷ 9 ∷ 37 ∷ 35 ∷ 36 ∷ 33 ∷ 34 ∷ 31 ∷ 32 ∷ 29 ∷ 30 ∷ 27 ∷ 28 ∷ 8 ∷ 26 ∷ 19 ∷ 25 ∷ 20 ∷ 24 ∷ 16 ∷ 23 ∷ 17 ∷ 22 ∷ 11 ∷ 21 ∷ 12 ∷ 5 ∷ 6 ∷ 2 ∷ 1 ∷ 7 ∷ 0 ∷ 14 ∷ 13 ∷ 4 ∷ 3 ∷ []) $
+        frees ! $ frees ! $ frees ! $ frees ! $ frees ! $ frees ! $ frees ! $ frees ! $ frees ! $ free1 ! $ frees ! $ frees ! $ frees ! $ frees ! $ frees ! $ free0 ! $
+        by ! (leaves r ws u log-long collect-long u-is)))))))))))))))))))
 
   pub walks : Walk handed stayed code
   walks M 𝓤 H A W E F told C Λ callee fm known =
-      walked 𝓤 H A by-reference stayed (ensuring 𝓤 by-reference F) (WpFn 𝓤 H C Λ (code callee)) (λ κs. (slice-vals, (slice-vals, (ptr-vals, ((λ x. X .val x ∷ []), ((λ x. Y .val x ∷ []), (slice-vals, tt)))))))
-      (λ κs. (mut-slice-tells (named 0) (κs .0) u8, (mut-slice-tells (named 1) (κs .1 .0) u8, (mut-tells (named 2) (κs .1 .1 .0) (row (L .Block)), (X .tells, (Y .tells, (shr-slice-tells (named 3) (κs .1 .1 .1 .0) u8, tt)))))))
-      (λ κs qs bounds a g are. via 𝓤 _ (fst∗ 𝓤 _ (emp 𝓤)) (walk 𝓤 H A W E F told (κs .0) (κs .1 .0) (κs .1 .1 .0) (κs .1 .1 .1 .0) (qs .0) (qs .1 .0) (qs .1 .1 .0) (qs .1 .1 .1 .0) (a .0) (a .1 .0) (a .1 .1 .0) (a .1 .1 .1 .0) (a .1 .1 .1 .1 .0) (a .1 .1 .1 .1 .1 .0) (are .0 .0 .1) (are .1 .0 .0 .1) (are .1 .1 .1 .1 .1 .0 .0 .1) (are .1 .1 .1 .0) (are .1 .1 .1 .1 .0) C Λ callee fm known))
+      walked 𝓤 H A by-reference stayed (ensuring 𝓤 by-reference F) (WpFn 𝓤 H C Λ (code callee)) (λ κs. (slice-vals, (slice-vals, (ptr-vals, ((λ x. X .val x ∷ []), ((λ x. Y .val x ∷ []), (slice-vals, ((λ x. Z .val x ∷ []), (slice-vals, tt)))))))))
+      (λ κs. (mut-slice-tells (named 0) (κs .0) u8, (mut-slice-tells (named 1) (κs .1 .0) u8, (mut-tells (named 2) (κs .1 .1 .0) (row (L .Block)), (X .tells, (Y .tells, (shr-slice-tells (named 3) (κs .1 .1 .1 .0) u8, (Z .tells, (shr-slice-tells (named 3) (κs .1 .1 .1 .0) u8, tt)))))))))
+      (λ κs qs bounds a g are. via 𝓤 _ (fst∗ 𝓤 _ (emp 𝓤)) (walk 𝓤 H A W E F told (κs .0) (κs .1 .0) (κs .1 .1 .0) (κs .1 .1 .1 .0) (qs .0) (qs .1 .0) (qs .1 .1 .0) (qs .1 .1 .1 .0) (a .0) (a .1 .0) (a .1 .1 .0) (a .1 .1 .1 .0) (a .1 .1 .1 .1 .0) (a .1 .1 .1 .1 .1 .0) (a .1 .1 .1 .1 .1 .1 .0)
+      (a .1 .1 .1 .1 .1 .1 .1 .0) (are .0 .0 .1) (are .1 .0 .0 .1) (are .1 .1 .1 .1 .1 .0 .0 .1) (are .1 .1 .1 .1 .1 .1 .1 .0 .0 .1) (are .1 .1 .1 .0) (are .1 .1 .1 .1 .0) (are .1 .1 .1 .1 .1 .1 .0) C Λ callee fm known))
 
   abbrev pub shape : Shape by-value by-reference
   shape = record { hands = handed; stayed = stayed; gone = gone; code = code; walks = walks }

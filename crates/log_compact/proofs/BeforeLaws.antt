@@ -1,7 +1,7 @@
 -- 02, R-9: or up to any event. An event or a request of a log stands in what is kept of it too; what is kept before it is what is kept of the log before it,
 -- and carrying that out leaves the same. Assumes nothing.
 use Prim.Native.Nat.{ℕ, zero, suc, _+_, _-_, _*_, _/_, _%_, _≤_}
-use mathlib.Core.Bool.{true}
+use mathlib.Core.Bool.{true, false}
 use mathlib.Core.Path.{_≡_, refl, sym, ap, _∙_}
 use mathlib.Core.List.{List, [], _∷_, _++_, map, append-assoc}
 use native.Mathlib.Nat.{sub-zero}
@@ -16,16 +16,19 @@ use Rattle.trb.specs.declared.Answer.the-variants.{Accepted}
 use Rattle.trb.proofs.TestLaws.{and-left, and-right}
 use Rattle.log.specs.Records.{decode, recordAt, writeKind}
 use Rattle.log_check.specs.WellFormed.{kindKnown, kindsKnown, wellFormed}
+use Rattle.guest_memory.specs.declared.Regions.{Regions}
+use Rattle.guest_memory.specs.Places.{Memory, regionsOf}
 use Rattle.carry_out.specs.Writes.{recordsOf, writesInRange}
 use Rattle.carry_out.specs.CarryOut.{answerOf, memoryAfter}
 use Rattle.carry_out.proofs.WriteLaws.{writesInRange-cons}
 use Rattle.log_compact.specs.Rows.{rowAt, rowsIn, rowsOf, bytesOf}
 use Rattle.log_compact.specs.Compact.{compacted, otherRows}
 use Rattle.log_compact.specs.Compacting.{keptBytes}
+use Rattle.log_compact.specs.Touching.{touch}
 use Rattle.log_compact.specs.Before.{logBefore, Stays, SameBefore}
 use Rattle.log_compact.proofs.RowLaws.{decode-rowAt, length-rowAt, rowsIn-next, rowsIn-append}
 use Rattle.log_compact.proofs.CompactLaws.{compacted-part, otherRows-compacted}
-use Rattle.log_compact.proofs.LogLaws.{length-bytesOf, recordsOf-rowsOf, allSized-rowsOf, sized, rowsOf-kept, accepted-formed, accepted-inRange, carryOut-kept, memoryAfter-kept}
+use Rattle.log_compact.proofs.LogLaws.{length-bytesOf, recordsOf-rowsOf, allSized-rowsOf, sized, rowsOf-kept, accepted-apart, accepted-formed, accepted-inRange, carryOut-kept, memoryAfter-kept}
 
 -- ---- A log, parted
 
@@ -104,38 +107,40 @@ kinds-front (x ∷ xs) ys e =
     rw (and-left (kindKnown (decode x .kind)) (kindsKnown (map decode (xs ++ ys))) e)
     (kinds-front xs ys (and-right (kindKnown (decode x .kind)) (kindsKnown (map decode (xs ++ ys))) e))
 
-inRange-front : (n base size : ℕ) (xs ys : List (List ℕ)) → writesInRange n base size (map decode (xs ++ ys)) ≡ true → writesInRange n base size (map decode xs) ≡ true
-inRange-front n base size [] ys e = refl
-inRange-front n base size (x ∷ xs) ys e =
-    let both = writesInRange-cons n base size (decode x) (map decode (xs ++ ys)) e in
-    rw (both .0) (inRange-front n base size xs ys (both .1))
+inRange-front : (n : ℕ) (regions : Regions) (xs ys : List (List ℕ)) → writesInRange n regions (map decode (xs ++ ys)) ≡ true → writesInRange n regions (map decode xs) ≡ true
+inRange-front n regions [] ys e = refl
+inRange-front n regions (x ∷ xs) ys e =
+    let both = writesInRange-cons n regions (decode x) (map decode (xs ++ ys)) e in
+    rw (both .0) (inRange-front n regions xs ys (both .1))
 
-module _ (log bytes : List ℕ) (base : ℕ) (memory : List ℕ) (accepted : answerOf log (length bytes) base (length memory) ≡ Accepted)
+module _ (log bytes : List ℕ) (m : Memory) (off : touch (regionsOf m) ≡ false) (accepted : answerOf log (length bytes) (regionsOf m) ≡ Accepted)
     (k : ℕ) (room : recordLength * (k + 1) ≤ length log) where
   recordsOf-parted : recordsOf log ≡ map decode (rowsOf (logBefore k log) ++ (rowAt log k ∷ rowsBehind log k room))
   recordsOf-parted = recordsOf-rowsOf log ∙ ap (map decode) (rowsOf-parted log k room)
 
-  accepted-before : answerOf (logBefore k log) (length bytes) base (length memory) ≡ Accepted
+  accepted-before : answerOf (logBefore k log) (length bytes) (regionsOf m) ≡ Accepted
   unfolding firstNo wellFormed
   accepted-before =
       let size : length (logBefore k log) ≡ recordLength * k = length-take-le (recordLength * k) log (omega arith) in
       let whole : length (logBefore k log) % recordLength ≡ 0 = omega (arith, size) in
-      let formed = accepted-formed log (length bytes) base (length memory) accepted in
+      let formed = accepted-formed log (length bytes) (regionsOf m) accepted in
       let known : kindsKnown (recordsOf log) ≡ true = and-right (eqb (length log % recordLength) 0) (kindsKnown (recordsOf log)) formed in
-      let range = accepted-inRange log (length bytes) base (length memory) accepted in
+      let range = accepted-inRange log (length bytes) (regionsOf m) accepted in
       rw (
+        accepted-apart log (length bytes) (regionsOf m) accepted,
         eq-eqb (length (logBefore k log) % recordLength) 0 whole,
         recordsOf-rowsOf (logBefore k log),
         kinds-front (rowsOf (logBefore k log)) (rowAt log k ∷ rowsBehind log k room) (rw recordsOf-parted at known),
-        inRange-front (length bytes) base (length memory) (rowsOf (logBefore k log)) (rowAt log k ∷ rowsBehind log k room) (rw recordsOf-parted at range),
+        inRange-front (length bytes) (regionsOf m) (rowsOf (logBefore k log)) (rowAt log k ∷ rowsBehind log k room) (rw recordsOf-parted at range),
       )
 
-  -- 02, R-9: carrying out the result up to any event leaves memory as the original does, whenever the original is accepted
-  pub carried-before : (recordAt log k .kind ≡ writeKind → ⊥) → SameBefore log bytes base memory k
+  -- 02, R-9: carrying out the result up to any event leaves memory as the original does, whenever the original is accepted and
+  -- the regions do not touch
+  pub carried-before : (recordAt log k .kind ≡ writeKind → ⊥) → SameBefore log bytes m k
   carried-before other =
       let s = stays log k room other in
       record {
         stays = s;
-        accepted = ap (λ (l : List ℕ). answerOf l (length bytes) base (length memory)) (s .front) ∙ carryOut-kept (logBefore k log) bytes base memory accepted-before;
-        same = ap (λ (l : List ℕ). memoryAfter Accepted l bytes base memory) (s .front) ∙ memoryAfter-kept (logBefore k log) bytes base memory accepted-before;
+        accepted = ap (λ (l : List ℕ). answerOf l (length bytes) (regionsOf m)) (s .front) ∙ carryOut-kept (logBefore k log) bytes m off accepted-before;
+        same = ap (λ (l : List ℕ). memoryAfter Accepted l bytes m) (s .front) ∙ memoryAfter-kept (logBefore k log) bytes m off accepted-before;
       }

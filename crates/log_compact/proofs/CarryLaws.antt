@@ -1,6 +1,9 @@
--- Carrying out compacted records leaves guest memory as carrying out the original does, where the original's writes lie in range. Assumes nothing.
+-- Carrying out compacted records leaves guest memory as carrying out the original does, where the original's writes lie in range and the regions neither
+-- share an address nor touch. Two writes of which the second goes on where the first ends then lie in the same region, and so does the joined one.
+-- Assumes nothing.
 use Prim.Native.Nat.{ℕ, _+_, _-_, _≤_, _<_}
-use mathlib.Core.Bool.{Bool, true, false, _&&_, true≢false}
+use mathlib.Core.Bool.{Bool, true, false, cond, _&&_, true≢false}
+use mathlib.Core.Logic.{_⊎_, inl, inr, ⊎-elim}
 use mathlib.Core.Path.{_≡_, refl, sym, ap, subst, _∙_}
 use mathlib.Core.List.{List, [], _∷_, _++_, map}
 use native.Mathlib.Omega.{arith}
@@ -9,24 +12,29 @@ use lib.ListN.{length, take, drop, length-drop}
 use lib.Seq.{length-take-le, take-add, drop-drop}
 use borrow.Author.Tests.{eq-eqb, lt-ltb, le-leb, leb-true}
 use Rattle.buffers.specs.Patch.{patch}
-use Rattle.buffers.proofs.PatchLaws.{length-patch, patch-append}
-use Rattle.trb.proofs.TestLaws.{and-left, and-right}
+use Rattle.buffers.proofs.PatchLaws.{patch-append}
+use Rattle.trb.proofs.TestLaws.{and-left, and-right, or-false-left, or-false-right, le-or-lt}
 use Rattle.log.specs.declared.Record.{Record}
 use Rattle.log.specs.Records.{decode, writeKind}
-use Rattle.guest_memory.specs.Places.{placeOf, isInside}
-use Rattle.guest_memory.specs.declared.Place.{Place}
-use Rattle.guest_memory.specs.declared.Place.the-variants.{Outside, At}
-use Rattle.guest_memory.proofs.PlaceLaws.{placed, placeOf-in}
-use Rattle.carry_out.specs.Writes.{movesBytes, writeInRange, writesInRange, afterRecord, written}
-use Rattle.carry_out.proofs.WriteLaws.{length-afterRecord}
+use Rattle.guest_memory.specs.declared.Place.the-variants.{Outside, InLow, InHigh}
+use Rattle.guest_memory.specs.declared.Region.{Region}
+use Rattle.guest_memory.specs.declared.Regions.{Regions}
+use Rattle.guest_memory.specs.Regions.{endOf, holds, shareAnAddress}
+use Rattle.guest_memory.specs.Places.{inRegion, placeOf, isInside, Memory, memoryOf, regionsOf}
+use Rattle.guest_memory.proofs.RegionLaws.{holds-in, shares}
+use Rattle.guest_memory.proofs.PlaceLaws.{inRegion-in, inRegion-start, inRegion-end, placeOf-low, placeOf-high, not-in-low}
+use Rattle.carry_out.specs.Writes.{movesBytes, writeInRange, writesInRange, moved, laidAt, afterRecord, written}
+use Rattle.carry_out.proofs.WriteLaws.{regionsOf-afterRecord}
+use Rattle.carry_out.proofs.ByteLaws.{afterRecord-low, afterRecord-high}
 use Rattle.log_compact.specs.Compact.{emptyWrite, joins, compacted}
+use Rattle.log_compact.specs.Touching.{meetsAtEnd, touch}
 use Rattle.log_compact.proofs.JoinLaws.{joinedRecord, joins-told, emptyWrite-some, emptyWrite-none}
 use Rattle.log_compact.proofs.CompactLaws.{AllSized}
 use Rattle.log_compact.proofs.EffectLaws.{Pair, Effect, carried, allInRange, same-compacted}
 
 -- ---- One record
 
-pub movesBytes-some : (r : Record) → r .kind ≡ writeKind → 0 < r .length → movesBytes r ≡ true
+movesBytes-some : (r : Record) → r .kind ≡ writeKind → 0 < r .length → movesBytes r ≡ true
 unfolding movesBytes
 movesBytes-some r kind some = rw (eq-eqb (r .kind) writeKind kind, lt-ltb 0 (r .length) some)
 
@@ -38,136 +46,220 @@ movesBytes-empty r e = rw (emptyWrite-none r e) (off (eqb (r .kind) writeKind))
     off true = refl
     off false = refl
 
--- where a write of some bytes lies
-pub record InRange (n base size : ℕ) (r : Record) : Type 0 where
-  pub end : r .start + r .length ≤ n
-  pub low : base ≤ r .address
-  pub high : r .address + r .length ≤ base + size
-
-pub inRange-told : (n base size : ℕ) (r : Record) → movesBytes r ≡ true → writeInRange n base size r ≡ true → InRange n base size r
-unfolding writeInRange
-inRange-told n base size r moves e =
-    let both = rw moves at e in
-    let end = leb-true (r .start + r .length) n (and-left (leb (r .start + r .length) n) (isInside (placeOf base size (r .address) (r .length))) both) in
-    by (placeOf base size (r .address) (r .length)) refl end
-    (and-right (leb (r .start + r .length) n) (isInside (placeOf base size (r .address) (r .length))) both)
-  where
-    by : (p : Place) → placeOf base size (r .address) (r .length) ≡ p → r .start + r .length ≤ n → isInside p ≡ true → InRange n base size r
-    by Outside e end inside = absurd (true≢false (sym inside))
-    by (At at) e end inside =
-        let p = placed base size (r .address) (r .length) at e in
-        record { end = end; low = p .low; high = omega (arith, p .low, p .index, p .fits) }
-
-pub inRange-tested : (n base size : ℕ) (r : Record) → movesBytes r ≡ true → InRange n base size r → writeInRange n base size r ≡ true
-unfolding writeInRange
-inRange-tested n base size r moves h =
-    rw (moves, le-leb (r .start + r .length) n (h .end), placeOf-in base size (r .address) (r .length) (h .low) (h .high))
-
-afterRecord-patch : (bytes : List ℕ) (base : ℕ) (memory : List ℕ) (r : Record) → movesBytes r ≡ true → InRange (length bytes) base (length memory) r
-    → afterRecord bytes base memory r ≡ patch memory (r .address - base) (take (r .length) (drop (r .start) bytes))
+afterRecord-empty : (bytes : List ℕ) (m : Memory) (r : Record) → emptyWrite r ≡ true → afterRecord bytes m r ≡ m
 unfolding afterRecord
-afterRecord-patch bytes base memory r moves h = rw (moves, placeOf-in base (length memory) (r .address) (r .length) (h .low) (h .high))
+afterRecord-empty bytes m r empty = rw (movesBytes-empty r empty)
 
-pub afterRecord-empty : (bytes : List ℕ) (base : ℕ) (memory : List ℕ) (r : Record) → emptyWrite r ≡ true → afterRecord bytes base memory r ≡ memory
-unfolding afterRecord
-afterRecord-empty bytes base memory r empty = rw (movesBytes-empty r empty)
+-- a write that lies in the device's data, n bytes, and in a region
+record InRange (n : ℕ) (region : Region) (r : Record) : Type 0 where
+  end : r .start + r .length ≤ n
+  inside : inRegion region (r .address) (r .length) ≡ true
 
--- two writes of some bytes, in range
-record Moves (bytes : List ℕ) (base size : ℕ) (p q : Record) : Type 0 where
-  some : 0 < p .length
-  more : 0 < q .length
-  first : InRange (length bytes) base size p
-  second : InRange (length bytes) base size q
+module _ (n : ℕ) (rs : Regions) (r : Record) (moves : movesBytes r ≡ true) where
+  inRange-told : writeInRange n rs r ≡ true → InRange n (rs .low) r ⊎ InRange n (rs .high) r
+  unfolding writeInRange placeOf
+  inRange-told e =
+      let inside = isInside (placeOf rs (r .address) (r .length)) in
+      let both = rw moves at e in
+      by (inRegion (rs .low) (r .address) (r .length)) (inRegion (rs .high) (r .address) (r .length)) refl refl
+      (leb-true (r .start + r .length) n (and-left (leb (r .start + r .length) n) inside both)) (and-right (leb (r .start + r .length) n) inside both)
+    where
+      by : (s t : Bool) → inRegion (rs .low) (r .address) (r .length) ≡ s → inRegion (rs .high) (r .address) (r .length) ≡ t → r .start + r .length ≤ n
+          → isInside (cond s (InLow (r .address - rs .low .«start_addr»)) (cond t (InHigh (r .address - rs .high .«start_addr»)) Outside)) ≡ true
+          → InRange n (rs .low) r ⊎ InRange n (rs .high) r
+      by true t low high end inside = inl (record { end = end; inside = low })
+      by false true low high end inside = inr (record { end = end; inside = high })
+      by false false low high end inside = absurd (true≢false (sym inside))
+
+  inRange-low : InRange n (rs .low) r → writeInRange n rs r ≡ true
+  unfolding writeInRange
+  inRange-low h = rw (moves, le-leb (r .start + r .length) n (h .end), placeOf-low rs (r .address) (r .length) (h .inside))
+
+  inRange-high : shareAnAddress rs ≡ false → 0 < r .length → InRange n (rs .high) r → writeInRange n rs r ≡ true
+  unfolding writeInRange
+  inRange-high apart some h =
+      rw (
+        moves,
+        le-leb (r .start + r .length) n (h .end),
+        placeOf-high rs (r .address) (r .length) (not-in-low rs (r .address) (r .length) apart some (h .inside)) (h .inside),
+      )
 
 -- ---- Two records that are joined
 
 module _ (p q : Record) (on : joins p q ≡ true) (some : 0 < p .length) where
-  pub movesBytes-joined : movesBytes (joinedRecord p q) ≡ true
+  movesBytes-joined : movesBytes (joinedRecord p q) ≡ true
   movesBytes-joined = movesBytes-some (joinedRecord p q) (joins-told p q on .first) (omega arith)
 
-  pub inRange-joined : (n base size : ℕ) → InRange n base size p → InRange n base size q → InRange n base size (joinedRecord p q)
-  inRange-joined n base size first second =
+  inRange-joined : (n : ℕ) (region : Region) → InRange n region p → InRange n region q → InRange n region (joinedRecord p q)
+  inRange-joined n region first second =
       let t = joins-told p q on in
-      record { end = omega (arith, t .start, second .end); low = first .low; high = omega (arith, t .address, second .high) }
+      record {
+        end = omega (arith, t .start, second .end);
+        inside = inRegion-in region (p .address) (p .length + q .length) (inRegion-start region (p .address) (p .length) (first .inside))
+            (omega (arith, t .address, inRegion-end region (q .address) (q .length) (second .inside)));
+      }
 
-  -- one write behind the other is one write
-  pub afterRecord-joined : (bytes : List ℕ) (base : ℕ) (memory : List ℕ) → 0 < q .length → InRange (length bytes) base (length memory) p
-      → InRange (length bytes) base (length memory) q → afterRecord bytes base memory (joinedRecord p q) ≡ afterRecord bytes base (afterRecord bytes base memory p) q
-  afterRecord-joined bytes base memory more first second =
+  -- in a region, one write behind the other is one write
+  patch-joined : (bytes : List ℕ) (base : ℕ) (region : List ℕ) → InRange (length bytes) (record { «start_addr» = base; len = length region }) p
+      → patch region (p .address - base) (moved bytes (joinedRecord p q))
+      ≡ patch (patch region (p .address - base) (moved bytes p)) (q .address - base) (moved bytes q)
+  patch-joined bytes base region first =
       let t = joins-told p q on in
+      let start = inRegion-start (record { «start_addr» = base; len = length region }) (p .address) (p .length) (first .inside) in
+      let end = inRegion-end (record { «start_addr» = base; len = length region }) (p .address) (p .length) (first .inside) in
       let at = p .address - base in
-      let vs = take (p .length) (drop (p .start) bytes) in
-      let ws = take (q .length) (drop (q .start) bytes) in
+      let vs = moved bytes p in
       let count : length vs ≡ p .length = length-take-le (p .length) (drop (p .start) bytes) (simp length-drop (omega (arith, first .end))) in
-      let fits : at + length vs ≤ length memory = omega (arith, count, first .low, first .high) in
-      let size : length (patch memory at vs) ≡ length memory = length-patch memory at vs fits in
-      let index : q .address - base ≡ at + length vs = omega (arith, count, t .address, first .low) in
-      let one : afterRecord bytes base memory p ≡ patch memory at vs = afterRecord-patch bytes base memory p (movesBytes-some p (t .first) some) first in
-      let again : InRange (length bytes) base (length (patch memory at vs)) q = rw size second in
-      let two : afterRecord bytes base (patch memory at vs) q ≡ patch (patch memory at vs) (q .address - base) ws =
-      afterRecord-patch bytes base (patch memory at vs) q (movesBytes-some q (t .second) more) again in
-      let joint : take (p .length + q .length) (drop (p .start) bytes) ≡ vs ++ ws =
+      let fits : at + length vs ≤ length region = omega (arith, count, start, end) in
+      let index : q .address - base ≡ at + length vs = omega (arith, count, t .address, start) in
+      let joint : moved bytes (joinedRecord p q) ≡ vs ++ moved bytes q =
       take-add (p .length) (q .length) (drop (p .start) bytes)
       ∙ ap (λ (l : List ℕ). vs ++ take (q .length) l) (drop-drop (p .length) (p .start) bytes ∙ ap (λ (k : ℕ). drop k bytes) (t .start)) in
-      afterRecord-patch bytes base memory (joinedRecord p q) movesBytes-joined (inRange-joined (length bytes) base (length memory) first second)
-      ∙ ap (patch memory at) joint
-      ∙ sym (ap (λ (m : List ℕ). afterRecord bytes base m q) one ∙ two ∙ ap (λ (k : ℕ). patch (patch memory at vs) k ws) index ∙ patch-append memory at vs ws fits)
+      ap (patch region at) joint ∙ sym (ap (λ (k : ℕ). patch (patch region at vs) k (moved bytes q)) index ∙ patch-append region at vs (moved bytes q) fits)
+
+  unless : {m n : ℕ} → (m ≤ n) ⊎ (n < m) → (n < m → ⊥) → m ≤ n
+  unless which no-less = ⊎-elim (λ h. h) (λ h. absurd (no-less h)) which
+
+  -- regions with no address in common that do not touch: no write in one goes on in the other
+  apart-joined : (r s : Region) → ((a : ℕ) → holds r a ≡ true → holds s a ≡ true → ⊥) → meetsAtEnd r s ≡ false → 0 < q .length
+      → inRegion r (p .address) (p .length) ≡ true → inRegion s (q .address) (q .length) ≡ true → ⊥
+  unfolding meetsAtEnd
+  apart-joined r s none off more first second =
+      let t = joins-told p q on in
+      let start = inRegion-start r (p .address) (p .length) first in
+      let end = inRegion-end r (p .address) (p .length) first in
+      let start' = inRegion-start s (q .address) (q .length) second in
+      let end' = inRegion-end s (q .address) (q .length) second in
+      let ends : endOf r ≤ q .address = unless (le-or-lt (endOf r) (q .address)) (λ h.
+      none (q .address) (holds-in r (q .address) (omega (arith, t .address)) h) (holds-in s (q .address) start' (omega arith))) in
+      let starts : q .address ≤ s .«start_addr» = unless (le-or-lt (q .address) (s .«start_addr»)) (λ h.
+      none (q .address - 1) (holds-in r (q .address - 1) (omega (arith, t .address)) (omega (arith, t .address))) (holds-in s (q .address - 1) (omega arith) (omega arith))) in
+      let meets : endOf r ≡ s .«start_addr» = omega (arith, t .address) in
+      let filled : 0 < r .len = omega arith in
+      let filled' : 0 < s .len = omega arith in
+      true≢false (sym (rw (lt-ltb 0 (r .len) filled, lt-ltb 0 (s .len) filled', eq-eqb (endOf r) (s .«start_addr») meets)) ∙ off)
 
 -- ---- All records
 
--- the effect of carrying out on a window of size bytes
-module _ (bytes : List ℕ) (base size : ℕ) where
-  told : (p q : Record) → Pair p q → writeInRange (length bytes) base size p ≡ true → writeInRange (length bytes) base size q ≡ true → Moves bytes base size p q
-  told p q pair first second =
-      let t = joins-told p q (pair .on) in
-      let some = emptyWrite-some p (t .first) (pair .first) in
-      let more = emptyWrite-some q (t .second) (pair .second) in
-      record {
-        some = some;
-        more = more;
-        first = inRange-told (length bytes) base size p (movesBytes-some p (t .first) some) first;
-        second = inRange-told (length bytes) base size q (movesBytes-some q (t .second) more) second;
-      }
+-- the effect of carrying out on regions that neither share an address nor touch
+module _ (bytes : List ℕ) (rs : Regions) (apart : shareAnAddress rs ≡ false) (off : touch rs ≡ false) where
+  abbrev n : ℕ
+  n = length bytes
 
-  abbrev carryOutEffect : Effect (List ℕ)
+  none : (a : ℕ) → holds (rs .low) a ≡ true → holds (rs .high) a ≡ true → ⊥
+  none a low high = true≢false (sym (shares rs (record { address = a; inLow = low; inHigh = high })) ∙ apart)
+
+  off-low : meetsAtEnd (rs .low) (rs .high) ≡ false
+  unfolding touch
+  off-low = or-false-left (meetsAtEnd (rs .low) (rs .high)) (meetsAtEnd (rs .high) (rs .low)) off
+
+  off-high : meetsAtEnd (rs .high) (rs .low) ≡ false
+  unfolding touch
+  off-high = or-false-right (meetsAtEnd (rs .low) (rs .high)) (meetsAtEnd (rs .high) (rs .low)) off
+
+  -- in the regions of a memory of theirs
+  at-low : (m : Memory) → regionsOf m ≡ rs → (r : Record) → InRange n (rs .low) r → InRange n (regionsOf m .low) r
+  at-low m sound r h = subst (λ (x : Regions). InRange n (x .low) r) (sym sound) h
+
+  at-high : (m : Memory) → regionsOf m ≡ rs → (r : Record) → InRange n (rs .high) r → InRange n (regionsOf m .high) r
+  at-high m sound r h = subst (λ (x : Regions). InRange n (x .high) r) (sym sound) h
+
+  apart-in : (m : Memory) → regionsOf m ≡ rs → shareAnAddress (regionsOf m) ≡ false
+  apart-in m sound = ap shareAnAddress sound ∙ apart
+
+  module _ (p q : Record) (pair : Pair p q) (first : writeInRange n rs p ≡ true) (second : writeInRange n rs q ≡ true) where
+    some : 0 < p .length
+    some = emptyWrite-some p (joins-told p q (pair .on) .first) (pair .first)
+
+    more : 0 < q .length
+    more = emptyWrite-some q (joins-told p q (pair .on) .second) (pair .second)
+
+    moves : movesBytes p ≡ true
+    moves = movesBytes-some p (joins-told p q (pair .on) .first) some
+
+    moves-too : movesBytes q ≡ true
+    moves-too = movesBytes-some q (joins-told p q (pair .on) .second) more
+
+    -- both lie in one region
+    together : (InRange n (rs .low) p × InRange n (rs .low) q) ⊎ (InRange n (rs .high) p × InRange n (rs .high) q)
+    together = by (inRange-told n rs p moves first) (inRange-told n rs q moves-too second)
+      where
+        by : InRange n (rs .low) p ⊎ InRange n (rs .high) p → InRange n (rs .low) q ⊎ InRange n (rs .high) q
+            → (InRange n (rs .low) p × InRange n (rs .low) q) ⊎ (InRange n (rs .high) p × InRange n (rs .high) q)
+        by (inl a) (inl b) = inl (a, b)
+        by (inl a) (inr b) = absurd (apart-joined p q (pair .on) some (rs .low) (rs .high) none off-low more (a .inside) (b .inside))
+        by (inr a) (inl b) = absurd (apart-joined p q (pair .on) some (rs .high) (rs .low) (λ a high low. none a low high) off-high more (a .inside) (b .inside))
+        by (inr a) (inr b) = inr (a, b)
+
+    joined-inRange : writeInRange n rs (joinedRecord p q) ≡ true
+    joined-inRange =
+        ⊎-elim
+        (λ h. inRange-low n rs (joinedRecord p q) (movesBytes-joined p q (pair .on) some) (inRange-joined p q (pair .on) some n (rs .low) (h .0) (h .1)))
+        (λ h.
+        inRange-high n rs (joinedRecord p q) (movesBytes-joined p q (pair .on) some) apart (omega (arith, some))
+        (inRange-joined p q (pair .on) some n (rs .high) (h .0) (h .1)))
+        together
+
+    joined-low : InRange n (rs .low) p → InRange n (rs .low) q → (m : Memory) → regionsOf m ≡ rs
+        → afterRecord bytes m (joinedRecord p q) ≡ afterRecord bytes (afterRecord bytes m p) q
+    joined-low a b m sound =
+        let mid = afterRecord bytes m p in
+        let both = inRange-joined p q (pair .on) some n (rs .low) a b in
+        let one = afterRecord-low bytes m p moves (at-low m sound p a .inside) in
+        let two = afterRecord-low bytes mid q moves-too (at-low mid (regionsOf-afterRecord bytes m p ∙ sound) q b .inside) in
+        afterRecord-low bytes m (joinedRecord p q) (movesBytes-joined p q (pair .on) some) (at-low m sound (joinedRecord p q) both .inside)
+        ∙ ap (λ (l : List ℕ). memoryOf (m .lowBase) l (m .highBase) (m .high)) (patch-joined p q (pair .on) some bytes (m .lowBase) (m .low) (at-low m sound p a))
+        ∙ sym (two ∙ ap (λ (x : Memory). laidAt (InLow (q .address - x .lowBase)) (moved bytes q) x) one)
+
+    joined-high : InRange n (rs .high) p → InRange n (rs .high) q → (m : Memory) → regionsOf m ≡ rs
+        → afterRecord bytes m (joinedRecord p q) ≡ afterRecord bytes (afterRecord bytes m p) q
+    joined-high a b m sound =
+        let mid = afterRecord bytes m p in
+        let sound-mid = regionsOf-afterRecord bytes m p ∙ sound in
+        let both = inRange-joined p q (pair .on) some n (rs .high) a b in
+        let longer : 0 < joinedRecord p q .length = omega (arith, some) in
+        let one = afterRecord-high bytes m p (apart-in m sound) moves some (at-high m sound p a .inside) in
+        let two = afterRecord-high bytes mid q (apart-in mid sound-mid) moves-too more (at-high mid sound-mid q b .inside) in
+        afterRecord-high bytes m (joinedRecord p q) (apart-in m sound) (movesBytes-joined p q (pair .on) some) longer (at-high m sound (joinedRecord p q) both .inside)
+        ∙ ap (λ (l : List ℕ). memoryOf (m .lowBase) (m .low) (m .highBase) l) (patch-joined p q (pair .on) some bytes (m .highBase) (m .high) (at-high m sound p a))
+        ∙ sym (two ∙ ap (λ (x : Memory). laidAt (InHigh (q .address - x .highBase)) (moved bytes q) x) one)
+
+  abbrev carryOutEffect : Effect Memory
   carryOutEffect = record {
-    step = afterRecord bytes base;
-    inRange = writeInRange (length bytes) base size;
-    Sound = λ (memory : List ℕ). length memory ≡ size;
-    keeps = λ memory r sound. length-afterRecord bytes base memory r ∙ sound;
-    empty = λ memory r e. afterRecord-empty bytes base memory r e;
-    joinedInRange = λ p q pair first second.
-        let m = told p q pair first second in
-        inRange-tested (length bytes) base size (joinedRecord p q) (movesBytes-joined p q (pair .on) (m .some))
-        (inRange-joined p q (pair .on) (m .some) (length bytes) base size (m .first) (m .second));
-    joinedStep = λ memory p q sound pair first second.
-        let m = told p q pair first second in
-        afterRecord-joined p q (pair .on) (m .some) bytes base memory (m .more)
-        (subst (λ (n : ℕ). InRange (length bytes) base n p) (sym sound) (m .first))
-        (subst (λ (n : ℕ). InRange (length bytes) base n q) (sym sound) (m .second));
+    step = afterRecord bytes;
+    inRange = writeInRange n rs;
+    Sound = λ (m : Memory). regionsOf m ≡ rs;
+    keeps = λ m r sound. regionsOf-afterRecord bytes m r ∙ sound;
+    empty = λ m r e. afterRecord-empty bytes m r e;
+    joinedInRange = joined-inRange;
+    joinedStep = λ m p q sound pair first second.
+        ⊎-elim
+        (λ h. joined-low p q pair first second (h .0) (h .1) m sound)
+        (λ h. joined-high p q pair first second (h .0) (h .1) m sound)
+        (together p q pair first second);
   }
 
-  written-carried : (memory : List ℕ) (rs : List Record) → carried carryOutEffect memory rs ≡ written bytes base memory rs
-  written-carried memory [] = refl
-  written-carried memory (r ∷ rs) = written-carried (afterRecord bytes base memory r) rs
+  written-carried : (m : Memory) (ss : List Record) → carried carryOutEffect m ss ≡ written bytes m ss
+  written-carried m [] = refl
+  written-carried m (r ∷ ss) = written-carried (afterRecord bytes m r) ss
 
-  writesInRange-all : (rs : List Record) → allInRange carryOutEffect rs ≡ writesInRange (length bytes) base size rs
+  writesInRange-all : (ss : List Record) → allInRange carryOutEffect ss ≡ writesInRange n rs ss
   writesInRange-all [] = refl
-  writesInRange-all (r ∷ rs) = ap (λ (b : Bool). writeInRange (length bytes) base size r && b) (writesInRange-all rs)
+  writesInRange-all (r ∷ ss) = ap (λ (b : Bool). writeInRange n rs r && b) (writesInRange-all ss)
 
 -- of rows carried out on a memory: those of ss lie in range, and leave what those of rs leave
-pub record SameCarried (bytes : List ℕ) (base : ℕ) (memory : List ℕ) (rs ss : List (List ℕ)) : Type 0 where
-  pub inRange : writesInRange (length bytes) base (length memory) (map decode ss) ≡ true
-  pub same : written bytes base memory (map decode ss) ≡ written bytes base memory (map decode rs)
+pub record SameCarried (bytes : List ℕ) (m : Memory) (rs ss : List (List ℕ)) : Type 0 where
+  pub inRange : writesInRange (length bytes) (regionsOf m) (map decode ss) ≡ true
+  pub same : written bytes m (map decode ss) ≡ written bytes m (map decode rs)
 
-module _ (bytes : List ℕ) (base : ℕ) where
-  -- 02, R-9: carrying out the result leaves memory as the original does, whenever the original is accepted
-  pub carried-compacted : (memory : List ℕ) (rs : List (List ℕ)) → AllSized rs → writesInRange (length bytes) base (length memory) (map decode rs) ≡ true
-      → SameCarried bytes base memory rs (compacted rs)
-  carried-compacted memory rs sized e =
-      let size = length memory in
-      let h = same-compacted (carryOutEffect bytes base size) memory rs refl sized (writesInRange-all bytes base size (map decode rs) ∙ e) in
-      record {
-        inRange = sym (writesInRange-all bytes base size (map decode (compacted rs))) ∙ h .range;
-        same = sym (written-carried bytes base size memory (map decode (compacted rs))) ∙ h .effect ∙ written-carried bytes base size memory (map decode rs);
-      }
+-- 02, R-9: carrying out the result leaves memory as the original does, whenever the original is accepted and the regions do not touch
+pub carried-compacted : (bytes : List ℕ) (m : Memory) (rs : List (List ℕ)) → shareAnAddress (regionsOf m) ≡ false → touch (regionsOf m) ≡ false → AllSized rs
+    → writesInRange (length bytes) (regionsOf m) (map decode rs) ≡ true → SameCarried bytes m rs (compacted rs)
+carried-compacted bytes m rs apart off sized e =
+    let effect = carryOutEffect bytes (regionsOf m) apart off in
+    let h = same-compacted effect m rs refl sized (writesInRange-all bytes (regionsOf m) apart off (map decode rs) ∙ e) in
+    record {
+      inRange = sym (writesInRange-all bytes (regionsOf m) apart off (map decode (compacted rs))) ∙ h .range;
+      same = sym (written-carried bytes (regionsOf m) apart off m (map decode (compacted rs))) ∙ h .effect
+          ∙ written-carried bytes (regionsOf m) apart off m (map decode rs);
+    }

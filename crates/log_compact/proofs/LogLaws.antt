@@ -1,6 +1,6 @@
 -- The same of logs as bytes: the bytes kept are a log, compacting it again changes nothing, and carry-out answers and leaves the same. Assumes nothing.
 use Prim.Native.Nat.{ℕ, zero, suc, _-_, _*_, _/_, _%_, _≤_}
-use mathlib.Core.Bool.{Bool, true, false, cond, true≢false}
+use mathlib.Core.Bool.{Bool, true, false, not, cond, true≢false}
 use mathlib.Core.Path.{_≡_, refl, sym, ap, _∙_}
 use mathlib.Core.List.{List, [], _∷_, map, append-nil}
 use native.Mathlib.Omega.{arith}
@@ -21,6 +21,9 @@ use Rattle.log.specs.declared.Record.{Record}
 use Rattle.log.specs.Records.{decode}
 use Rattle.log.specs.Logs.{recordsIn}
 use Rattle.log_check.specs.WellFormed.{kindKnown, kindsKnown, wellFormed}
+use Rattle.guest_memory.specs.declared.Regions.{Regions}
+use Rattle.guest_memory.specs.Regions.{shareAnAddress}
+use Rattle.guest_memory.specs.Places.{Memory, regionsOf}
 use Rattle.carry_out.specs.Writes.{recordsOf, writesInRange, written}
 use Rattle.carry_out.specs.CarryOut.{carryOutQuestions, memoryAfter, Carried}
 use Rattle.carry_out.specs.CarryOut as carryOut
@@ -28,6 +31,7 @@ use Rattle.log_compact.specs.declared.CompactAnswer.the-variants.{Kept, 
 use Rattle.log_compact.specs.Rows.{rowsIn, rowsOf, bytesOf}
 use Rattle.log_compact.specs.Compact.{joined, withoutEmpty, joinFrom, joinAll, compacted}
 use Rattle.log_compact.specs.Compacting.{keptBytes, paddedTo, answerOf, logAfter}
+use Rattle.log_compact.specs.Touching.{touch}
 use Rattle.log_compact.proofs.RowLaws.{decode-take, length-rowsIn}
 use Rattle.log_compact.proofs.JoinLaws.{decode-joined, length-joined}
 use Rattle.log_compact.proofs.CompactLaws.{joinFrom-cases, withoutEmpty-cases, AllSized, allSized-rowsIn, allSized-whole, allWhole-withoutEmpty, allWhole-compacted, compacted-compacted}
@@ -132,47 +136,62 @@ module _ (log : List ℕ) (ok : wellFormed log ≡ true) where
 
 -- ---- Carry-out
 
--- an accepted carry-out has answered both questions with yes
-module _ (log : List ℕ) (n base size : ℕ) (accepted : carryOut.answerOf log n base size ≡ Accepted) where
-  none : firstNo (carryOutQuestions log n base size) ≡ 0
-  none = by (eqb (firstNo (carryOutQuestions log n base size)) 0) refl accepted
+-- an accepted carry-out has answered its questions with yes
+module _ (log : List ℕ) (n : ℕ) (regions : Regions) (accepted : carryOut.answerOf log n regions ≡ Accepted) where
+  none : firstNo (carryOutQuestions log n regions) ≡ 0
+  none = by (eqb (firstNo (carryOutQuestions log n regions)) 0) refl accepted
     where
-      by : (t : Bool) → eqb (firstNo (carryOutQuestions log n base size)) 0 ≡ t
-          → cond t Accepted (answer.Refused (refusalOf (firstNo (carryOutQuestions log n base size)))) ≡ Accepted → firstNo (carryOutQuestions log n base size) ≡ 0
-      by true e a = eqb-true (firstNo (carryOutQuestions log n base size)) 0 e
+      by : (t : Bool) → eqb (firstNo (carryOutQuestions log n regions)) 0 ≡ t
+          → cond t Accepted (answer.Refused (refusalOf (firstNo (carryOutQuestions log n regions)))) ≡ Accepted → firstNo (carryOutQuestions log n regions) ≡ 0
+      by true e a = eqb-true (firstNo (carryOutQuestions log n regions)) 0 e
       by false e a = absurd (true≢false (sym (ap isAccepted a)))
 
+  abbrev from-range : List (Bool × ℕ)
+  from-range = (writesInRange n regions (recordsOf log), 11) ∷ []
+
+  formed : firstNo ((wellFormed log, 10) ∷ from-range) ≡ 0
+  formed = yes-behind (not (shareAnAddress regions)) 12 ((wellFormed log, 10) ∷ from-range) none
+
+  pub accepted-apart : shareAnAddress regions ≡ false
+  accepted-apart = not-yes (shareAnAddress regions) (yes-first (not (shareAnAddress regions)) 12 ((wellFormed log, 10) ∷ from-range) none)
+    where
+      not-yes : (t : Bool) → not t ≡ true → t ≡ false
+      not-yes true e = sym e
+      not-yes false e = refl
+
   pub accepted-formed : wellFormed log ≡ true
-  accepted-formed = yes-first (wellFormed log) 9 ((writesInRange n base size (recordsOf log), 11) ∷ []) none
+  accepted-formed = yes-first (wellFormed log) 9 from-range formed
 
-  pub accepted-inRange : writesInRange n base size (recordsOf log) ≡ true
-  accepted-inRange =
-      yes-first (writesInRange n base size (recordsOf log)) 10 [] (yes-behind (wellFormed log) 9 ((writesInRange n base size (recordsOf log), 11) ∷ []) none)
+  pub accepted-inRange : writesInRange n regions (recordsOf log) ≡ true
+  accepted-inRange = yes-first (writesInRange n regions (recordsOf log)) 10 [] (yes-behind (wellFormed log) 9 from-range formed)
 
--- 02, R-9: carrying out the result leaves memory as the original does, whenever the original is accepted
-module _ (log bytes : List ℕ) (base : ℕ) (memory : List ℕ) (accepted : carryOut.answerOf log (length bytes) base (length memory) ≡ Accepted) where
-  same : SameCarried bytes base memory (rowsOf log) (compacted (rowsOf log))
+-- 02, R-9: carrying out the result leaves memory as the original does, whenever the original is accepted and the regions do not touch
+module _ (log bytes : List ℕ) (m : Memory) (off : touch (regionsOf m) ≡ false) (accepted : carryOut.answerOf log (length bytes) (regionsOf m) ≡ Accepted) where
+  apart : shareAnAddress (regionsOf m) ≡ false
+  apart = accepted-apart log (length bytes) (regionsOf m) accepted
+
+  same : SameCarried bytes m (rowsOf log) (compacted (rowsOf log))
   same =
-      carried-compacted bytes base memory (rowsOf log) (allSized-rowsOf log)
-      (rw (recordsOf-rowsOf log) at (accepted-inRange log (length bytes) base (length memory) accepted))
+      carried-compacted bytes m (rowsOf log) apart off (allSized-rowsOf log)
+      (rw (recordsOf-rowsOf log) at (accepted-inRange log (length bytes) (regionsOf m) accepted))
 
-  pub carryOut-kept : carryOut.answerOf (keptBytes log) (length bytes) base (length memory) ≡ Accepted
+  pub carryOut-kept : carryOut.answerOf (keptBytes log) (length bytes) (regionsOf m) ≡ Accepted
   unfolding firstNo
-  carryOut-kept = rw (wellFormed-kept log (accepted-formed log (length bytes) base (length memory) accepted), recordsOf-kept log, same .inRange)
+  carryOut-kept = rw (apart, wellFormed-kept log (accepted-formed log (length bytes) (regionsOf m) accepted), recordsOf-kept log, same .inRange)
 
-  pub memoryAfter-kept : memoryAfter Accepted (keptBytes log) bytes base memory ≡ memoryAfter Accepted log bytes base memory
-  memoryAfter-kept = ap (written bytes base memory) (recordsOf-kept log) ∙ same .same ∙ ap (written bytes base memory) (sym (recordsOf-rowsOf log))
+  pub memoryAfter-kept : memoryAfter Accepted (keptBytes log) bytes m ≡ memoryAfter Accepted log bytes m
+  memoryAfter-kept = ap (written bytes m) (recordsOf-kept log) ∙ same .same ∙ ap (written bytes m) (sym (recordsOf-rowsOf log))
 
 -- of two calls of carry_out, with a log and with what is kept of it
-pub carried-kept : {log bytes : List ℕ} {base : ℕ} {memory : List ℕ} {r r' : Answer} {m m' : List ℕ} → Carried log bytes base memory r m → isAccepted r ≡ true
-    → Carried (keptBytes log) bytes base memory r' m' → (r' ≡ Accepted) × (m' ≡ m)
-carried-kept {log} {bytes} {base} {memory} {r} {r'} {m} {m'} h accepts k =
+pub carried-kept : {log bytes : List ℕ} {m : Memory} {r r' : Answer} {after after' : Memory} → touch (regionsOf m) ≡ false → Carried log bytes m r after
+    → isAccepted r ≡ true → Carried (keptBytes log) bytes m r' after' → (r' ≡ Accepted) × (after' ≡ after)
+carried-kept {log} {bytes} {m} {r} {r'} {after} {after'} off h accepts k =
     let taken : r ≡ Accepted = accepted-is r accepts in
-    let accepted : carryOut.answerOf log (length bytes) base (length memory) ≡ Accepted = sym (h .answer) ∙ taken in
-    let kept : r' ≡ Accepted = k .answer ∙ carryOut-kept log bytes base memory accepted in (
+    let accepted : carryOut.answerOf log (length bytes) (regionsOf m) ≡ Accepted = sym (h .answer) ∙ taken in
+    let kept : r' ≡ Accepted = k .answer ∙ carryOut-kept log bytes m off accepted in (
       kept,
-      k .after ∙ ap (λ (a : Answer). memoryAfter a (keptBytes log) bytes base memory) kept ∙ memoryAfter-kept log bytes base memory accepted
-          ∙ sym (h .after ∙ ap (λ (a : Answer). memoryAfter a log bytes base memory) taken),
+      k .after ∙ ap (λ (a : Answer). memoryAfter a (keptBytes log) bytes m) kept ∙ memoryAfter-kept log bytes m off accepted
+          ∙ sym (h .after ∙ ap (λ (a : Answer). memoryAfter a log bytes m) taken),
     )
 
 -- ---- No more rows than there were

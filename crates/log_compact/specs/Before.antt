@@ -5,6 +5,7 @@ use mathlib.Core.List.{List}
 use lib.ListN.{length, take}
 use Rattle.trb.specs.Limits.{recordLength}
 use Rattle.trb.specs.declared.Answer.the-variants.{Accepted}
+use Rattle.guest_memory.specs.Places.{Memory, regionsOf}
 use Rattle.carry_out.specs.CarryOut.{answerOf, memoryAfter}
 use Rattle.log_compact.specs.Rows.{rowAt, rowsOf}
 use Rattle.log_compact.specs.Compact.{otherRows}
@@ -23,7 +24,7 @@ pub record Stays (log : List ℕ) (k : ℕ) : Type 0 where
   pub others : otherRows (rowsOf (logBefore place (keptBytes log))) ≡ otherRows (rowsOf (logBefore k log))
 
 -- of the log before record number k, and what is kept before it: the latter is accepted, and leaves the same memory
-pub record SameBefore (log bytes : List ℕ) (base : ℕ) (memory : List ℕ) (k : ℕ) : Type 0 where
+pub record SameBefore (log bytes : List ℕ) (m : Memory) (k : ℕ) : Type 0 where
   pub stays : Stays log k
-  pub accepted : answerOf (logBefore (stays .place) (keptBytes log)) (length bytes) base (length memory) ≡ Accepted
-  pub same : memoryAfter Accepted (logBefore (stays .place) (keptBytes log)) bytes base memory ≡ memoryAfter Accepted (logBefore k log) bytes base memory
+  pub accepted : answerOf (logBefore (stays .place) (keptBytes log)) (length bytes) (regionsOf m) ≡ Accepted
+  pub same : memoryAfter Accepted (logBefore (stays .place) (keptBytes log)) bytes m ≡ memoryAfter Accepted (logBefore k log) bytes m

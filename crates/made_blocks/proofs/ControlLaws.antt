@@ -31,6 +31,8 @@ use Rattle.trb.specs.declared.TransferTrbVariant.the-variants.{SetupStage, Data
 use Rattle.trb.proofs.QuestionLaws.{yes-first, yes-behind}
 use Rattle.log.specs.Calls.{Out}
 use Rattle.walks.specs.All.{all}
+use Rattle.guest_memory.specs.declared.Regions.{Regions}
+use Rattle.guest_memory.specs.Regions.{shareAnAddress}
 use Rattle.phase_table.specs.declared.Outcome.{Outcome}
 use Rattle.phase_table.specs.declared.Outcome.the-variants as outcome
 use Rattle.phase_table.specs.Outcomes.{holds, restarts, phaseAfter, stateAfter}
@@ -92,13 +94,14 @@ pub record Kept (b : ControlBlock) (n : ℕ) : Type 0 where
 
 -- ---- What two questions tell of a call that passes them
 
-submission-due : (l c : ℕ) (f : BlockFacts) (o : Outcome) (t : TransferTrb) (base size : ℕ) → firstNo (submissionQuestions l c f o t base size) ≡ 0
+submission-due : (l c : ℕ) (f : BlockFacts) (o : Outcome) (t : TransferTrb) (regions : Regions) → firstNo (submissionQuestions l c f o t regions) ≡ 0
     → submissionDue (f .state) ≡ true
 unfolding submissionQuestions
-submission-due l c f o t base size none =
-    let block = yes-behind (longEnough l c) 0 (submission-questions.from-block f o t base size) none in
-    let turn = yes-behind (soundBlock f) 1 (submission-questions.from-turn f o t base size) block in
-    yes-first (submissionDue (f .state)) 2 (submission-questions.from-length f o t base size) turn
+submission-due l c f o t regions none =
+    let apart = yes-behind (longEnough l c) 0 (submission-questions.from-regions f o t regions) none in
+    let block = yes-behind (not (shareAnAddress regions)) 12 (submission-questions.from-block f o t regions) apart in
+    let turn = yes-behind (soundBlock f) 1 (submission-questions.from-turn f o t regions) block in
+    yes-first (submissionDue (f .state)) 2 (submission-questions.from-length f o t regions) turn
 
 pub result-agrees : (l : ℕ) (f : BlockFacts) (r : ControlRequestProcessingResult) (m : ℕ) → firstNo (completionQuestions l f r m) ≡ 0
     → agree (isGiven r) (awaitsDevice (f .state)) ≡ true
@@ -244,17 +247,17 @@ module _ (b : ControlBlock) (n : ℕ) (k : Kept b n) where
       input = input-held (holds o) refl;
     }
 
-  kept-submission : (l c : ℕ) (t : TransferTrb) (base size : ℕ) → Kept (submitting.submission l c b t base size .state .block) (askedAfter (submit l c t base size) b n)
+  kept-submission : (l c : ℕ) (t : TransferTrb) (regions : Regions) → Kept (submitting.submission l c b t regions .state .block) (askedAfter (submit l c t regions) b n)
   unfolding submitting.submission submitting.accepted
-  kept-submission l c t base size =
+  kept-submission l c t regions =
       by-questions (λ (r : Out Submitted). Kept (r .state .block) (cond (isAccepted (r .state .answer) && holds o) (askedBy (t .variant) n) n))
-      (submitting.questionsOf l c b t base size) (submitting.refused b) (submitting.accepted o b t) (λ m. k) (λ none. kept-taken t o refl (submission-due l c (factsOf b) o t base size none) (flag none))
+      (submitting.questionsOf l c b t regions) (submitting.refused b) (submitting.accepted o b t) (λ m. k) (λ none. kept-taken t o refl (submission-due l c (factsOf b) o t regions none) (flag none))
     where
       o : Outcome
       o = becomes (b .phase) (t .variant)
 
-      flag : firstNo (submissionQuestions l c (factsOf b) o t base size) ≡ 0 → holds o ≡ true → b .direction ≡ true → dataOf (t .variant) .«immediate_data» ≡ false
-      flag none h input = not-true _ (rw (h, input) at (submission-questions.passed (factsOf b) o t base size l c none .from-memory))
+      flag : firstNo (submissionQuestions l c (factsOf b) o t regions) ≡ 0 → holds o ≡ true → b .direction ≡ true → dataOf (t .variant) .«immediate_data» ≡ false
+      flag none h input = not-true _ (rw (h, input) at (submission-questions.passed (factsOf b) o t regions l c none .from-memory))
 
   -- ---- Completion
 
@@ -291,7 +294,7 @@ module _ (b : ControlBlock) (n : ℕ) (k : Kept b n) where
       })
 
   kept-call : (c : ControlCall) → Kept (after c b) (askedAfter c b n)
-  kept-call (submit l c t base size) = kept-submission l c t base size
+  kept-call (submit l c t regions) = kept-submission l c t regions
   kept-call (complete l r m) = kept-completion l r m
   kept-call cancel = k
 

@@ -1,6 +1,6 @@
 -- Why the theorems have their conditions, computed: in an OUT transfer calls make a block that holds immediate data; a made-up block of an
 -- IN transfer that holds it, as calls made it before R-14, writes more than it asked for; and so does one that calls make by a sum that
--- passes 2^32. Endpoint 3, slot 2; a guest window of 2^17 bytes at 0. Assumes nothing.
+-- passes 2^32. Endpoint 3, slot 2; guest memory in one region of 2^17 bytes at 0. Assumes nothing.
 use Prim.Native.Nat.{ℕ, zero, suc, _+_, _*_, _%_, _^_}
 use mathlib.Core.Path.{_≡_, refl, ap, _∙_}
 use mathlib.Core.Bool.{Bool, true, false}
@@ -19,7 +19,9 @@ use Rattle.trb.specs.declared.SlotId.{SlotId}
 use Rattle.trb.specs.declared.TransferTrb.{TransferTrb}
 use Rattle.trb.specs.declared.TransferTrbVariant.{TransferTrbVariant}
 use Rattle.trb.specs.declared.TransferTrbVariant.the-variants.{SetupStage, DataStage, StatusStage, Normal, Unrecognized}
-use Rattle.guest_memory.specs.Places.{placeOf, rangeInside}
+use Rattle.guest_memory.specs.declared.Regions.{Regions}
+use Rattle.guest_memory.specs.Regions.{guestRegions, holds, sharesAt, shareAnAddress}
+use Rattle.guest_memory.specs.Places.{inRegion, placeOf, rangeInside}
 use Rattle.held.specs.Places.{cleared}
 use Rattle.held.specs.Sound.{soundTrb}
 use Rattle.walks.specs.All.{all}
@@ -90,13 +92,17 @@ unrecognized = at 0x1040 Unrecognized
 
 -- ---- Calls and blocks
 
+-- guest memory: the other region is empty
+abbrev regions : Regions
+regions = guestRegions 0 (2 ^ 17) 0 0
+
 -- a TRB is submitted, and its submission completed
 abbrev submitted : TransferTrb → List ControlCall → List ControlCall
-submitted t cs = submit minLog maxCollected t 0 (2 ^ 17) ∷ complete minLog NoneGiven 0 ∷ cs
+submitted t cs = submit minLog maxCollected t regions ∷ complete minLog NoneGiven 0 ∷ cs
 
 -- what calls leave, with all that they are defined by
 unfoldable run : List ControlCall → ControlBlock → ControlBlock
-unfolding submission submissionQuestions hasRoom reaches inReach rangeInside placeOf collects firstNo idsInRange soundBlock soundTrb all becomes acceptedSubmission blockAfter recordsOf transferAfter completion completionQuestions acceptedCompletion blockBehind cleared
+unfolding submission submissionQuestions hasRoom reaches inReach rangeInside placeOf inRegion shareAnAddress sharesAt holds collects firstNo idsInRange soundBlock soundTrb all becomes acceptedSubmission blockAfter recordsOf transferAfter completion completionQuestions acceptedCompletion blockBehind cleared
 run cs b = afterAll cs b
 
 -- an IN transfer in this phase, with a request for n bytes
@@ -146,7 +152,7 @@ rounds zero = []
 rounds (suc k) = submitted (normal true) (submitted unrecognized (rounds k))
 
 abbrev last : List ControlCall
-last = submitted (normal false) (submit minLog maxCollected status 0 (2 ^ 17) ∷ [])
+last = submitted (normal false) (submit minLog maxCollected status regions ∷ [])
 
 abbrev pub wrapping : ℕ → List ControlCall
 wrapping k = begun ++ rounds k ++ last

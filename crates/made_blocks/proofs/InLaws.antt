@@ -15,6 +15,7 @@ use Rattle.trb.specs.declared.TdBasedNormalSubmissionState.the-variants.{Submis
 use Rattle.trb.specs.declared.TransferTrb.{TransferTrb}
 use Rattle.log.specs.Calls.{Out}
 use Rattle.walks.specs.All.{all}
+use Rattle.guest_memory.specs.declared.Regions.{Regions}
 use Rattle.in_block.specs.Blocks.{freshBlock, heldOf, stored, emptied}
 use Rattle.in_block.specs.Facts.{heldTest, factsOf}
 use Rattle.in_block.specs.Outcomes.{outcomeOf, stateAfter, endingOf}
@@ -70,13 +71,13 @@ module _ (b : InBlock) (k : FromMemory b) where
   from-submitted CompleteLocally t flag = from-stored b t k (flag refl)
   from-submitted Request t flag = from-stored b t k (flag refl)
 
-  from-submission : (l : ℕ) (t : TransferTrb) (base size : ℕ) → FromMemory (submitting.submission l b t base size .state .block)
+  from-submission : (l : ℕ) (t : TransferTrb) (regions : Regions) → FromMemory (submitting.submission l b t regions .state .block)
   unfolding submitting.submission
-  from-submission l t base size =
+  from-submission l t regions =
       let o : Outcome = outcomeOf (heldTest (heldOf b)) t in
-      by-questions (λ (r : Out Submitted). FromMemory (r .state .block)) (submissionQuestions l (factsOf b) t base size) (submitting.refused b) (submitting.submittedAs o b t)
+      by-questions (λ (r : Out Submitted). FromMemory (r .state .block)) (submissionQuestions l (factsOf b) t regions) (submitting.refused b) (submitting.submittedAs o b t)
       (λ n. k)
-      (λ none. from-submitted o t (λ h. passed-submission l (factsOf b) t base size none .from-memory (supported-held (heldTest (heldOf b)) t o refl h)))
+      (λ none. from-submitted o t (λ h. passed-submission l (factsOf b) t regions none .from-memory (supported-held (heldTest (heldOf b)) t o refl h)))
 
   -- ---- Completion
 
@@ -93,7 +94,7 @@ module _ (b : InBlock) (k : FromMemory b) where
       (completing.completedAs (endingOf (b .state) r n) b) (λ m. k) (λ none. from-completed (endingOf (b .state) r n))
 
   from-call : (c : InCall) → FromMemory (after c b)
-  from-call (submit l t base size) = from-submission l t base size
+  from-call (submit l t regions) = from-submission l t regions
   from-call (complete l r n) = from-completion l r n
   from-call cancel = from-emptied b SubmissionDue
 

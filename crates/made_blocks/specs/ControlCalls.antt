@@ -9,6 +9,7 @@ use Rattle.trb.specs.declared.SlotId.{SlotId}
 use Rattle.trb.specs.declared.TransferTrb.{TransferTrb}
 use Rattle.trb.specs.declared.TransferTrbVariant.{TransferTrbVariant}
 use Rattle.trb.specs.declared.TransferTrbVariant.the-variants.{SetupStage, DataStage, StatusStage, Normal, EventData, NoOp, Isoch, Unrecognized}
+use Rattle.guest_memory.specs.declared.Regions.{Regions}
 use Rattle.phase_table.specs.Outcomes.{holds}
 use Rattle.phase_table.specs.Table.{becomes}
 use Rattle.control_block.specs.declared.ControlBlock.{ControlBlock}
@@ -18,16 +19,16 @@ use Rattle.control_endpoint.specs.Completion.{completion}
 use Rattle.control_endpoint.specs.Creation.{creation}
 use Rattle.control_endpoint.specs.Submission.{submission}
 
--- a submission has a log and a collect buffer of so many bytes, and a guest window of size bytes at base; a completion has a log, and
--- n bytes of data
+-- a submission has a log and a collect buffer of so many bytes, and guest memory in these regions; a completion has a log, and n bytes of
+-- data
 pub data ControlCall : Type 0 where
-  submit : (log collect : ℕ) → TransferTrb → (base size : ℕ) → ControlCall
+  submit : (log collect : ℕ) → TransferTrb → Regions → ControlCall
   complete : (log : ℕ) → ControlRequestProcessingResult → (n : ℕ) → ControlCall
   cancel : ControlCall
 
 -- the block that a call leaves, accepted or refused. 01, Questions asked: on control cancel changes nothing
 abbrev pub after : ControlCall → ControlBlock → ControlBlock
-after (submit l c t base size) b = submission l c b t base size .state .block
+after (submit l c t regions) b = submission l c b t regions .state .block
 after (complete l r n) b = completion l b r n .state .block
 after cancel b = b
 
@@ -54,8 +55,8 @@ askedBy Unrecognized n = n
 
 -- a TRB is taken where its submission is accepted and the phase table takes it
 abbrev pub askedAfter : ControlCall → ControlBlock → ℕ → ℕ
-askedAfter (submit l c t base size) b n =
-    cond (isAccepted (submission l c b t base size .state .answer) && holds (becomes (b .phase) (t .variant))) (askedBy (t .variant) n) n
+askedAfter (submit l c t regions) b n =
+    cond (isAccepted (submission l c b t regions .state .answer) && holds (becomes (b .phase) (t .variant))) (askedBy (t .variant) n) n
 askedAfter (complete l r m) b n = n
 askedAfter cancel b n = n
 

@@ -14,8 +14,10 @@ ghost use lib.ListN.{length};
 ghost use Rattle.trb.specs.Limits.{minLog};
 ghost use Rattle.state_text.specs.Widths.{maxAnswer};
 
-// The guest window's base at the start.
+// Guest memory at the start: one region of this base and length.
 pub const FIRST_BASE: u64 = 0x8000;
+
+pub const FIRST_LENGTH: usize = 0x40000;
 
 // Which endpoint calls are made on.
 pub enum Endpoint {
@@ -29,8 +31,10 @@ pub struct Session {
     pub endpoint: Endpoint,
     pub in_block: InBlock,
     pub control_block: ControlBlock,
-    pub base: u64,
-    pub window_length: usize,
+    pub low_base: u64,
+    pub low_length: usize,
+    pub high_base: u64,
+    pub high_length: usize,
     pub log_length: usize,
     pub collect_length: usize,
 }
@@ -48,8 +52,10 @@ pub fn new_session() -> Session {
         endpoint: Endpoint::Nothing,
         in_block: in_block,
         control_block: control_block,
-        base: FIRST_BASE,
-        window_length: call_script::MAX_WINDOW,
+        low_base: FIRST_BASE,
+        low_length: FIRST_LENGTH,
+        high_base: 0,
+        high_length: 0,
         log_length: call_script::MAX_LENT_LOG,
         collect_length: trb::MAX_COLLECTED,
     }
@@ -81,8 +87,10 @@ fn after_in(session: Session, ran: InRan) -> Ran
         endpoint: Endpoint::In,
         in_block: in_block,
         control_block: control_block,
-        base: session.base,
-        window_length: session.window_length,
+        low_base: session.low_base,
+        low_length: session.low_length,
+        high_base: session.high_base,
+        high_length: session.high_length,
         log_length: session.log_length,
         collect_length: session.collect_length,
     };
@@ -102,8 +110,10 @@ fn after_control(session: Session, ran: ControlRan) -> Ran
         endpoint: Endpoint::Control,
         in_block: in_block,
         control_block: control_block,
-        base: session.base,
-        window_length: session.window_length,
+        low_base: session.low_base,
+        low_length: session.low_length,
+        high_base: session.high_base,
+        high_length: session.high_length,
         log_length: session.log_length,
         collect_length: session.collect_length,
     };
@@ -114,14 +124,32 @@ fn after_control(session: Session, ran: ControlRan) -> Ran
     }
 }
 
-fn move_window(session: Session, at: usize, base: u64, size: usize, window: &mut [u8]) -> Ran
+// As many of the bytes of `memory` as a region of this length has, filled anew.
+fn fill_region(memory: &mut [u8], base: u64, length: usize) -> usize {
+    let end = call_script::least(length, memory.len());
+    script_bytes::fill_guest(&mut memory[..end], base);
+    end
+}
+
+fn move_window(
+    session: Session,
+    at: usize,
+    low_base: u64,
+    low_length: usize,
+    high_base: u64,
+    high_length: usize,
+    low: &mut [u8],
+    high: &mut [u8],
+) -> Ran
     ensures { λ r. ⌜ r .end ≡ at ⌝ }
 {
-    let end = call_script::least(size, window.len());
-    script_bytes::fill_guest(&mut window[..end], base);
+    let low_end = fill_region(low, low_base, low_length);
+    let high_end = fill_region(high, high_base, high_length);
     let mut next = session;
-    next.base = base;
-    next.window_length = end;
+    next.low_base = low_base;
+    next.low_length = low_end;
+    next.high_base = high_base;
+    next.high_length = high_end;
     Ran {
         session: next,
         end: at,
@@ -151,7 +179,8 @@ fn run_in(
     call: Call,
     log: &mut [u8],
     data: &[u8],
-    window: &mut [u8],
+    low: &mut [u8],
+    high: &mut [u8],
 ) -> Ran
     requires { ⌜ at + maxAnswer ≤ length (now text) ⌝ }
     requires { ⌜ length (now log) ≤ minLog ⌝ }
@@ -159,7 +188,8 @@ fn run_in(
 {
     let block = session.in_block;
     let log_end = call_script::least(session.log_length, log.len());
-    let window_end = call_script::least(session.window_length, window.len());
+    let low_end = call_script::least(session.low_length, low.len());
+    let high_end = call_script::least(session.high_length, high.len());
     let ran = in_calls::run(
         text,
         at,
@@ -167,8 +197,10 @@ fn run_in(
         block,
         call,
         data,
-        session.base,
-        &mut window[..window_end],
+        session.low_base,
+        &mut low[..low_end],
+        session.high_base,
+        &mut high[..high_end],
     );
     after_in(session, ran)
 }
@@ -181,7 +213,8 @@ fn run_control(
     log: &mut [u8],
     collect: &mut [u8],
     data: &[u8],
-    window: &mut [u8],
+    low: &mut [u8],
+    high: &mut [u8],
 ) -> Ran
     requires { ⌜ at + maxAnswer ≤ length (now text) ⌝ }
     requires { ⌜ length (now log) ≤ minLog ⌝ }
@@ -189,7 +222,8 @@ fn run_control(
 {
     let block = session.control_block;
     let log_end = call_script::least(session.log_length, log.len());
-    let window_end = call_script::least(session.window_length, window.len());
+    let low_end = call_script::least(session.low_length, low.len());
+    let high_end = call_script::least(session.high_length, high.len());
     let ran = control_calls::run(
         text,
         at,
@@ -199,8 +233,10 @@ fn run_control(
         block,
         call,
         data,
-        session.base,
-        &mut window[..window_end],
+        session.low_base,
+        &mut low[..low_end],
+        session.high_base,
+        &mut high[..high_end],
     );
     after_control(session, ran)
 }
@@ -214,7 +250,8 @@ fn run_on_endpoint(
     log: &mut [u8],
     collect: &mut [u8],
     data: &[u8],
-    window: &mut [u8],
+    low: &mut [u8],
+    high: &mut [u8],
 ) -> Ran
     requires { ⌜ at + maxAnswer ≤ length (now text) ⌝ }
     requires { ⌜ length (now log) ≤ minLog ⌝ }
@@ -223,8 +260,8 @@ fn run_on_endpoint(
     let endpoint = session.endpoint;
     match endpoint {
         Endpoint::Nothing => bad(session, at),
-        Endpoint::In => run_in(text, at, session, call, log, data, window),
-        Endpoint::Control => run_control(text, at, session, call, log, collect, data, window),
+        Endpoint::In => run_in(text, at, session, call, log, data, low, high),
+        Endpoint::Control => run_control(text, at, session, call, log, collect, data, low, high),
     }
 }
 
@@ -272,14 +309,24 @@ pub fn run_call(
     log: &mut [u8],
     collect: &mut [u8],
     data: &[u8],
-    window: &mut [u8],
+    low: &mut [u8],
+    high: &mut [u8],
 ) -> Ran
     requires { ⌜ at + maxAnswer ≤ length (now text) ⌝ }
     requires { ⌜ length (now log) ≤ minLog ⌝ }
     ensures { λ r. ⌜ r .end ≤ at + maxAnswer ⌝ }
 {
-    if let Call::Window(base, size) = call {
-        return move_window(session, at, base, size, window);
+    if let Call::Window(low_base, low_length, high_base, high_length) = call {
+        return move_window(
+            session,
+            at,
+            low_base,
+            low_length,
+            high_base,
+            high_length,
+            low,
+            high,
+        );
     }
     if let Call::Buffers(log_length, collect_length) = call {
         return lend_buffers(session, at, log_length, collect_length);
@@ -290,5 +337,5 @@ pub fn run_call(
     if let Call::CreateControl(endpoint_id, slot_id, release) = call {
         return create_control(text, at, session, endpoint_id, slot_id, release, collect);
     }
-    run_on_endpoint(text, at, session, call, log, collect, data, window)
+    run_on_endpoint(text, at, session, call, log, collect, data, low, high)
 }

@@ -10,7 +10,7 @@ use Rattle.trb.specs.Refusals.{refusalNumber}
 use Rattle.trb.specs.declared.Answer.{Answer}
 use Rattle.trb.specs.declared.Answer.the-variants.{Accepted, Refused}
 use Rattle.trb.specs.declared.Refusal.{Refusal}
-use Rattle.trb.specs.declared.Refusal.the-variants.{BufferTooShort, UnsoundBlock, OutOfTurn, TransferTooLong, TooManyHeld, OutsideGuestMemory, TooMuchCollected, DeviceResultMismatch, DataTooLong, MalformedLog, WriteOutOfRange, IdOutOfRange, ImmediateInput, NotEncodable}
+use Rattle.trb.specs.declared.Refusal.the-variants.{BufferTooShort, UnsoundBlock, OutOfTurn, TransferTooLong, TooManyHeld, OutsideGuestMemory, TooMuchCollected, DeviceResultMismatch, DataTooLong, MalformedLog, WriteOutOfRange, IdOutOfRange, RegionsOverlap, ImmediateInput, NotEncodable}
 
 -- a refusal's number stands for that refusal
 pub refusalOf-number : (r : Refusal) → refusalOf (refusalNumber r) ≡ r
@@ -27,6 +27,7 @@ refusalOf-number DataTooLong = refl
 refusalOf-number MalformedLog = refl
 refusalOf-number WriteOutOfRange = refl
 refusalOf-number IdOutOfRange = refl
+refusalOf-number RegionsOverlap = refl
 refusalOf-number ImmediateInput = refl
 refusalOf-number NotEncodable = refl
 
@@ -48,6 +49,7 @@ refusalNumber-positive DataTooLong = refl
 refusalNumber-positive MalformedLog = refl
 refusalNumber-positive WriteOutOfRange = refl
 refusalNumber-positive IdOutOfRange = refl
+refusalNumber-positive RegionsOverlap = refl
 refusalNumber-positive ImmediateInput = refl
 refusalNumber-positive NotEncodable = refl
 

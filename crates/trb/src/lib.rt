@@ -317,6 +317,7 @@ pub enum Refusal {
     MalformedLog,
     WriteOutOfRange,
     IdOutOfRange,
+    RegionsOverlap,
     ImmediateInput,
     NotEncodable,
 }
@@ -337,6 +338,7 @@ pub fn refusal_number(refusal: Refusal) -> u8
         Refusal::MalformedLog => 10,
         Refusal::WriteOutOfRange => 11,
         Refusal::IdOutOfRange => 12,
+        Refusal::RegionsOverlap => 13,
         Refusal::ImmediateInput => 21,
         Refusal::NotEncodable => 23,
     }

@@ -1,4 +1,4 @@
--- `bench_calls_carry_out` is safe: `k` stays at most `repeats`, and no call changes the length of guest memory. Assumes nothing.
+-- `bench_calls_carry_out` is safe: `k` stays at most `repeats`, and no call changes the length of a region. Assumes nothing.
 use borrow.Author.Needs.{needs}
 use Prim.Native.Nat.{_≤_, _-_}
 use mathlib.Core.Path.{_≡_}
@@ -7,10 +7,10 @@ use Rattle.bench_calls.proofs.bench_calls_carry_out.Statement.{statemen
 use Rattle.bench_calls.proofs.bench_calls_carry_out.Tie as tie
 
 abbrev Inv-loop : tie.InvT-loop
-Inv-loop log «data» base memory₀ repeats sum₀ k₀ memory sum k = (k ≤ repeats) × (length memory ≡ length memory₀)
+Inv-loop log «data» low-base low₀ high-base high₀ repeats sum₀ k₀ low high sum k = (k ≤ repeats) × ((length low ≡ length low₀) × (length high ≡ length high₀))
 
 abbrev μ-loop : tie.MeasureT-loop
-μ-loop log «data» base memory₀ repeats sum₀ k₀ memory sum k = repeats - k
+μ-loop log «data» low-base low₀ high-base high₀ repeats sum₀ k₀ low high sum k = repeats - k
 
 loop-holds : tie.Need-loop-holds Inv-loop μ-loop
 loop-holds c = search needs
@@ -36,6 +36,9 @@ loop-again c = search needs
 same-length : tie.Need-same-length Inv-loop μ-loop
 same-length c = search needs
 
+same-length-2 : tie.Need-same-length-2 Inv-loop μ-loop
+same-length-2 c = search needs
+
 returns : tie.Need-returns Inv-loop μ-loop
 returns c = search needs
 
@@ -53,4 +56,5 @@ bench-calls-carry-out-spec =
     loop-less
     loop-again
     same-length
+    same-length-2
     returns)

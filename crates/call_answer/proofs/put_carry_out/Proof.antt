@@ -23,11 +23,14 @@ same-length c = search needs
 same-length-2 : tie.Need-same-length-2
 same-length-2 c = search needs
 
+same-length-3 : tie.Need-same-length-3
+same-length-3 c = search needs
+
 returns : tie.Need-returns
 returns c =
     let line = c .before .before in
-    let o = line .before .before .before .before .before in
-    let carried = rw (o .before .before .first-records .ensures) at (o .carry-out .ensures) in
+    let o = line .before .before .before .before .before .before .before in
+    let carried = rw (o .before .before .before .first-records .ensures) at (o .carry-out .ensures) in
     let number = line .before .answer-number .ensures ∙ ap numberOf (carried .answer) in
     record { text = rw number at (line .put-carried-out .ensures); after = rw (carried .answer) at (carried .after) }
 
@@ -41,4 +44,5 @@ put-carry-out-spec =
     put-carried-out-requires
     same-length
     same-length-2
+    same-length-3
     returns)

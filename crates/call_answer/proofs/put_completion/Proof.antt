@@ -38,14 +38,17 @@ same-length c = search needs
 same-length-2 : tie.Need-same-length-2
 same-length-2 c = search needs
 
+same-length-3 : tie.Need-same-length-3
+same-length-3 c = search needs
+
 returns : tie.Need-returns
 unfolding completionText completionMemory
 returns c =
-    let carried = c .before .before .before .before in
-    let records = carried .before .before .before .before .before in
+    let carried = c .before .before .before .before .before .before in
+    let records = carried .before .before .before .before .before .before in
     let first = records .before .before .before .before in
     let told = first .before .before .before .before in
-    let s = told .before .before .before .before .before .before in
+    let s = told .before .before .before .before .before .before .before in
     rw (told .answer .given .1)
     (record {
       text = written-append (s .args .at) (omega (arith, s .pre .0))
@@ -54,8 +57,8 @@ returns c =
       after = carried .put-carry-out .ensures .after;
     })
 
-same-length-3 : tie.Need-same-length-3
-same-length-3 c = search needs
+same-length-4 : tie.Need-same-length-4
+same-length-4 c = search needs
 
 returns-2 : tie.Need-returns-2
 unfolding completionText completionMemory
@@ -78,6 +81,7 @@ put-completion-spec =
     put-refused-requires
     same-length
     same-length-2
-    returns
     same-length-3
+    returns
+    same-length-4
     returns-2)

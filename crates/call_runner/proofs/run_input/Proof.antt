@@ -9,12 +9,12 @@ use Rattle.call_runner.proofs.run_input.Statement.{statement}
 use Rattle.call_runner.proofs.run_input.Tie as tie
 
 abbrev Inv-loop : tie.InvT-loop
-Inv-loop text₀ input₀ log₀ collect₀ «data» window₀ progress₀ from₀ filled₀ turns₀ text input log collect window progress from filled turns =
+Inv-loop text₀ input₀ log₀ collect₀ «data» low₀ high₀ progress₀ from₀ filled₀ turns₀ text input log collect low high progress from filled turns =
     (from ≤ filled) × ((filled ≤ length input₀) × ((length text ≡ length text₀) × ((length input ≡ length input₀)
-    × ((length log ≡ length log₀) × ((length collect ≡ length collect₀) × (length window ≡ length window₀))))))
+    × ((length log ≡ length log₀) × ((length collect ≡ length collect₀) × ((length low ≡ length low₀) × (length high ≡ length high₀)))))))
 
 abbrev μ-loop : tie.MeasureT-loop
-μ-loop text₀ input₀ log₀ collect₀ «data» window₀ progress₀ from₀ filled₀ turns₀ text input log collect window progress from filled turns = turns
+μ-loop text₀ input₀ log₀ collect₀ «data» low₀ high₀ progress₀ from₀ filled₀ turns₀ text input log collect low high progress from filled turns = turns
 
 started-requires : tie.Need-started-requires Inv-loop μ-loop
 started-requires c κs = search needs
@@ -36,9 +36,9 @@ loop-less c = search needs
 
 loop-again : tie.Need-loop-again Inv-loop μ-loop
 loop-again c =
-    let t = c .before .before .before .before .before .before .before .before .before .run-step in
-    let n = c .before .before .before .before .before .before .before .before .before .before .before .before .before .before .before .before .before .next-line in
-    let kept = c .before .before .before .before .before .before .before .before .before .before .before .before .before .before .before .before .before .before .before .before .loop .inv .1 .1 in (
+    let t = c .before .before .before .before .before .before .before .before .before .before .before .run-step in
+    let n = c .before .before .before .before .before .before .before .before .before .before .before .before .before .before .before .before .before .before .before .before .next-line in
+    let kept = c .before .before .before .before .before .before .before .before .before .before .before .before .before .before .before .before .before .before .before .before .before .before .before .loop .inv .1 .1 in (
       n .ensures .left,
       (
         omega (arith, n .ensures .room, kept .1 .0),
@@ -48,7 +48,10 @@ loop-again c =
             n .kept .0 ∙ kept .1 .0,
             (
               t .kept .1 .1 .1 .1 .0 ∙ kept .1 .1 .0,
-              (t .kept .1 .1 .1 .1 .1 .0 ∙ kept .1 .1 .1 .0, t .kept .1 .1 .1 .1 .1 .1 .1 .0 ∙ kept .1 .1 .1 .1),
+              (
+                t .kept .1 .1 .1 .1 .1 .0 ∙ kept .1 .1 .1 .0,
+                (t .kept .1 .1 .1 .1 .1 .1 .1 .0 ∙ kept .1 .1 .1 .1 .0, t .kept .1 .1 .1 .1 .1 .1 .1 .1 .0 ∙ kept .1 .1 .1 .1 .1),
+              ),
             ),
           ),
         ),
@@ -69,6 +72,9 @@ same-length-4 c = search needs
 
 same-length-5 : tie.Need-same-length-5 Inv-loop μ-loop
 same-length-5 c = search needs
+
+same-length-6 : tie.Need-same-length-6 Inv-loop μ-loop
+same-length-6 c = search needs
 
 returns : tie.Need-returns Inv-loop μ-loop
 returns c = search needs
@@ -91,4 +97,5 @@ run-input-spec =
     same-length-3
     same-length-4
     same-length-5
+    same-length-6
     returns)

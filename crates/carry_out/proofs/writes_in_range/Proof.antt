@@ -14,12 +14,12 @@ use Rattle.carry_out.proofs.writes_in_range.Statement.{statement}
 use Rattle.carry_out.proofs.writes_in_range.Tie as tie
 
 abbrev Inv-loop : tie.InvT-loop
-Inv-loop log available base size records index₀ index =
+Inv-loop log available regions records index₀ index =
     (index ≤ records)
-    × (writesInRange available base size (recordsIn (records - index) (drop (recordLength * index) log)) ≡ writesInRange available base size (recordsIn records log))
+    × (writesInRange available regions (recordsIn (records - index) (drop (recordLength * index) log)) ≡ writesInRange available regions (recordsIn records log))
 
 abbrev μ-loop : tie.MeasureT-loop
-μ-loop log available base size records index₀ index = records - index
+μ-loop log available regions records index₀ index = records - index
 
 loop-holds : tie.Need-loop-holds Inv-loop μ-loop
 loop-holds c = (search needs, rw sub-zero)

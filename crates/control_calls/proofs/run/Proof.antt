@@ -45,7 +45,7 @@ result-of-requires : tie.Need-result-of-requires
 result-of-requires c κs = search needs
 
 slice-aggregate-complete : tie.Need-slice-aggregate-complete
-slice-aggregate-complete c = sym (length-take-le _ _ (c .before .before .before .before .before .least .ensures .1))
+slice-aggregate-complete c = sym (length-take-le _ _ (search needs))
 
 complete-requires : tie.Need-complete-requires
 complete-requires c κs = search needs
@@ -57,7 +57,7 @@ least-requires-2 : tie.Need-least-requires-2
 least-requires-2 c κs = search needs
 
 slice-aggregate-complete-2 : tie.Need-slice-aggregate-complete-2
-slice-aggregate-complete-2 c = sym (length-take-le _ _ (c .before .before .before .before .least2 .ensures .1))
+slice-aggregate-complete-2 c = sym (length-take-le _ _ (search needs))
 
 complete-requires-2 : tie.Need-complete-requires-2
 complete-requires-2 c κs = search needs
@@ -116,11 +116,11 @@ same-length-3 c = search needs
 same-length-4 : tie.Need-same-length-4
 same-length-4 c = search needs
 
-returns-5 : tie.Need-returns-5
-returns-5 c = search needs
-
 same-length-5 : tie.Need-same-length-5
 same-length-5 c = search needs
+
+returns-5 : tie.Need-returns-5
+returns-5 c = search needs
 
 same-length-6 : tie.Need-same-length-6
 same-length-6 c = search needs
@@ -131,14 +131,14 @@ same-length-7 c = search needs
 same-length-8 : tie.Need-same-length-8
 same-length-8 c = search needs
 
-returns-6 : tie.Need-returns-6
-returns-6 c = search needs
-
 same-length-9 : tie.Need-same-length-9
 same-length-9 c = search needs
 
 same-length-10 : tie.Need-same-length-10
 same-length-10 c = search needs
+
+returns-6 : tie.Need-returns-6
+returns-6 c = search needs
 
 same-length-11 : tie.Need-same-length-11
 same-length-11 c = search needs
@@ -146,14 +146,23 @@ same-length-11 c = search needs
 same-length-12 : tie.Need-same-length-12
 same-length-12 c = search needs
 
-returns-7 : tie.Need-returns-7
-returns-7 c = search needs
-
 same-length-13 : tie.Need-same-length-13
 same-length-13 c = search needs
 
 same-length-14 : tie.Need-same-length-14
 same-length-14 c = search needs
+
+same-length-15 : tie.Need-same-length-15
+same-length-15 c = search needs
+
+returns-7 : tie.Need-returns-7
+returns-7 c = search needs
+
+same-length-16 : tie.Need-same-length-16
+same-length-16 c = search needs
+
+same-length-17 : tie.Need-same-length-17
+same-length-17 c = search needs
 
 returns-8 : tie.Need-returns-8
 returns-8 c = search needs
@@ -211,19 +220,22 @@ run-spec =
     same-length-2
     same-length-3
     same-length-4
-    returns-5
     same-length-5
+    returns-5
     same-length-6
     same-length-7
     same-length-8
-    returns-6
     same-length-9
     same-length-10
+    returns-6
     same-length-11
     same-length-12
-    returns-7
     same-length-13
     same-length-14
+    same-length-15
+    returns-7
+    same-length-16
+    same-length-17
     returns-8
     returns-9
     returns-10

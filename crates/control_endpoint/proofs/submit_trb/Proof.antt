@@ -19,6 +19,8 @@ use Rattle.held.specs.Sound.{soundTrb, heldSound}
 use Rattle.held.specs.declared.EndpointKind.the-variants.{Control}
 use Rattle.held.proofs.TestedLaws.{places-few, held-tested}
 use Rattle.walks.proofs.AllLaws.{Tested, tested-none, tested-turn}
+use Rattle.guest_memory.specs.declared.Regions.{Regions}
+use Rattle.guest_memory.specs.Places.{Memory, memoryOf, regionsOf}
 use Rattle.phase_table.specs.declared.Outcome.{Outcome}
 use Rattle.phase_table.specs.Outcomes.{restarts}
 use Rattle.control_block.specs.Blocks.{heldOf}
@@ -36,18 +38,18 @@ use Rattle.control_endpoint.proofs.submit_trb.Statement.{statement}
 use Rattle.control_endpoint.proofs.submit_trb.Tie as tie
 
 abbrev Inv-loop : tie.InvT-loop
-Inv-loop log collect t window-base window endpoint-id slot-id release phase state direction request collected held trbs variant places sound₀ i₀ sound i =
+Inv-loop log collect t low-base low high-base high endpoint-id slot-id release phase state direction request collected held trbs variant places sound₀ i₀ sound i =
     Tested (soundTrb Control) (take places trbs) sound i × (i ≤ places)
 
 abbrev μ-loop : tie.MeasureT-loop
-μ-loop log collect t window-base window endpoint-id slot-id release phase state direction request collected held trbs variant places sound₀ i₀ sound i = places - i
+μ-loop log collect t low-base low high-base high endpoint-id slot-id release phase state direction request collected held trbs variant places sound₀ i₀ sound i = places - i
 
 abbrev Inv-loop2 : tie.InvT-loop2
-Inv-loop2 log₀ collect t window-base window endpoint-id slot-id release phase direction request collected held trbs₀ variant places sound i outcome answer records info blank dropped progress₀ j₀ log trbs progress j =
+Inv-loop2 log₀ collect t low-base low high-base high endpoint-id slot-id release phase direction request collected held trbs₀ variant places sound i outcome answer records info blank dropped progress₀ j₀ log trbs progress j =
     Freeing info (reportDropped info) (kept-dropped info) dropped trbs₀ log₀ log progress trbs j
 
 abbrev μ-loop2 : tie.MeasureT-loop2
-μ-loop2 log₀ collect t window-base window endpoint-id slot-id release phase direction request collected held trbs₀ variant places sound i outcome answer records info blank dropped progress₀ j₀ log trbs progress j =
+μ-loop2 log₀ collect t low-base low high-base high endpoint-id slot-id release phase direction request collected held trbs₀ variant places sound i outcome answer records info blank dropped progress₀ j₀ log trbs progress j =
     dropped - j
 
 -- ---- The block, and the places of a call's code
@@ -62,16 +64,19 @@ abbrev AtDropped : Type 0
 AtDropped = tie.After-places-dropped Inv-loop μ-loop Inv-loop2 μ-loop2
 
 abbrev tested : AtAsked → tie.After-loop Inv-loop μ-loop Inv-loop2 μ-loop2
-tested k = k .before .before
+tested k = k .before .before .before
 
 abbrev start : AtAsked → Start
-start k = k .before .before .before .before .before .before .before .before .before .before .before .before
+start k = k .before .before .before .before .before .before .before .before .before .before .before .before .before .before
 
 abbrev outcome : AtAsked → Outcome
 outcome k = k .before .becomes .result
 
 abbrev asked-before : AtDropped → AtAsked
 asked-before f = f .before .before .before .before .before
+
+abbrev memory : Start → Memory
+memory s = memoryOf (s .args .low-base) (s .args .low .now) (s .args .high-base) (s .args .high .now)
 
 -- a block has 512 places
 len : (s : Start) → length (s .args .block .trbs) ≡ maxHeld
@@ -87,21 +92,24 @@ found k =
     held-tested (b .trbs) (b .held) (l .before .places-held .result) (len s) (l .before .places-held .ensures) Control (l .loop .sound) (l .loop .i) (l .loop .inv .0) (tested k .loop-test .left)
 
 numbered-by : (k : AtAsked) → let s = start k .args in
-    numberOf (k .ask-submission .result) ≡ firstNo (submissionQuestions (length (s .log .now)) (length (s .collect .now)) (factsOf (s .block)) (outcome k) (s .t) (s .window-base) (length (s .window .now)))
-numbered-by k = rw (found k) at (k .ask-submission .ensures)
+    numberOf (k .ask-submission .result) ≡ firstNo (submissionQuestions (length (s .log .now)) (length (s .collect .now)) (factsOf (s .block)) (outcome k) (s .t) (regionsOf (memory (start k))))
+numbered-by k =
+    let s = start k .args in
+    (rw (found k) at (k .ask-submission .ensures))
+    ∙ ap (λ (rs : Regions). firstNo (submissionQuestions (length (s .log .now)) (length (s .collect .now)) (factsOf (s .block)) (outcome k) (s .t) rs)) (k .before .before .guest-regions .ensures)
 
 numbered : (k : AtAsked) → let s = start k .args in
-    numberOf (k .ask-submission .result) ≡ firstNo (questionsOf (length (s .log .now)) (length (s .collect .now)) (s .block) (s .t) (s .window-base) (length (s .window .now)))
+    numberOf (k .ask-submission .result) ≡ firstNo (questionsOf (length (s .log .now)) (length (s .collect .now)) (s .block) (s .t) (regionsOf (memory (start k))))
 numbered k =
     let s = start k .args in
     numbered-by k
-    ∙ ap (λ (o : Outcome). firstNo (submissionQuestions (length (s .log .now)) (length (s .collect .now)) (factsOf (s .block)) o (s .t) (s .window-base) (length (s .window .now)))) (k .before .becomes .ensures)
+    ∙ ap (λ (o : Outcome). firstNo (submissionQuestions (length (s .log .now)) (length (s .collect .now)) (factsOf (s .block)) o (s .t) (regionsOf (memory (start k))))) (k .before .becomes .ensures)
 
 pass : (k : AtAsked) → k .ask-submission .result ≡ Accepted → let s = start k .args in
     Passed (length (s .log .now)) (length (s .collect .now)) (factsOf (s .block)) (outcome k) (s .t)
 pass k told =
     let s = start k .args in
-    passed (factsOf (s .block)) (outcome k) (s .t) (s .window-base) (length (s .window .now)) (length (s .log .now)) (length (s .collect .now)) (sym (numbered-by k) ∙ ap numberOf told)
+    passed (factsOf (s .block)) (outcome k) (s .t) (regionsOf (memory (start k))) (length (s .log .now)) (length (s .collect .now)) (sym (numbered-by k) ∙ ap numberOf told)
 
 -- ---- The places that are dropped
 
@@ -159,7 +167,7 @@ places-held-requires : tie.Need-places-held-requires Inv-loop μ-loop Inv-loop2 
 places-held-requires c κs = search needs
 
 loop-holds : tie.Need-loop-holds Inv-loop μ-loop Inv-loop2 μ-loop2
-loop-holds c = (tested-none (soundTrb Control) (take (c .places-held .result) (c .before .before .before .before .before .before .before .before .args .block .trbs)), search needs)
+loop-holds c = (tested-none (soundTrb Control) (take (c .places-held .result) (c .before .before .before .before .before .before .before .before .before .args .block .trbs)), search needs)
 
 mul-one : tie.Need-mul-one Inv-loop μ-loop Inv-loop2 μ-loop2
 mul-one c = search needs
@@ -179,10 +187,13 @@ loop-less c = search needs
 loop-again : tie.Need-loop-again Inv-loop μ-loop Inv-loop2 μ-loop2
 loop-again c =
     let l = c .before .before .before in
-    let s = c .before .before .before .before .before .before .before .before .before .before .before .before in
+    let s = c .before .before .before .before .before .before .before .before .before .before .before .before .before in
     let b = s .args .block in
     let p = l .before .places-held in
     (tested-turn (soundTrb Control) (b .trbs) (p .result) (places-few (b .trbs) (b .held) (p .result) (len s) (p .ensures)) (l .loop .sound) (c .and-sound .result) (l .loop .i) pastEnd (l .loop .inv .0) (c .before .before .loop-test .taken) (c .and-sound .ensures), search needs)
+
+guest-regions-requires : tie.Need-guest-regions-requires Inv-loop μ-loop Inv-loop2 μ-loop2
+guest-regions-requires c κs = search needs
 
 becomes-requires : tie.Need-becomes-requires Inv-loop μ-loop Inv-loop2 μ-loop2
 becomes-requires c κs = search needs
@@ -283,7 +294,7 @@ returns : tie.Need-returns Inv-loop μ-loop Inv-loop2 μ-loop2
 returns c =
     let k = c .before .before in
     let s = start k .args in
-    submits-refused (s .block) (s .t) (s .window-base) (s .window .now) (s .log .now) (s .collect .now) _ (k .ask-submission .result) (c .enum-told .given .1) (numbered k)
+    submits-refused (s .block) (s .t) (memory (start k)) (s .log .now) (s .collect .now) _ (k .ask-submission .result) (c .enum-told .given .1) (numbered k)
 
 same-length : tie.Need-same-length Inv-loop μ-loop Inv-loop2 μ-loop2
 same-length c = c .before .before .before .before .before .before .before .before .before .before .log2 .given ∙ c .before .before .before .before .before .before .before .before .before .before .before .before .before .before .loop2 .inv .walked .long
@@ -307,7 +318,7 @@ returns-2 c =
     (λ w. leaves-stored b (s .t) o (j .held) (l .trbs) (j .trbs) (sym (c .before .before .before .before .is-held .ensures) ∙ w .0 .taken) blank (w .1 ∙ ap (λ (d : ℕ). b .held - d + 1) (dropped-by f)) (w .2 ∙ ap (λ (d : ℕ). set (l .trbs) (b .held - d) (s .t)) (dropped-by f)))
     (λ w. leaves-kept b (s .t) o (j .held) (l .trbs) (j .trbs) (sym (c .before .before .before .before .is-held .ensures) ∙ w .0 .left) blank (w .1 ∙ ap (λ (d : ℕ). b .held - d) (dropped-by f)) (w .2))
     (j .came) in
-    submits-accepted b (s .t) (s .window-base) (s .window .now) (s .log .now) (s .collect .now) o (k .before .becomes .ensures) (sym (numbered k) ∙ ap numberOf told) _ _ _
+    submits-accepted b (s .t) (memory (start k)) (s .log .now) (s .collect .now) o (k .before .becomes .ensures) (sym (numbered k) ∙ ap numberOf told) _ _ _
     (submitted-by b (s .t) o (k .ask-submission .result) (h .log-request .result) (c .before .before .transfer-after .result) (c .before .state-after .result) (j .held) (j .trbs) told (logged h .1) (c .before .before .transfer-after .ensures) (c .before .state-after .ensures) places)
     (logged h .0) (c .before .before .before .before .before .before .before .collect-trb .ensures)
 
@@ -327,6 +338,7 @@ submit-trb-spec =
     add-i
     loop-less
     loop-again
+    guest-regions-requires
     becomes-requires
     ask-submission-requires
     enum-told

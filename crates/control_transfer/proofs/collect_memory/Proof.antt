@@ -1,47 +1,29 @@
--- `control_transfer::collect_memory` meets its contract: a range in the window is read from its place, one outside is empty. Assumes nothing.
-use mathlib.Core.Path.{sym}
-use Rattle.buffers.proofs.PatchLaws.{patch-none}
-use Rattle.guest_memory.proofs.PlaceLaws.{placed}
-use Rattle.control_transfer.specs.Data.{windowBytes}
+-- `control_transfer::collect_memory` meets its contract: the part that is handed back is no longer than the range. Assumes nothing.
+use Prim.Native.Nat.{ℕ}
+use mathlib.Core.Path.{ap}
+use mathlib.Core.List.{List}
+use native.Mathlib.Omega.{arith}
+use lib.ListN.{length}
+use Rattle.guest_memory.specs.Places.{memoryOf}
+use Rattle.guest_memory.proofs.PlaceLaws.{length-bytesAt}
 use borrow.Author.Needs.{needs}
 use Rattle.control_transfer.proofs.collect_memory.Statement.{statement}
 use Rattle.control_transfer.proofs.collect_memory.Tie as tie
 
-place-range-requires : tie.Need-place-range-requires
-place-range-requires c κs = search needs
+get-slice-requires : tie.Need-get-slice-requires
+get-slice-requires c κs = search needs
 
-enum-told : tie.Need-enum-told
-enum-told c = search needs
-
-enum-known-place : tie.Need-enum-known-place
-enum-known-place c = search needs
-
-read-bulk-requires : tie.Need-read-bulk-requires
-read-bulk-requires c κs =
-    let p = c .before .before in
-    (search needs, placed _ _ _ _ _ (rw (p .before .before .place-range .ensures) at (p .place .given .1)) .fits)
-
-returns : tie.Need-returns
-unfolding windowBytes
-returns c =
-    let s = c .before .before .before .before .before .args in
-    rw (← c .before .before .place-range .ensures, c .enum-told .given .1) (sym (patch-none (s .collect .now) (s .at)))
+lay-requires : tie.Need-lay-requires
+lay-requires c κs =
+    let s = c .before .before .before .before .before in
+    let m = memoryOf (s .args .low-base) (s .args .low .now) (s .args .high-base) (s .args .high .now) in
+    omega (arith, s .pre, ap (λ (l : List ℕ). length l) (c .before .get-slice .ensures), length-bytesAt m (s .args .pointer) (s .args .count))
 
 same-length : tie.Need-same-length
 same-length c = search needs
 
-returns-2 : tie.Need-returns-2
-unfolding windowBytes
-returns-2 c = rw (← c .before .before .before .before .before .before .before .place-range .ensures, c .before .before .before .before .before .place .given .1) (c .before .before .read-bulk .ensures)
+returns : tie.Need-returns
+returns c = rw (← c .before .before .before .before .get-slice .ensures) (c .before .before .lay .ensures)
 
 pub collect-memory-spec : {M : Type 1} → statement M
-collect-memory-spec =
-    tie.close
-    (tie.spec
-    place-range-requires
-    enum-told
-    enum-known-place
-    read-bulk-requires
-    returns
-    same-length
-    returns-2)
+collect-memory-spec = tie.close (tie.spec get-slice-requires lay-requires same-length returns)

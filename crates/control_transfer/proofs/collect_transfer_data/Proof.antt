@@ -13,13 +13,13 @@ cast-collect-immediate c = search needs
 
 collect-immediate-requires : tie.Need-collect-immediate-requires
 collect-immediate-requires c κs =
-    let s = c .before .before .before .before .before in
+    let s = c .before .before .before .before .before .before in
     let e = rw (c .before .before .if1 .taken) at (s .pre) in
     (omega (arith, e, c .before .immediate-length .ensures), omega (arith, c .before .immediate-length .ensures))
 
 collect-memory-requires : tie.Need-collect-memory-requires
 collect-memory-requires c κs =
-    let e = rw (c .before .if1 .left) at (c .before .before .before .before .pre) in
+    let e = rw (c .before .if1 .left) at (c .before .before .before .before .before .pre) in
     omega (arith, e)
 
 same-length : tie.Need-same-length

@@ -16,7 +16,7 @@ data-of-requires c κs = search needs
 
 collect-transfer-data-requires : tie.Need-collect-transfer-data-requires
 collect-transfer-data-requires c κs =
-    let s = c .before .before .before .before .before .before in
+    let s = c .before .before .before .before .before .before .before in
     let size = collectable-size (s .args .outcome) (s .args .input) (s .args .collected) (dataOf (s .args .variant)) (s .pre .1) (sym (c .before .before .before .is-collected .ensures) ∙ c .before .before .if1 .taken) in
     rw (c .before .data-of .ensures) (omega (arith, size, s .pre .0))
 
@@ -33,7 +33,7 @@ returns c =
 
 returns-2 : tie.Need-returns-2
 returns-2 c =
-    let s = c .before .before .before .before .args in
+    let s = c .before .before .before .before .before .args in
     rw (← c .before .is-collected .ensures, c .if1 .left) (sym (patch-none (s .collect .now) (s .collected)))
 
 pub collect-trb-spec : {M : Type 1} → statement M

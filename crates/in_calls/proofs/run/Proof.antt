@@ -110,11 +110,11 @@ same-length-2 c = search needs
 same-length-3 : tie.Need-same-length-3
 same-length-3 c = search needs
 
-returns-5 : tie.Need-returns-5
-returns-5 c = search needs
-
 same-length-4 : tie.Need-same-length-4
 same-length-4 c = search needs
+
+returns-5 : tie.Need-returns-5
+returns-5 c = search needs
 
 same-length-5 : tie.Need-same-length-5
 same-length-5 c = search needs
@@ -122,23 +122,32 @@ same-length-5 c = search needs
 same-length-6 : tie.Need-same-length-6
 same-length-6 c = search needs
 
-returns-6 : tie.Need-returns-6
-returns-6 c = search needs
-
 same-length-7 : tie.Need-same-length-7
 same-length-7 c = search needs
 
 same-length-8 : tie.Need-same-length-8
 same-length-8 c = search needs
 
+returns-6 : tie.Need-returns-6
+returns-6 c = search needs
+
 same-length-9 : tie.Need-same-length-9
 same-length-9 c = search needs
+
+same-length-10 : tie.Need-same-length-10
+same-length-10 c = search needs
+
+same-length-11 : tie.Need-same-length-11
+same-length-11 c = search needs
+
+same-length-12 : tie.Need-same-length-12
+same-length-12 c = search needs
 
 returns-7 : tie.Need-returns-7
 returns-7 c = search needs
 
-same-length-10 : tie.Need-same-length-10
-same-length-10 c = search needs
+same-length-13 : tie.Need-same-length-13
+same-length-13 c = search needs
 
 returns-8 : tie.Need-returns-8
 returns-8 c = search needs
@@ -194,16 +203,19 @@ run-spec =
     same-length
     same-length-2
     same-length-3
-    returns-5
     same-length-4
+    returns-5
     same-length-5
     same-length-6
-    returns-6
     same-length-7
     same-length-8
+    returns-6
     same-length-9
-    returns-7
     same-length-10
+    same-length-11
+    same-length-12
+    returns-7
+    same-length-13
     returns-8
     returns-9
     returns-10

@@ -13,6 +13,8 @@ use Rattle.trb.specs.Questions.{firstNo}
 use Rattle.trb.proofs.AnswerLaws.{accepted-is, refused-is, answered-yes, answered-no, answered-all}
 use Rattle.log.proofs.CallLaws.{meets}
 use Rattle.log.proofs.LogLaws.{logged-none}
+use Rattle.guest_memory.specs.declared.Regions.{Regions}
+use Rattle.guest_memory.specs.Regions.{guestRegions}
 use Rattle.in_block.specs.Blocks.{heldOf}
 use Rattle.in_block.specs.Facts.{heldTest, factsOf}
 use Rattle.in_block.specs.Outcomes.{outcomeOf}
@@ -31,10 +33,10 @@ use Rattle.in_endpoint.proofs.submit_trb.Statement.{statement}
 use Rattle.in_endpoint.proofs.submit_trb.Tie as tie
 
 abbrev Inv-loop : tie.InvT-loop
-Inv-loop log block t window-base window endpoint-id slot-id mode state held trbs places found₀ i₀ found i = Testing (take places trbs) found i × (i ≤ places)
+Inv-loop log block t low-base low high-base high endpoint-id slot-id mode state held trbs places found₀ i₀ found i = Testing (take places trbs) found i × (i ≤ places)
 
 abbrev μ-loop : tie.MeasureT-loop
-μ-loop log block t window-base window endpoint-id slot-id mode state held trbs places found₀ i₀ found i = places - i
+μ-loop log block t low-base low high-base high endpoint-id slot-id mode state held trbs places found₀ i₀ found i = places - i
 
 -- ---- Question 2's loop
 
@@ -46,7 +48,7 @@ places-held-requires : tie.Need-places-held-requires Inv-loop μ-loop
 places-held-requires c κs = search needs
 
 loop-holds : tie.Need-loop-holds Inv-loop μ-loop
-loop-holds c = (testing-none (take (c .places-held .result) (c .before .before .before .before .before .before .args .block .trbs)), search needs)
+loop-holds c = (testing-none (take (c .places-held .result) (c .before .before .before .before .before .before .before .args .block .trbs)), search needs)
 
 mul-one : tie.Need-mul-one Inv-loop μ-loop
 mul-one c = search needs
@@ -66,7 +68,7 @@ loop-less c = search needs
 loop-again : tie.Need-loop-again Inv-loop μ-loop
 loop-again c =
     let l = c .before .before .before in
-    let s = c .before .before .before .before .before .before .before .before .before .before in
+    let s = c .before .before .before .before .before .before .before .before .before .before .before in
     let b = s .args .block in
     let few = places-few (b .trbs) (b .held) (l .before .places-held .result) (len s) (l .before .places-held .ensures) in
     (testing-turn (b .trbs) (l .before .places-held .result) few (l .loop .found) (c .test-trb .result) (l .loop .i) (l .loop .inv .0) (c .before .before .loop-test .taken) (c .test-trb .ensures), search needs)
@@ -75,7 +77,7 @@ loop-again c =
 
 -- the call, seen from behind the loop
 abbrev call : tie.After-loop Inv-loop μ-loop → tie.Start Inv-loop μ-loop
-call c = c .before .before .before .before .before .before .before .before
+call c = c .before .before .before .before .before .before .before .before .before
 
 found : (c : tie.After-loop Inv-loop μ-loop) → c .before .loop .found ≡ heldTest (heldOf (call c .args .block))
 found c =
@@ -83,39 +85,47 @@ found c =
     let b = call c .args .block in
     held-tested (b .trbs) (b .held) (l .before .places-held .result) (len (call c)) (l .before .places-held .ensures) (l .loop .found) (l .loop .i) (l .loop .inv .0) (c .loop-test .left)
 
-abbrev questions : tie.Start Inv-loop μ-loop → List (Bool × ℕ)
-questions s = submissionQuestions (length (s .args .log .now)) (factsOf (s .args .block)) (s .args .t) (s .args .window-base) (length (s .args .window .now))
+abbrev regions : tie.Start Inv-loop μ-loop → Regions
+regions s = guestRegions (s .args .low-base) (length (s .args .low .now)) (s .args .high-base) (length (s .args .high .now))
 
-number : (c : tie.After-ask-submission Inv-loop μ-loop) → numberOf (c .ask-submission .result) ≡ firstNo (questions (call (c .before)))
+abbrev questions : tie.Start Inv-loop μ-loop → List (Bool × ℕ)
+questions s = submissionQuestions (length (s .args .log .now)) (factsOf (s .args .block)) (s .args .t) (regions s)
+
+number : (c : tie.After-ask-submission Inv-loop μ-loop) → numberOf (c .ask-submission .result) ≡ firstNo (questions (call (c .before .before)))
 number c =
-    let s = call (c .before) .args in
+    let s = call (c .before .before) .args in
     c .ask-submission .ensures
-    ∙ ap (λ (f : BlockFacts). firstNo (submissionQuestions (length (s .log .now)) f (s .t) (s .window-base) (length (s .window .now))))
-    (facts-known (s .block) (c .before .before .loop .found) (found (c .before)))
+    ∙ ap (λ (f : BlockFacts). firstNo (submissionQuestions (length (s .log .now)) f (s .t) (c .before .guest-regions .result)))
+    (facts-known (s .block) (c .before .before .before .loop .found) (found (c .before .before)))
+    ∙ ap (λ (rs : Regions). firstNo (submissionQuestions (length (s .log .now)) (factsOf (s .block)) (s .t) rs)) (c .before .guest-regions .ensures)
 
 passed : (c : tie.Else1 Inv-loop μ-loop) → isAccepted (c .before .before .ask-submission .result) ≡ true
 passed c = sym (c .before .is-accepted .ensures) ∙ not-false (c .before .is-accepted .result) (c .if1 .left)
 
-known : (c : tie.Else1 Inv-loop μ-loop) → let s = call (c .before .before .before) .args in PassedSubmission (length (s .log .now)) (factsOf (s .block)) (s .t)
+known : (c : tie.Else1 Inv-loop μ-loop) → let s = call (c .before .before .before .before) .args in PassedSubmission (length (s .log .now)) (factsOf (s .block)) (s .t)
 known c =
-    let s = call (c .before .before .before) .args in
     let asked = c .before .before in
-    passed-submission (length (s .log .now)) (factsOf (s .block)) (s .t) (s .window-base) (length (s .window .now))
-    (answered-all (asked .ask-submission .result) (questions (call (asked .before))) (number asked) (passed c))
+    let start = call (asked .before .before) in
+    let s = start .args in
+    passed-submission (length (s .log .now)) (factsOf (s .block)) (s .t) (regions start)
+    (answered-all (asked .ask-submission .result) (questions (call (asked .before .before))) (number asked) (passed c))
 
 -- what the submission comes to
-taken : (c : tie.After-outcome-of Inv-loop μ-loop) → let s = call (c .before .before .before .before) .args in
-    submission (length (s .log .now)) (s .block) (s .t) (s .window-base) (length (s .window .now)) ≡ submittedAs (c .outcome-of .result) (s .block) (s .t)
+taken : (c : tie.After-outcome-of Inv-loop μ-loop) → let start = call (c .before .before .before .before .before) in let s = start .args in
+    submission (length (s .log .now)) (s .block) (s .t) (regions start) ≡ submittedAs (c .outcome-of .result) (s .block) (s .t)
 unfolding submission
 taken c =
     let asked = c .before .before .before in
-    let s = call (asked .before) .args in
-    answered-yes (questions (call (asked .before))) (refused (s .block)) (submittedAs (outcomeOf (heldTest (heldOf (s .block))) (s .t)) (s .block) (s .t)) (asked .ask-submission .result) (number asked) (passed (c .before))
-    ∙ submittedAs-by (s .block) (s .t) (sym (c .outcome-of .ensures ∙ ap (λ (x : HeldTest). outcomeOf x (s .t)) (found (asked .before))))
+    let s = call (asked .before .before) .args in
+    answered-yes (questions (call (asked .before .before))) (refused (s .block)) (submittedAs (outcomeOf (heldTest (heldOf (s .block))) (s .t)) (s .block) (s .t)) (asked .ask-submission .result) (number asked) (passed (c .before))
+    ∙ submittedAs-by (s .block) (s .t) (sym (c .outcome-of .ensures ∙ ap (λ (x : HeldTest). outcomeOf x (s .t)) (found (asked .before .before))))
 
 -- a TRB that is held has a place
-room : (c : tie.After-outcome-of Inv-loop μ-loop) (o : Outcome) → c .outcome-of .result ≡ o → holds o ≡ true → call (c .before .before .before .before) .args .block .held < maxHeld
-room c o e h = known (c .before) .room (supported-held (c .before .before .before .before .before .loop .found) (call (c .before .before .before .before) .args .t) o (sym (c .outcome-of .ensures) ∙ e) h)
+room : (c : tie.After-outcome-of Inv-loop μ-loop) (o : Outcome) → c .outcome-of .result ≡ o → holds o ≡ true → call (c .before .before .before .before .before) .args .block .held < maxHeld
+room c o e h = known (c .before) .room (supported-held (c .before .before .before .before .before .before .loop .found) (call (c .before .before .before .before .before) .args .t) o (sym (c .outcome-of .ensures) ∙ e) h)
+
+guest-regions-requires : tie.Need-guest-regions-requires Inv-loop μ-loop
+guest-regions-requires c κs = search needs
 
 ask-submission-requires : tie.Need-ask-submission-requires Inv-loop μ-loop
 ask-submission-requires c κs = search needs
@@ -127,11 +137,11 @@ returns : tie.Need-returns Inv-loop μ-loop
 unfolding submission
 returns c =
     let asked = c .before .before in
-    let s = call (asked .before) .args in
+    let s = call (asked .before .before) .args in
     let failed : isAccepted (asked .ask-submission .result) ≡ false = sym (c .before .is-accepted .ensures) ∙ not-true (c .before .is-accepted .result) (c .if1 .taken) in
     record {
       number = number asked;
-      met = meets (answered-no (questions (call (asked .before))) (refused (s .block)) (submittedAs (outcomeOf (heldTest (heldOf (s .block))) (s .t)) (s .block) (s .t)) (asked .ask-submission .result) (number asked) failed)
+      met = meets (answered-no (questions (call (asked .before .before))) (refused (s .block)) (submittedAs (outcomeOf (heldTest (heldOf (s .block))) (s .t)) (s .block) (s .t)) (asked .ask-submission .result) (number asked) failed)
           (record { state = rw (refused-is (asked .ask-submission .result) failed); log = sym (logged-none (s .log .now) 0); fits = tt });
     }
 
@@ -187,7 +197,7 @@ log-request-requires c κs =
     let o = c .before .before .before in
     let place = room o Request (c .before .enum-told4 .given .1) refl in
     let k = known (o .before) in
-    let s = call (o .before .before .before .before) .args in
+    let s = call (o .before .before .before .before .before) .args in
     (k .log-long, (search needs, (search needs, requested-stored (s .block) (s .t) (k .sound) place (k .short))))
 
 state-after-requires : tie.Need-state-after-requires Inv-loop μ-loop
@@ -200,7 +210,7 @@ returns-2 : tie.Need-returns-2 Inv-loop μ-loop
 returns-2 c =
     let o = c .before .before in
     let asked = o .before .before .before in
-    let s = call (asked .before) .args in
+    let s = call (asked .before .before) .args in
     let b = s .block in
     let yes-all = accepted-is (asked .ask-submission .result) (passed (o .before)) in
     let same-log = sym (logged-none (s .log .now) 0) in
@@ -226,6 +236,7 @@ submit-trb-spec =
     add-i
     loop-less
     loop-again
+    guest-regions-requires
     ask-submission-requires
     is-accepted-requires
     returns

@@ -17,11 +17,11 @@ use Rattle.in_questions.proofs.ask_of_trb.Statement.{statement}
 use Rattle.in_questions.proofs.ask_of_trb.Tie as tie
 
 abbrev asked : tie.Start → List (Bool × ℕ)
-asked s = trbQuestions (s .args .held) (s .args .variant) (s .args .window-base) (s .args .window-size)
+asked s = trbQuestions (s .args .held) (s .args .variant) (s .args .regions)
 
 -- the questions left of a TRB that would be held
 abbrev from-window : tie.Start → List (Bool × ℕ)
-from-window s = (inGuestMemory (s .args .variant) (s .args .window-base) (s .args .window-size), 6) ∷ []
+from-window s = (inGuestMemory (s .args .variant) (s .args .regions), 6) ∷ []
 
 abbrev from-held : tie.Start → List (Bool × ℕ)
 from-held s = (leb (s .args .held + 1) maxHeld, 5) ∷ from-window s

@@ -1,9 +1,9 @@
--- `session::move_window` meets its contract: no more of the window is filled than there is. Assumes nothing.
+-- `session::fill_region` is safe: no more bytes are filled than there are. Assumes nothing.
 use mathlib.Core.Path.{sym}
 use lib.Seq.{length-take-le}
 use borrow.Author.Needs.{needs}
-use Rattle.session.proofs.move_window.Statement.{statement}
-use Rattle.session.proofs.move_window.Tie as tie
+use Rattle.session.proofs.fill_region.Statement.{statement}
+use Rattle.session.proofs.fill_region.Tie as tie
 
 least-requires : tie.Need-least-requires
 least-requires c κs = search needs
@@ -23,8 +23,8 @@ same-length c = search needs
 returns : tie.Need-returns
 returns c = search needs
 
-pub move-window-spec : {M : Type 1} → statement M
-move-window-spec =
+pub fill-region-spec : {M : Type 1} → statement M
+fill-region-spec =
     tie.close
     (tie.spec
     least-requires

@@ -1,10 +1,10 @@
--- `guest_memory::lay_part` meets its contract: the part lent to `buffers::lay` has `count` bytes. Assumes nothing.
+-- `guest_memory::write_bulk` meets its contract: the part lent to `buffers::lay` has `count` bytes. Assumes nothing.
 use Prim.Native.Nat.{_+_, _-_}
 use mathlib.Core.Path.{_≡_}
 use native.Mathlib.Omega.{arith}
 use borrow.Author.Needs.{needs}
-use Rattle.guest_memory.proofs.lay_part.Statement.{statement}
-use Rattle.guest_memory.proofs.lay_part.Tie as tie
+use Rattle.guest_memory.proofs.write_bulk.Statement.{statement}
+use Rattle.guest_memory.proofs.write_bulk.Tie as tie
 
 add-end : tie.Need-add-end
 add-end c = search needs
@@ -30,7 +30,7 @@ returns c =
     let whole : s .start + s .count - s .start ≡ s .count = omega arith in
     rw whole at (c .before .before .lay .ensures)
 
-pub lay-part-spec : {M : Type 1} → statement M
-lay-part-spec =
+pub write-bulk-spec : {M : Type 1} → statement M
+write-bulk-spec =
     tie.close
     (tie.spec add-end sub-lay part-lay-start part-lay-end lay-requires same-length returns)
