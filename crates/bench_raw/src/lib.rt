@@ -60,7 +60,7 @@ fn decode_row(trbs: &[u8]) -> u64 {
     let mut sum: u64 = 0;
     let mut at = 0;
     while at + TRB_BYTES <= trbs.len() {
-        let decoded = raw_trb::decode(trb_at(trbs, at));
+        let decoded = raw_trb_decoder::decode(trb_at(trbs, at));
         sum = std::num::wrapping_add_u64(sum, sum_of(decoded));
         at += TRB_BYTES;
     }

@@ -555,7 +555,7 @@ fn raw_submission(line: &[u8]) -> Call
         return Call::Bad;
     }
     let bytes = fields.bytes;
-    let decoded = raw_trb::decode(bytes);
+    let decoded = raw_trb_decoder::decode(bytes);
     let variant = decoded.variant;
     let t = TransferTrb {
         variant: variant,
@@ -740,7 +740,7 @@ fn decoding(line: &[u8]) -> RawLine {
         return RawLine::Bad;
     }
     let bytes = fields.bytes;
-    let decoded = raw_trb::decode(bytes);
+    let decoded = raw_trb_decoder::decode(bytes);
     RawLine::Decode(decoded)
 }
 

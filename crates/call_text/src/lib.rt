@@ -30,7 +30,7 @@ fn put_numbered(text: &mut [u8], at: usize, word: &[u8], n: u32) -> usize
     ensures { λ r. ⌜ Written (length (now (word .entry)) + decimalPlaces) (now (text .entry)) at (now (word .entry) ++ decimalOf n) r (now (text .exit)) ⌝ }
 {
     let next = put_word(text, at, word);
-    numerals::put_decimal(text, next, n)
+    written_numbers::put_decimal(text, next, n)
 }
 
 // Writes a space and a number in decimal.
@@ -39,7 +39,7 @@ pub fn put_decimal_behind(text: &mut [u8], at: usize, n: u32) -> usize
     ensures { λ r. ⌜ Written maxDecimal (now (text .entry)) at (behind (decimalOf n)) r (now (text .exit)) ⌝ }
 {
     let next = numerals::put_char(text, at, b' ');
-    numerals::put_decimal(text, next, n)
+    written_numbers::put_decimal(text, next, n)
 }
 
 // Writes a space and a number in hex.
@@ -48,7 +48,7 @@ pub fn put_hex_behind(text: &mut [u8], at: usize, n: u64) -> usize
     ensures { λ r. ⌜ Written maxHex (now (text .entry)) at (behind (hexOf n)) r (now (text .exit)) ⌝ }
 {
     let next = numerals::put_char(text, at, b' ');
-    numerals::put_hex(text, next, n)
+    written_numbers::put_hex(text, next, n)
 }
 
 // ---- The first line of an answer

@@ -13,11 +13,11 @@ use Rattle.log.specs.Records.{decode, writeKind}
 use Rattle.account.specs.Guest.{isWrite, isEvent, isUnsuccessful, any, beforeLast, relied, namesHeld, countBefore, before, later, bytes, Account}
 use Rattle.account.proofs.GuestLaws.{any-at, beforeFirst-at}
 use Rattle.carry_out.specs.Writes.{recordsOf}
-use Rattle.log_compact.specs.Rows.{rowsOf}
-use Rattle.log_compact.specs.Compact.{compacted}
+use Rattle.kept_records.specs.Rows.{rowsOf}
+use Rattle.kept_records.specs.Compact.{compacted}
 use Rattle.log_compact.specs.Compacting.{keptBytes}
-use Rattle.log_compact.proofs.CompactLaws.{AllSized, compacted-part}
-use Rattle.log_compact.proofs.LogLaws.{allSized-rowsOf, recordsOf-rowsOf, recordsOf-kept}
+use Rattle.compact_laws.proofs.CompactLaws.{AllSized, compacted-part}
+use Rattle.compact_laws.proofs.LogLaws.{allSized-rowsOf, recordsOf-rowsOf, recordsOf-kept}
 use Rattle.compact_account.proofs.ByteLaws.{bytes-compacted, any-compacted, first-compacted, compacted-others}
 
 -- ---- Events are no writes

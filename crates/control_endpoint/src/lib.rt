@@ -135,7 +135,7 @@ pub fn submit_trb<'a>(
             let mut j = 0;
             while j < dropped {
                 let one = trbs[j];
-                progress = control_chain::report_dropped(log, info, progress, one);
+                progress = control_dropped::report_dropped(log, info, progress, one);
                 trbs[j] = blank;
                 j += 1;
             }
@@ -247,20 +247,20 @@ pub fn next_completion(
         }
         Answer::Accepted => {
             let ending = control_block::ending_of(state, result, data.len() as u32);
-            let info = control_chain::info_of(ending, endpoint_id, slot_id);
+            let info = control_ending::info_of(ending, endpoint_id, slot_id);
             let blank = held::blank();
             let freed = control_block::places_freed(ending, held);
             let mut progress = td_part::at_start_of_td();
             let mut j = 0;
             while j < freed {
                 let one = trbs[j];
-                progress = control_chain::next_trb(log, ending, info, progress, one);
+                progress = control_turn::next_trb(log, ending, info, progress, one);
                 trbs[j] = blank;
                 j += 1;
             }
             held -= freed;
             let error_address = control_block::address_for(rule, request.address, stage.addr);
-            records = control_chain::log_ending(
+            records = control_ending::log_ending(
                 log,
                 progress.records,
                 ending,

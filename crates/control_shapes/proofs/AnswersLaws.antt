@@ -10,7 +10,7 @@ use lib.ListN.{length, getD}
 use Rattle.numerals.specs.Written.{Written}
 use Rattle.log_text.specs.Lines.{lineFeed}
 use Rattle.shapes.specs.Lists.{minShape, maxShape}
-use Rattle.shapes.specs.Lines.{shapesText, maxText}
+use Rattle.shape_lines.specs.Lines.{shapesText, maxText}
 use Rattle.control_shapes.specs.Answers.{inRange, oneDigit, twoDigits, asked, refusedText, answerText}
 
 -- ---- By the length of the input

@@ -7,9 +7,9 @@ use mathlib.Core.Logic.{_⊎_}
 use lib.Dec.{eqb, ltb}
 use Rattle.numerals.specs.Digits.{decimalOf}
 use Rattle.log_text.specs.Lines.{lineFeed, field}
-use Rattle.log_text.specs.LogText.{refusedWord}
+use Rattle.log_print.specs.LogText.{refusedWord}
 use Rattle.shapes.specs.Lists.{minShape, maxShape}
-use Rattle.shapes.specs.Lines.{shapesText}
+use Rattle.shape_lines.specs.Lines.{shapesText}
 
 -- ---- What is read
 

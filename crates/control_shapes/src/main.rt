@@ -4,7 +4,7 @@ ghost use mathlib.Core.List.{_∷_, []};
 ghost use Prim.Native.Nat.{_≤_};
 ghost use lib.ListN.{length};
 ghost use Rattle.numerals.specs.Written.{Written};
-ghost use Rattle.shapes.specs.Lines.{maxText};
+ghost use Rattle.shape_lines.specs.Lines.{maxText};
 ghost use Rattle.control_shapes.specs.Answers.{inRange, oneDigit, twoDigits, asked as asked-of, refusedText, answerText};
 use libc::STDIN_FILENO;
 use libc::STDOUT_FILENO;
@@ -24,10 +24,10 @@ fn wide(c: u8) -> usize
 fn in_range(m: usize) -> usize
     ensures { λ r. ⌜ r ≡ inRange m ⌝ }
 {
-    if m < shapes::MIN_SHAPE {
+    if m < shape_lines::MIN_SHAPE {
         return 0;
     }
-    if shapes::MAX_SHAPE < m {
+    if shape_lines::MAX_SHAPE < m {
         return 0;
     }
     m
@@ -123,11 +123,11 @@ fn put_answer(text: &mut [u8], input: &[u8]) -> usize
     if longest == 0 {
         return put_refused(text);
     }
-    shapes::shapes_up_to(text, longest)
+    shape_text::shapes_up_to(text, longest)
 }
 
-fn text_buffer() -> [u8; shapes::MAX_TEXT] {
-    [0u8; shapes::MAX_TEXT]
+fn text_buffer() -> [u8; shape_lines::MAX_TEXT] {
+    [0u8; shape_lines::MAX_TEXT]
 }
 
 fn main() {

@@ -251,7 +251,7 @@ pub fn next_completion(
             let mut j = 0;
             while j < held {
                 let one = trbs[j];
-                processed = in_td::next_trb(log, td, processed, one);
+                processed = in_turn::next_trb(log, td, processed, one);
                 trbs[j] = blank;
                 j += 1;
             }

@@ -1,16 +1,13 @@
 -- Laws of one pass over the rows: taking them one after the other keeps what `compacted` keeps. Assumes nothing.
 use Prim.Native.Nat.{ℕ, zero, suc, _+_, _-_, _<_}
-use mathlib.Core.Bool.{Bool, true, false, _&&_, true≢false}
+use mathlib.Core.Bool.{Bool, true, false, true≢false}
 use mathlib.Core.Path.{_≡_, refl, sym, ap, _∙_}
 use mathlib.Core.List.{List, [], _∷_, _++_, append-assoc}
 use native.Mathlib.Omega.{arith}
-use lib.Dec.{eqb, ltb}
-use borrow.Author.Tests.{ltb-true, eq-eqb, ne-eqb}
-use Rattle.trb.proofs.TestLaws.{and-right}
 use Rattle.log.specs.declared.Record.{Record}
 use Rattle.log.specs.Records.{decode, recordAt}
-use Rattle.log_compact.specs.Rows.{rowAt, rowsIn, withLength}
-use Rattle.log_compact.specs.Compact.{lengthEnd, emptyWrite, sameEndpointWrites, goesOn, joins, joined, withoutEmpty, joinFrom, compacted}
+use Rattle.kept_records.specs.Rows.{rowAt, rowsIn, withLength}
+use Rattle.kept_records.specs.Compact.{emptyWrite, joins, joined, withoutEmpty, joinFrom, compacted}
 use Rattle.log_compact.specs.Kept.{joinsLast, joinedToLast, keptWith, keptAfter}
 use Rattle.log_compact.proofs.RowLaws.{decode-rowAt, rowsIn-last}
 
@@ -28,21 +25,6 @@ pub joinedToLast-append : (ks : List (List ℕ)) (k r : List ℕ) → joinedToLa
 joinedToLast-append [] k r = refl
 joinedToLast-append (m ∷ []) k r = refl
 joinedToLast-append (m ∷ (n ∷ ks)) k r = ap (λ (l : List (List ℕ)). m ∷ l) (joinedToLast-append (n ∷ ks) k r)
-
--- the two ways out of the first test
-pub goesOn-elsewhere : (p q : Record) → (p .address + p .length ≡ q .address → ⊥) → goesOn p q ≡ false
-unfolding goesOn
-goesOn-elsewhere p q h = simp (ne-eqb (p .address + p .length) (q .address) h)
-
-pub goesOn-there : (p q : Record) → p .address + p .length ≡ q .address → goesOn p q ≡ eqb (p .start + p .length) (q .start)
-unfolding goesOn
-goesOn-there p q h = simp (eq-eqb (p .address + p .length) (q .address) h)
-
-pub joins-below : (p q : Record) → joins p q ≡ true → p .length + q .length < lengthEnd
-unfolding joins
-joins-below p q e =
-    ltb-true (p .length + q .length) lengthEnd
-    (and-right (goesOn p q) (ltb (p .length + q .length) lengthEnd) (and-right (sameEndpointWrites p q) (goesOn p q && ltb (p .length + q .length) lengthEnd) e))
 
 pub joined-rowAt : (l : List ℕ) (j k : ℕ) → joined (rowAt l j) (rowAt l k) ≡ withLength (recordAt l j .length + recordAt l k .length) (rowAt l j)
 unfolding joined

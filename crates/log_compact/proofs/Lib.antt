@@ -1,9 +1,3 @@
 pub mod RowLaws
 pub mod KeptLaws
 pub mod TakenLaws
-pub mod JoinLaws
-pub mod CompactLaws
-pub mod EffectLaws
-pub mod CarryLaws
-pub mod LogLaws
-pub mod BeforeLaws

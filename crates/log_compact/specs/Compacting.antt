@@ -11,8 +11,8 @@ use Rattle.trb.specs.Refusals.{refusalNumber}
 use Rattle.log_check.specs.WellFormed.{wellFormed}
 use Rattle.log_compact.specs.declared.CompactAnswer.{CompactAnswer}
 use Rattle.log_compact.specs.declared.CompactAnswer.the-variants.{Kept, Refused}
-use Rattle.log_compact.specs.Rows.{rowsIn, rowsOf, bytesOf}
-use Rattle.log_compact.specs.Compact.{compacted}
+use Rattle.kept_records.specs.Rows.{rowsIn, rowsOf, bytesOf}
+use Rattle.kept_records.specs.Compact.{compacted}
 
 -- of a log whose kept rows were moved to its front: there are r of them, in log'
 pub record RowsKept (log : List ℕ) (r : ℕ) (log' : List ℕ) : Type 0 where

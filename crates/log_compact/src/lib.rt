@@ -1,5 +1,4 @@
-// Compacting a stored log in its own buffer: writes of 0 bytes are dropped, and a write that goes on where the one before it
-// ends is joined to it.
+// Compacting a stored log in its own buffer: the records that `kept_records` says are kept move to its front.
 use log::Record;
 use trb::Refusal;
 ghost use mathlib.Core.Bool.{true};
@@ -8,74 +7,17 @@ ghost use Prim.Native.Nat.{_+_, _*_, _≤_};
 ghost use lib.ListN.{length};
 ghost use Rattle.buffers.specs.Patch.{patch};
 ghost use Rattle.trb.specs.Limits.{recordLength};
-ghost use Rattle.log_compact.specs.Rows.{rowAt, withLength, rowsIn, zeroedFrom};
-ghost use Rattle.log_compact.specs.Compact.{emptyWrite, sameEndpointWrites, goesOn, joins};
+ghost use Rattle.kept_records.specs.Rows.{rowAt, withLength, rowsIn, zeroedFrom};
 ghost use Rattle.log_compact.specs.Kept.{joinsLast, LastJoined, RowTaken};
 ghost use Rattle.log_compact.specs.Compacting.{RowsKept, Compacts};
 
 // Where a record's length stands in its row.
 const LENGTH_OFFSET: usize = 16;
 
-// The least number of bytes that no record's length can say.
-const LENGTH_END: u64 = 4294967296;
-
 // What compacting answers: how many records are kept.
 pub enum CompactAnswer {
     Kept(usize),
     Refused(Refusal),
-}
-
-// Is the record a write of 0 bytes?
-fn is_empty_write(record: Record) -> bool
-    ensures { λ r. ⌜ r ≡ emptyWrite «record» ⌝ }
-{
-    if record.kind == log::KIND_WRITE {
-        record.length == 0
-    } else {
-        false
-    }
-}
-
-// Are both records writes, of the same endpoint and slot?
-fn same_endpoint_writes(first: Record, second: Record) -> bool
-    ensures { λ r. ⌜ r ≡ sameEndpointWrites first second ⌝ }
-{
-    if first.kind != log::KIND_WRITE {
-        return false;
-    }
-    if second.kind != log::KIND_WRITE {
-        return false;
-    }
-    if first.endpoint_id.0 != second.endpoint_id.0 {
-        return false;
-    }
-    first.slot_id.0 == second.slot_id.0
-}
-
-// Does the second write go on where the first ends, in guest address and in data start? No sum leaves its 64 bits.
-fn goes_on(first: Record, second: Record) -> bool
-    ensures { λ r. ⌜ r ≡ goesOn first second ⌝ }
-{
-    if second.address < first.address {
-        return false;
-    }
-    if second.address - first.address != first.length as u64 {
-        return false;
-    }
-    first.start as u64 + first.length as u64 == second.start as u64
-}
-
-// Is the second record to be joined to the first?
-fn joins(first: Record, second: Record) -> bool
-    ensures { λ r. ⌜ r ≡ joins first second ⌝ }
-{
-    if !same_endpoint_writes(first, second) {
-        return false;
-    }
-    if !goes_on(first, second) {
-        return false;
-    }
-    (first.length as u64 + second.length as u64) < LENGTH_END
 }
 
 // Is the record to be joined to the last of the first `kept` rows?
@@ -86,7 +28,7 @@ fn joins_last(log: &[u8], kept: usize, record: Record) -> bool
     if kept == 0 {
         return false;
     }
-    joins(log::read_record(log, kept - 1), record)
+    kept_records::joins(log::read_record(log, kept - 1), record)
 }
 
 // The bytes of row number `index`.
@@ -144,7 +86,7 @@ fn take_row(log: &mut [u8], kept: usize, index: usize) -> usize
     ensures { λ r. ⌜ RowTaken (now (log .entry)) kept index r (now (log .exit)) ⌝ }
 {
     let record = log::read_record(log, index);
-    if is_empty_write(record) {
+    if kept_records::is_empty_write(record) {
         return kept;
     }
     if joins_last(log, kept, record) {

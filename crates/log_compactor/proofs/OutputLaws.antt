@@ -12,12 +12,12 @@ use Rattle.trb.specs.Limits.{recordLength}
 use Rattle.trb.specs.Questions.{firstNo, afterQuestions}
 use Rattle.trb.specs.declared.Refusal.{Refusal}
 use Rattle.log_check.specs.WellFormed.{wellFormed}
-use Rattle.log_text.specs.LogText.{refusedText}
+use Rattle.log_print.specs.LogText.{refusedText}
 use Rattle.log_compact.specs.declared.CompactAnswer.the-variants.{Kept, Refused}
-use Rattle.log_compact.specs.Rows.{rowsOf}
-use Rattle.log_compact.specs.Compact.{compacted}
+use Rattle.kept_records.specs.Rows.{rowsOf}
+use Rattle.kept_records.specs.Compact.{compacted}
 use Rattle.log_compact.specs.Compacting.{keptBytes, paddedTo, answerOf, logAfter}
-use Rattle.log_compact.proofs.LogLaws.{length-bytesOf, sized}
+use Rattle.compact_laws.proofs.LogLaws.{length-bytesOf, sized}
 use Rattle.log_compactor.specs.Output.{maxLog, isTaken, outputOf, Leads}
 
 leads : (vs rest : List ℕ) (n : ℕ) → length vs ≡ n → Leads vs n (vs ++ rest)

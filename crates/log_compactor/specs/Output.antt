@@ -6,7 +6,7 @@ use mathlib.Core.List.{List}
 use lib.Dec.{leb}
 use lib.ListN.{length, take}
 use Rattle.log_check.specs.WellFormed.{wellFormed}
-use Rattle.log_text.specs.LogText.{refusedText}
+use Rattle.log_print.specs.LogText.{refusedText}
 use Rattle.log_compact.specs.Compacting.{keptBytes}
 
 -- bytes of the longest log that is taken

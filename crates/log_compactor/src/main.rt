@@ -4,7 +4,7 @@ use libc::STDOUT_FILENO;
 use log_compact::CompactAnswer;
 ghost use Prim.Native.Nat.{_<_, _≤_};
 ghost use lib.ListN.{length, take};
-ghost use Rattle.log_text.specs.LogText.{refusedText};
+ghost use Rattle.log_print.specs.LogText.{refusedText};
 ghost use Rattle.log_compactor.specs.Output.{maxLog, outputOf, Leads};
 
 // Bytes of the longest log that is taken.

@@ -10,8 +10,8 @@ fn log_buffer() -> [u8; trb::MAX_PRINTED_LOG + 1] {
 fn main() {
     let mut log = log_buffer();
     let read = io::read_full(STDIN_FILENO, &mut log);
-    let mut text = log_text::text_buffer();
-    let printed = log_text::print_log(&log[..read], &mut text);
+    let mut text = log_print::text_buffer();
+    let printed = log_print::print_log(&log[..read], &mut text);
     let end = printed.length;
     io::write_all(STDOUT_FILENO, &text[..end]);
 }

@@ -1,3 +1,2 @@
 pub mod Widths
 pub mod Lines
-pub mod LogText

@@ -1,7 +1,5 @@
-// The text of a log: a line for each record.
+// The lines of a log, one for each record.
 use log::Record;
-use trb::Answer;
-use trb::Refusal;
 ghost use mathlib.Core.Path.{_≡_};
 ghost use Prim.Native.Nat.{_+_, _*_, _/_, _≤_};
 ghost use lib.ListN.{length, drop};
@@ -9,9 +7,8 @@ ghost use Rattle.trb.specs.Limits.{recordLength};
 ghost use Rattle.numerals.specs.Digits.{decimalOf, hexOf};
 ghost use Rattle.numerals.specs.Widths.{decimalPlaces, hexPlaces};
 ghost use Rattle.numerals.specs.Written.{Written};
-ghost use Rattle.log_text.specs.Widths.{maxKinds, maxIds, maxNumbers, maxFields, maxLine, linesRoom, maxText, textLimits};
+ghost use Rattle.log_text.specs.Widths.{maxKinds, maxIds, maxNumbers, maxFields, maxLine, linesRoom, textLimits};
 ghost use Rattle.log_text.specs.Lines.{field, kindFields, idFields, numberFields, fieldsOf, lineOf, linesIn};
-ghost use Rattle.log_text.specs.LogText.{refusedText, logText, Prints};
 
 // ---- Limits: each has this name here and one in specs/Widths.antt; `text_limits` ties the two.
 
@@ -43,7 +40,7 @@ fn put_decimal_field(text: &mut [u8], at: usize, n: u32) -> usize
     requires { ⌜ at + (decimalPlaces + 1) ≤ length (now text) ⌝ }
     ensures { λ r. ⌜ Written (decimalPlaces + 1) (now (text .entry)) at (field (decimalOf n)) r (now (text .exit)) ⌝ }
 {
-    let next = numerals::put_decimal(text, at, n);
+    let next = written_numbers::put_decimal(text, at, n);
     numerals::put_char(text, next, b' ')
 }
 
@@ -52,7 +49,7 @@ fn put_hex_field(text: &mut [u8], at: usize, n: u64) -> usize
     requires { ⌜ at + (hexPlaces + 1) ≤ length (now text) ⌝ }
     ensures { λ r. ⌜ Written (hexPlaces + 1) (now (text .entry)) at (field (hexOf n)) r (now (text .exit)) ⌝ }
 {
-    let next = numerals::put_hex(text, at, n);
+    let next = written_numbers::put_hex(text, at, n);
     numerals::put_char(text, next, b' ')
 }
 
@@ -107,11 +104,9 @@ pub fn put_line(text: &mut [u8], at: usize, log: &[u8], index: usize) -> usize
     let bytes_at = put_fields(text, at, record);
     let from = trb::RECORD_LENGTH * index + 24;
     let to = from + 8;
-    let end = numerals::put_bytes(text, bytes_at, &log[from..to]);
+    let end = written_numbers::put_bytes(text, bytes_at, &log[from..to]);
     numerals::put_char(text, end, b'\n')
 }
-
-// ---- The text of a log
 
 // Writes a line for each record of a log.
 pub fn put_lines(text: &mut [u8], at: usize, log: &[u8]) -> usize
@@ -126,58 +121,4 @@ pub fn put_lines(text: &mut [u8], at: usize, log: &[u8]) -> usize
         index += 1;
     }
     next
-}
-
-// Writes what a log that is refused prints.
-fn put_refused(text: &mut [u8]) -> usize
-    requires { ⌜ maxText ≤ length (now text) ⌝ }
-    ensures { λ r. ⌜ Written maxText (now (text .entry)) 0 refusedText r (now (text .exit)) ⌝ }
-{
-    let refused = b"refused 10\n";
-    buffers::lay(text, 0, refused);
-    refused.len()
-}
-
-// Writes the text of a log.
-fn put_log(text: &mut [u8], log: &[u8]) -> usize
-    requires { ⌜ maxText ≤ length (now text) ⌝ }
-    ensures { λ r. ⌜ Written maxText (now (text .entry)) 0 (logText (now (log .entry))) r (now (text .exit)) ⌝ }
-{
-    if trb::MAX_PRINTED_LOG < log.len() {
-        return put_refused(text);
-    }
-    if !log_check::well_formed(log) {
-        return put_refused(text);
-    }
-    put_lines(text, 0, log)
-}
-
-// Room for the text of any log.
-pub fn text_buffer() -> [u8; MAX_TEXT]
-    ensures { λ r. ⌜ length r ≡ maxText ⌝ }
-{
-    [0u8; MAX_TEXT]
-}
-
-// What printing a log answers: whether the buffer was long enough, and how long the text is.
-pub struct Printed {
-    pub answer: Answer,
-    pub length: usize,
-}
-
-// Prints a log into a text buffer of at least MAX_TEXT bytes.
-pub fn print_log(log: &[u8], text: &mut [u8]) -> Printed
-    ensures { λ r. ⌜ Prints (now (log .entry)) (now (text .entry)) r (now (text .exit)) ⌝ }
-{
-    if text.len() < MAX_TEXT {
-        return Printed {
-            answer: Answer::Refused(Refusal::BufferTooShort),
-            length: 0,
-        };
-    }
-    let length = put_log(text, log);
-    Printed {
-        answer: Answer::Accepted,
-        length: length,
-    }
 }

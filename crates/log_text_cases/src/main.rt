@@ -16,8 +16,8 @@ fn ones() -> [u8; trb::MAX_PRINTED_LOG + trb::RECORD_LENGTH]
 // Writes a name, and what the log prints, or where that is long only how long it is.
 fn show(name: &[u8], log: &[u8]) {
     io::write_all(STDOUT_FILENO, name);
-    let mut text = log_text::text_buffer();
-    let printed = log_text::print_log(log, &mut text);
+    let mut text = log_print::text_buffer();
+    let printed = log_print::print_log(log, &mut text);
     let end = printed.length;
     if end < 100 {
         io::write_all(STDOUT_FILENO, &text[..end]);
@@ -53,7 +53,7 @@ fn kind_four() {
 fn short_buffer() {
     let log = [1u8; 32];
     let mut text = [b'.'; 80];
-    let printed = log_text::print_log(&log, &mut text);
+    let printed = log_print::print_log(&log, &mut text);
     let answer = printed.answer;
     match answer {
         Answer::Accepted => {

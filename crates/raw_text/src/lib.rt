@@ -163,7 +163,7 @@ pub fn put_decoded(text: &mut [u8], at: usize, decoded: DecodedTrb) -> usize
 {
     let variant = decoded.variant;
     let cycle_bit = decoded.cycle_bit;
-    let flags_at = numerals::put_hex(text, at, kind_of(variant));
+    let flags_at = written_numbers::put_hex(text, at, kind_of(variant));
     let a_at = call_text::put_hex_behind(text, flags_at, flags_of(variant, cycle_bit));
     let b_at = call_text::put_hex_behind(text, a_at, a_of(variant));
     let length = trb::transfer_length(variant);
@@ -177,7 +177,7 @@ fn put_bytes_line(text: &mut [u8], at: usize, bytes: [u8; 16]) -> usize
     requires { ⌜ at + maxRawAnswer ≤ length (now text) ⌝ }
     ensures { λ r. ⌜ Written maxRawAnswer (now (text .entry)) at (bytesLine bytes) r (now (text .exit)) ⌝ }
 {
-    let end = numerals::put_bytes(text, at, &bytes);
+    let end = written_numbers::put_bytes(text, at, &bytes);
     numerals::put_char(text, end, b'\n')
 }
 

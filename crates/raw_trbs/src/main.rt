@@ -56,7 +56,7 @@ fn run_line(text: &mut [u8], progress: Progress, line: &[u8]) -> Progress
         RawLine::Encode(t) => {
             let at = script_lines::make_room(text, progress.end, raw_text::MAX_RAW_ANSWER);
             let variant = t.variant;
-            let encoded = raw_trb::encode(variant, t.cycle_bit);
+            let encoded = raw_trb_encoder::encode(variant, t.cycle_bit);
             good_line(progress, raw_text::put_encoded(text, at, encoded))
         }
         RawLine::Bad => bad_line(progress),

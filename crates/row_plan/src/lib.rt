@@ -98,7 +98,7 @@ pub fn next_trb(log: &mut [u8], plan: RowPlan, so_far: TdProcessed, t: TransferT
     ensures { λ r. ⌜ Meets (nextTrb (plan .td) «so_far» t) («so_far» .progress .records) (now (log .entry)) r (now (log .exit)) ⌝ }
 {
     let td = plan.td;
-    in_td::next_trb(log, td, so_far, t)
+    in_turn::next_trb(log, td, so_far, t)
 }
 
 // The answer: the refusal, or what the walk came to. (A row that is refused is not walked.)

@@ -3,4 +3,3 @@ pub mod Order
 pub mod Theorems
 pub mod Spelt
 pub mod Counts
-pub mod LinesLaws

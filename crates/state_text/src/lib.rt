@@ -51,7 +51,7 @@ fn put_in_state(text: &mut [u8], at: usize, state: TdBasedNormalSubmissionState)
         ),
         TdBasedNormalSubmissionState::UnsupportedTrb(addr) => {
             let next = call_text::put_word(text, at, b"unsupported:");
-            numerals::put_hex(text, next, addr)
+            written_numbers::put_hex(text, next, addr)
         }
     }
 }
@@ -93,11 +93,11 @@ fn put_control_state(text: &mut [u8], at: usize, state: ControlSubmissionState) 
         ControlSubmissionState::CollectingTd => call_text::put_word(text, at, b"collecting"),
         ControlSubmissionState::ParserError(addr) => {
             let next = call_text::put_word(text, at, b"parser:");
-            numerals::put_hex(text, next, addr)
+            written_numbers::put_hex(text, next, addr)
         }
         ControlSubmissionState::UnexpectedTrb(addr) => {
             let next = call_text::put_word(text, at, b"unexpected:");
-            numerals::put_hex(text, next, addr)
+            written_numbers::put_hex(text, next, addr)
         }
         ControlSubmissionState::AwaitingControlRequest => call_text::put_word(text, at, b"request"),
     }
@@ -120,7 +120,7 @@ fn put_bytes_behind(text: &mut [u8], at: usize, bytes: &[u8]) -> usize
     ensures { λ r. ⌜ Written (1 + 2 * length (now (bytes .entry))) (now (text .entry)) at (behind (bytesHex (now (bytes .entry)))) r (now (text .exit)) ⌝ }
 {
     let next = numerals::put_char(text, at, b' ');
-    numerals::put_bytes(text, next, bytes)
+    written_numbers::put_bytes(text, next, bytes)
 }
 
 // Request type, request, value and index, as the six bytes at offset 24 of a request record.

@@ -1,17 +1,12 @@
-// What IN and control endpoints do alike with one TRB of a TD: bytes moved, residual, completion code, Event Data, EDTLA.
-// Ports `realize_dma_trb`, `Edtla` and `handle_event_data_trb`.
+// What IN and control endpoints know alike of one TRB of a TD: bytes moved, residual, completion code, EDTLA. Ports `Edtla` and the tests of
+// `realize_dma_trb`.
 use trb::CompletionCode;
 use trb::DataStageTrb;
 use trb::EndpointId;
-use trb::EventDataTrb;
 use trb::NormalTrb;
 use trb::SlotId;
 ghost use mathlib.Core.Path.{_≡_};
-ghost use Prim.Native.Nat.{_+_, _*_, _≤_};
-ghost use lib.ListN.{length};
-ghost use Rattle.trb.specs.Limits.{recordLength};
-ghost use Rattle.log.specs.Calls.{Meets};
-ghost use Rattle.td_part.specs.Parts.{Within, ofNormal, ofDataStage, edtlaAfter, movedOf, residualOf, codeFor, dueFor, stateAfter, codeAfter, putDma, realizeDma, reportTrb, repeatShort, reportSuccess, handleEventData, atStart};
+ghost use Rattle.td_part.specs.Parts.{Within, ofNormal, ofDataStage, edtlaAfter, movedOf, residualOf, codeFor, dueFor, stateAfter, atStart};
 
 pub enum TdProcessingState {
     Default,
@@ -43,6 +38,7 @@ pub struct TrbDmaInfo {
     pub addr: u64,
 }
 
+// A Normal as a TRB that moves data.
 pub fn of_normal(normal: NormalTrb, addr: u64) -> TrbDmaInfo
     ensures { λ r. ⌜ r ≡ ofNormal normal addr ⌝ }
 {
@@ -55,6 +51,7 @@ pub fn of_normal(normal: NormalTrb, addr: u64) -> TrbDmaInfo
     }
 }
 
+// A DataStage as a TRB that moves data.
 pub fn of_data_stage(data_stage: DataStageTrb, addr: u64) -> TrbDmaInfo
     ensures { λ r. ⌜ r ≡ ofDataStage «data_stage» addr ⌝ }
 {
@@ -109,7 +106,8 @@ pub fn residual_of(td: TdInfo, progress: TdProgress, transfer_length: u32) -> u3
     transfer_length - moved
 }
 
-fn code_for(residual: u32) -> CompletionCode
+// The code of a TRB that misses so many bytes.
+pub fn code_for(residual: u32) -> CompletionCode
     ensures { λ r. ⌜ r ≡ codeFor residual ⌝ }
 {
     if residual == 0 {
@@ -119,7 +117,8 @@ fn code_for(residual: u32) -> CompletionCode
     }
 }
 
-fn due_for(dma: TrbDmaInfo, residual: u32) -> bool
+// Is the event of such a TRB due?
+pub fn due_for(dma: TrbDmaInfo, residual: u32) -> bool
     ensures { λ r. ⌜ r ≡ dueFor dma residual ⌝ }
 {
     if residual == 0 {
@@ -132,184 +131,13 @@ fn due_for(dma: TrbDmaInfo, residual: u32) -> bool
     }
 }
 
-fn state_after(state: TdProcessingState, residual: u32) -> TdProcessingState
+// The residual of a short TRB is kept.
+pub fn state_after(state: TdProcessingState, residual: u32) -> TdProcessingState
     ensures { λ r. ⌜ r ≡ stateAfter state residual ⌝ }
 {
     if residual == 0 {
         state
     } else {
         TdProcessingState::ShortTransfer(residual)
-    }
-}
-
-fn code_after(state: TdProcessingState) -> CompletionCode
-    ensures { λ r. ⌜ r ≡ codeAfter state ⌝ }
-{
-    match state {
-        TdProcessingState::Default => CompletionCode::Success,
-        TdProcessingState::ShortTransfer(_) => CompletionCode::ShortPacket,
-    }
-}
-
-// Writes what is left of the device's data, as far as the TRB reaches, and then its event, where that is due, with this code.
-pub fn put_dma(
-    log: &mut [u8],
-    td: TdInfo,
-    progress: TdProgress,
-    dma: TrbDmaInfo,
-    due: bool,
-    code: CompletionCode,
-) -> TdProgress
-    requires { ⌜ (recordLength * (progress .records + 2) ≤ length (now log)) × Within td progress ⌝ }
-    ensures { λ r. ⌜ Meets (putDma td progress dma due code) (progress .records) (now (log .entry)) r (now (log .exit)) ⌝ }
-{
-    let endpoint_id = td.endpoint_id;
-    let slot_id = td.slot_id;
-    let state = progress.state;
-    let moved = moved_of(td, progress, dma.transfer_length);
-    let residual = dma.transfer_length - moved;
-    let write = log::guest_write(
-        dma.data_pointer,
-        moved,
-        progress.start,
-        endpoint_id,
-        slot_id,
-    );
-    let event = log::transfer_event(dma.addr, residual, code, false, endpoint_id, slot_id);
-    let records = log::put_then(log, progress.records, write, due, event);
-    let next_state = state_after(state, residual);
-    let edtla = edtla_after(progress.edtla, moved);
-    TdProgress {
-        start: progress.start + moved,
-        edtla: edtla,
-        state: next_state,
-        records: records,
-    }
-}
-
-// A TRB of a transfer that succeeded; ports `realize_dma_trb` with data.
-pub fn realize_dma_trb(
-    log: &mut [u8],
-    td: TdInfo,
-    progress: TdProgress,
-    dma: TrbDmaInfo,
-) -> TdProgress
-    requires { ⌜ (recordLength * (progress .records + 2) ≤ length (now log)) × Within td progress ⌝ }
-    ensures { λ r. ⌜ Meets (realizeDma td progress dma) (progress .records) (now (log .entry)) r (now (log .exit)) ⌝ }
-{
-    let residual = residual_of(td, progress, dma.transfer_length);
-    let due = due_for(dma, residual);
-    let code = code_for(residual);
-    put_dma(log, td, progress, dma, due, code)
-}
-
-// A TRB that moves no data: its event, where it is due, and the EDTLA given anew.
-fn report(
-    log: &mut [u8],
-    td: TdInfo,
-    progress: TdProgress,
-    edtla: u32,
-    due: bool,
-    addr: u64,
-    residual: u32,
-    code: CompletionCode,
-) -> TdProgress
-    requires { ⌜ recordLength * (progress .records + 2) ≤ length (now log) ⌝ }
-    ensures { λ r. ⌜ Meets (reportTrb td progress edtla due addr residual code) (progress .records) (now (log .entry)) r (now (log .exit)) ⌝ }
-{
-    let endpoint_id = td.endpoint_id;
-    let slot_id = td.slot_id;
-    let state = progress.state;
-    let event = log::transfer_event(addr, residual, code, false, endpoint_id, slot_id);
-    let records = log::put_when(log, progress.records, due, event);
-    TdProgress {
-        start: progress.start,
-        edtla: edtla,
-        state: state,
-        records: records,
-    }
-}
-
-// A Normal after a short TRB repeats the short one's residual.
-pub fn repeat_short(
-    log: &mut [u8],
-    td: TdInfo,
-    progress: TdProgress,
-    missing: u32,
-    interrupt_on_completion: bool,
-    addr: u64,
-) -> TdProgress
-    requires { ⌜ recordLength * (progress .records + 2) ≤ length (now log) ⌝ }
-    ensures { λ r. ⌜ Meets (repeatShort td progress missing «interrupt_on_completion» addr) (progress .records) (now (log .entry)) r (now (log .exit)) ⌝ }
-{
-    report(
-        log,
-        td,
-        progress,
-        progress.edtla,
-        interrupt_on_completion,
-        addr,
-        missing,
-        CompletionCode::ShortPacket,
-    )
-}
-
-// A TRB that moves no data succeeds.
-pub fn report_success(
-    log: &mut [u8],
-    td: TdInfo,
-    progress: TdProgress,
-    edtla: u32,
-    interrupt_on_completion: bool,
-    addr: u64,
-) -> TdProgress
-    requires { ⌜ recordLength * (progress .records + 2) ≤ length (now log) ⌝ }
-    ensures { λ r. ⌜ Meets (reportSuccess td progress edtla «interrupt_on_completion» addr) (progress .records) (now (log .entry)) r (now (log .exit)) ⌝ }
-{
-    report(
-        log,
-        td,
-        progress,
-        edtla,
-        interrupt_on_completion,
-        addr,
-        0,
-        CompletionCode::Success,
-    )
-}
-
-// An Event Data TRB reports the EDTLA, which then returns to 0.
-pub fn handle_event_data_trb(
-    log: &mut [u8],
-    td: TdInfo,
-    progress: TdProgress,
-    event_data: EventDataTrb,
-) -> TdProgress
-    requires { ⌜ recordLength * (progress .records + 2) ≤ length (now log) ⌝ }
-    ensures { λ r. ⌜ Meets (handleEventData td progress «event_data») (progress .records) (now (log .entry)) r (now (log .exit)) ⌝ }
-{
-    let endpoint_id = td.endpoint_id;
-    let slot_id = td.slot_id;
-    let state = progress.state;
-    let code = code_after(state);
-    let event = log::transfer_event(
-        event_data.event_data,
-        progress.edtla,
-        code,
-        true,
-        endpoint_id,
-        slot_id,
-    );
-    let records = log::put_when(
-        log,
-        progress.records,
-        event_data.interrupt_on_completion,
-        event,
-    );
-    TdProgress {
-        start: progress.start,
-        edtla: 0,
-        state: state,
-        records: records,
     }
 }

@@ -10,7 +10,7 @@ use Rattle.trb.specs.Refusals.{refusalNumber}
 use Rattle.trb.specs.declared.Answer.{Answer}
 use Rattle.trb.specs.declared.Answer.the-variants.{Accepted, Refused}
 use Rattle.trb.specs.declared.Refusal.{Refusal}
-use Rattle.trb.specs.declared.Refusal.the-variants.{BufferTooShort, UnsoundBlock, OutOfTurn, TransferTooLong, TooManyHeld, OutsideGuestMemory, TooMuchCollected, DeviceResultMismatch, DataTooLong, MalformedLog, WriteOutOfRange, IdOutOfRange, RegionsOverlap, ImmediateInput, NotEncodable}
+use Rattle.trb.specs.declared.Refusal.the-variants.{BufferTooShort, UnsoundBlock, OutOfTurn, TransferTooLong, TooManyHeld, OutsideGuestMemory, TooMuchCollected, DeviceResultMismatch, DataTooLong, MalformedLog, WriteOutOfRange, IdOutOfRange, RegionsOverlap, OutputTooShort, MalformedRow, NotACapture, NotConvertible, LinkTypesDiffer, TimesGoBackwards, ImmediateInput, NotEncodable}
 
 -- a refusal's number stands for that refusal
 pub refusalOf-number : (r : Refusal) → refusalOf (refusalNumber r) ≡ r
@@ -28,6 +28,12 @@ refusalOf-number MalformedLog = refl
 refusalOf-number WriteOutOfRange = refl
 refusalOf-number IdOutOfRange = refl
 refusalOf-number RegionsOverlap = refl
+refusalOf-number OutputTooShort = refl
+refusalOf-number MalformedRow = refl
+refusalOf-number NotACapture = refl
+refusalOf-number NotConvertible = refl
+refusalOf-number LinkTypesDiffer = refl
+refusalOf-number TimesGoBackwards = refl
 refusalOf-number ImmediateInput = refl
 refusalOf-number NotEncodable = refl
 
@@ -50,6 +56,12 @@ refusalNumber-positive MalformedLog = refl
 refusalNumber-positive WriteOutOfRange = refl
 refusalNumber-positive IdOutOfRange = refl
 refusalNumber-positive RegionsOverlap = refl
+refusalNumber-positive OutputTooShort = refl
+refusalNumber-positive MalformedRow = refl
+refusalNumber-positive NotACapture = refl
+refusalNumber-positive NotConvertible = refl
+refusalNumber-positive LinkTypesDiffer = refl
+refusalNumber-positive TimesGoBackwards = refl
 refusalNumber-positive ImmediateInput = refl
 refusalNumber-positive NotEncodable = refl
 

@@ -11,7 +11,7 @@ use Rattle.trb.specs.declared.CompletionAnswer.{CompletionAnswer}
 use Rattle.trb.specs.declared.CompletionAnswer.the-variants as completion
 use Rattle.trb.specs.declared.CompletionCode.the-variants as code
 use Rattle.trb.specs.declared.Refusal.{Refusal}
-use Rattle.trb.specs.declared.Refusal.the-variants.{BufferTooShort, UnsoundBlock, OutOfTurn, TransferTooLong, TooManyHeld, OutsideGuestMemory, TooMuchCollected, DeviceResultMismatch, DataTooLong, MalformedLog, WriteOutOfRange, IdOutOfRange, RegionsOverlap, ImmediateInput, NotEncodable}
+use Rattle.trb.specs.declared.Refusal.the-variants.{BufferTooShort, UnsoundBlock, OutOfTurn, TransferTooLong, TooManyHeld, OutsideGuestMemory, TooMuchCollected, DeviceResultMismatch, DataTooLong, MalformedLog, WriteOutOfRange, IdOutOfRange, RegionsOverlap, OutputTooShort, MalformedRow, NotACapture, NotConvertible, LinkTypesDiffer, TimesGoBackwards, ImmediateInput, NotEncodable}
 use Rattle.trb.specs.declared.TrbProcessingResult.{TrbProcessingResult}
 use Rattle.trb.specs.declared.TrbProcessingResult.the-variants as result
 
@@ -37,7 +37,7 @@ completionNumber (completion.Refused r) = refusalNumber r
 abbrev pub refusals : List Refusal
 refusals =
     BufferTooShort ∷ UnsoundBlock ∷ OutOfTurn ∷ TransferTooLong ∷ TooManyHeld ∷ OutsideGuestMemory ∷ TooMuchCollected ∷ DeviceResultMismatch ∷ DataTooLong
-    ∷ MalformedLog ∷ WriteOutOfRange ∷ IdOutOfRange ∷ RegionsOverlap ∷ ImmediateInput ∷ NotEncodable ∷ []
+    ∷ MalformedLog ∷ WriteOutOfRange ∷ IdOutOfRange ∷ RegionsOverlap ∷ OutputTooShort ∷ MalformedRow ∷ NotACapture ∷ NotConvertible ∷ LinkTypesDiffer ∷ TimesGoBackwards ∷ ImmediateInput ∷ NotEncodable ∷ []
 
 -- the first of these that has the number n; a number that none has stands for the first question
 abbrev pub numbered : ℕ → List Refusal → Refusal

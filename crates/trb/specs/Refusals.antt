@@ -1,9 +1,9 @@
 -- The numbers of the questions of documents 01 and 02. Assumes nothing.
 use Prim.Native.Nat.{ℕ}
 use Rattle.trb.specs.declared.Refusal.{Refusal}
-use Rattle.trb.specs.declared.Refusal.the-variants.{BufferTooShort, UnsoundBlock, OutOfTurn, TransferTooLong, TooManyHeld, OutsideGuestMemory, TooMuchCollected, DeviceResultMismatch, DataTooLong, MalformedLog, WriteOutOfRange, IdOutOfRange, RegionsOverlap, ImmediateInput, NotEncodable}
+use Rattle.trb.specs.declared.Refusal.the-variants.{BufferTooShort, UnsoundBlock, OutOfTurn, TransferTooLong, TooManyHeld, OutsideGuestMemory, TooMuchCollected, DeviceResultMismatch, DataTooLong, MalformedLog, WriteOutOfRange, IdOutOfRange, RegionsOverlap, OutputTooShort, MalformedRow, NotACapture, NotConvertible, LinkTypesDiffer, TimesGoBackwards, ImmediateInput, NotEncodable}
 
--- 01, Questions asked; 02, R-1, R-6 and R-14
+-- 01, Questions asked; 02, each request that has one
 abbrev pub refusalNumber : Refusal → ℕ
 refusalNumber BufferTooShort = 1
 refusalNumber UnsoundBlock = 2
@@ -18,5 +18,11 @@ refusalNumber MalformedLog = 10
 refusalNumber WriteOutOfRange = 11
 refusalNumber IdOutOfRange = 12
 refusalNumber RegionsOverlap = 13
+refusalNumber OutputTooShort = 14
+refusalNumber MalformedRow = 15
+refusalNumber NotACapture = 17
+refusalNumber NotConvertible = 18
+refusalNumber LinkTypesDiffer = 19
+refusalNumber TimesGoBackwards = 20
 refusalNumber ImmediateInput = 21
 refusalNumber NotEncodable = 23

@@ -4,7 +4,7 @@ use Prim.Native.Nat.{_-_, _≤_}
 use mathlib.Core.Path.{_≡_, refl, sym, _∙_}
 use lib.ListN.{length, length-set}
 use borrow.Author.Needs.{needs}
-use Rattle.log_compact.specs.Rows.{zeroedFrom}
+use Rattle.kept_records.specs.Rows.{zeroedFrom}
 use Rattle.log_compact.proofs.RowLaws.{zeroedFrom-set, zeroedFrom-end}
 use Rattle.log_compact.proofs.clear_from.Statement.{statement}
 use Rattle.log_compact.proofs.clear_from.Tie as tie

@@ -3,8 +3,9 @@ use Prim.Native.Nat.{_+_, _-_, _<_}
 use mathlib.Core.Path.{sym, _∙_}
 use native.Mathlib.Omega.{arith}
 use Rattle.log.specs.Records.{recordAt}
-use Rattle.log_compact.specs.Compact.{lengthEnd}
-use Rattle.log_compact.proofs.KeptLaws.{joins-below, joinsLast-some, joinsLast-rowsIn}
+use Rattle.kept_records.specs.Compact.{lengthEnd}
+use Rattle.kept_records.proofs.TestLaws.{joins-below}
+use Rattle.log_compact.proofs.KeptLaws.{joinsLast-some, joinsLast-rowsIn}
 use borrow.Author.Needs.{needs}
 use Rattle.log_compact.proofs.join_to_last.Statement.{statement}
 use Rattle.log_compact.proofs.join_to_last.Tie as tie

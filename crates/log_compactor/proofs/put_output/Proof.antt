@@ -6,7 +6,7 @@ use mathlib.Core.List.{List}
 use native.Mathlib.Omega.{arith}
 use lib.ListN.{length, take}
 use lib.Seq.{length-take-le}
-use Rattle.log_compact.proofs.LogLaws.{answerOf-fits}
+use Rattle.compact_laws.proofs.LogLaws.{answerOf-fits}
 use Rattle.log_compactor.proofs.OutputLaws.{output-long, output-refused, output-kept}
 use borrow.Author.Needs.{needs}
 use Rattle.log_compactor.proofs.put_output.Statement.{statement}

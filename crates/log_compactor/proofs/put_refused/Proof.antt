@@ -1,7 +1,7 @@
 -- `log_compactor::put_refused` meets its contract: the bytes laid are those of `refusedText`, by computing it. Assumes nothing.
 use Rattle.buffers.specs.Patch.{patch}
 use Rattle.numerals.specs.Digits.{digitChar, digits, trimmed, decimalOf}
-use Rattle.log_text.specs.LogText.{refusedText}
+use Rattle.log_print.specs.LogText.{refusedText}
 use borrow.Author.Needs.{needs}
 use Rattle.log_compactor.proofs.put_refused.Statement.{statement}
 use Rattle.log_compactor.proofs.put_refused.Tie as tie
