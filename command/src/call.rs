@@ -49,6 +49,18 @@ impl Call {
         .map_err(|(name, error)| Failure::NotRead(name, error))
     }
 
+    /// Room for a result of this length.
+    pub fn buffer(&self, length: usize) -> Result<Vec<u8>, Failure> {
+        let mut buffer = Vec::new();
+        match buffer.try_reserve_exact(length) {
+            Ok(()) => {
+                buffer.resize(length, 0);
+                Ok(buffer)
+            }
+            Err(error) => Err(Failure::NotWritten("the result".into(), error.into())),
+        }
+    }
+
     /// Opens the output. What is written stands there once `Output::finish` has answered.
     pub fn output(&self) -> Result<Output, Failure> {
         self.target.open()

@@ -1,9 +1,10 @@
-//! `polvihe`: stored logs of any length, compacted and printed. It opens files, lends buffers to the proved functions and prints.
+//! `polvihe`: stored logs and captures of any length. It opens files, lends buffers to the proved functions and prints.
 //!
 //! A further command is a row of `COMMANDS` and a function.
 
 mod arguments;
 mod call;
+mod captures;
 mod logs;
 mod output;
 mod progress;
@@ -44,6 +45,15 @@ const COMMANDS: &[Command] = &[
         most_files: 1,
         run: logs::print,
     },
+    Command {
+        name: "convert",
+        usage: "[-o FILE] [FILE]",
+        does: "converts a capture from link type 189 to 220, or from 220 to 189",
+        has_output: true,
+        least_files: 0,
+        most_files: 1,
+        run: captures::convert,
+    },
 ];
 
 /// What was asked for was refused by its questions.
@@ -53,7 +63,7 @@ const REFUSED: u8 = 1;
 const FAILED: u8 = 2;
 
 fn help() -> String {
-    let mut text = String::from("polvihe: stored logs of any length\n\n");
+    let mut text = String::from("polvihe: stored logs and captures of any length\n\n");
     for command in COMMANDS {
         text += &format!("  polvihe {} {}\n      {}\n", command.name, command.usage, command.does);
     }

@@ -33,4 +33,8 @@ extern "C" {
     pub fn polvihe_line_room() -> usize;
 
     pub fn polvihe_print(log: *const u8, log_length: usize, text: *mut u8, text_length: usize) -> Answered;
+
+    pub fn polvihe_converted_length(input: *const u8, input_length: usize) -> usize;
+
+    pub fn polvihe_convert(input: *const u8, input_length: usize, output: *mut u8, output_length: usize) -> u8;
 }

@@ -21,6 +21,7 @@
 #[cfg(feature = "std")]
 extern crate std;
 
+pub mod capture;
 mod exported;
 pub mod log;
 mod refusal;

@@ -48,7 +48,7 @@ refusals! {
     IdOutOfRange = 12, "the endpoint id is not 1 to 31, or the slot id is 0";
     RegionsOverlap = 13, "the two regions of guest memory share an address";
     OutputTooShort = 14, "the output buffer cannot take the whole result";
-    RowMismatch = 15, "the row is too long, does not split into whole TDs, or does not match its results and data";
+    MalformedRow = 15, "the row is too long, does not split into whole TDs, or does not match its results and data";
     LengthOutOfRange = 16, "the length is not 2 to 12";
     NotACapture = 17, "the capture is truncated, of another format, or has a length that does not fit";
     NotConvertible = 18, "a record is isochronous, or has an added field that is not zero";

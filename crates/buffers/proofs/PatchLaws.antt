@@ -34,6 +34,11 @@ patch-append l at vs ws h =
     ∙ ap (λ (k : ℕ). drop k l) len in
     rw (take-at (take at l ++ vs) rest (at + length vs) head, tail, append-assoc (take at l) vs ws)
 
+-- the same of a buffer that was patched already, from where its patch ends
+pub patch-behind : (l m : List ℕ) (at i : ℕ) (vs ws : List ℕ) → m ≡ patch l at vs → i ≡ at + length vs → at + length vs ≤ length l
+    → patch m i ws ≡ patch l at (vs ++ ws)
+patch-behind l m at i vs ws p q h = rw (p, q) (patch-append l at vs ws h)
+
 -- what stands from index at on: the bytes, and what was behind them
 pub drop-patch : (l : List ℕ) (at : ℕ) (vs : List ℕ) → at ≤ length l → drop at (patch l at vs) ≡ vs ++ drop (at + length vs) l
 unfolding patch

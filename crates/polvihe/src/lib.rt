@@ -3,9 +3,12 @@
 use log_compact::CompactAnswer;
 use trb::Refusal;
 ghost use mathlib.Core.Path.{_≡_};
+ghost use lib.ListN.{length};
 ghost use Rattle.trb.specs.Questions.{firstNo};
 ghost use Rattle.trb.specs.Refusals.{refusalNumber};
 ghost use Rattle.log_text.specs.Widths.{maxLine};
+ghost use Rattle.capture_file.specs.Answers.{captureLength};
+ghost use Rattle.capture_convert.specs.Converting.{lengthAnswer, convertQuestions, outputAfter};
 ghost use Rattle.polvihe.specs.Stored.{checkQuestions, Compacts, Prints};
 
 // What a call answers: the number of the question that said no, or 0, and how many records or bytes it made.
@@ -77,4 +80,22 @@ pub extern "C" fn polvihe_print(log: &[u8], text: &mut [u8]) -> Answered
         number: 0,
         count: count,
     }
+}
+
+// ---- Captures, of any length
+
+// The length that a capture has once it is converted; 0 where converting answers 17 or 18.
+#[no_mangle]
+pub extern "C" fn polvihe_converted_length(input: &[u8]) -> usize
+    ensures { λ r. ⌜ r ≡ captureLength (lengthAnswer (now (input .entry))) ⌝ }
+{
+    capture_file::answer_length(capture_convert::converted_length(input))
+}
+
+// Converts a capture from link type 189 to 220 or back. The number: 0, or 17, 18, 14 with the output as it was.
+#[no_mangle]
+pub extern "C" fn polvihe_convert(input: &[u8], output: &mut [u8]) -> u8
+    ensures { λ r. ⌜ (r ≡ firstNo (convertQuestions (now (input .entry)) (length (now (output .entry))))) × (now (output .exit) ≡ outputAfter (now (input .entry)) (now (output .entry))) ⌝ }
+{
+    capture_file::answer_number(capture_convert::convert(input, output))
 }

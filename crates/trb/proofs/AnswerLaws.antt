@@ -42,7 +42,7 @@ pub refusalNumber-injective : (q r : Refusal) → refusalNumber q ≡ refusalNum
 refusalNumber-injective q r e = sym (refusalOf-number q) ∙ ap refusalOf e ∙ refusalOf-number r
 
 -- 0 is the number of no refusal
-refusalNumber-positive : (r : Refusal) → eqb (refusalNumber r) 0 ≡ false
+pub refusalNumber-positive : (r : Refusal) → eqb (refusalNumber r) 0 ≡ false
 refusalNumber-positive BufferTooShort = refl
 refusalNumber-positive UnsoundBlock = refl
 refusalNumber-positive OutOfTurn = refl

@@ -1,0 +1,72 @@
+//! Times converting and merging beside `memcpy` of the file made, in one run, and prints a table: nanoseconds for each record,
+//! the best of the runs. The output buffer is touched before the first one.
+
+use std::hint::black_box;
+use std::time::Instant;
+
+const RUNS: usize = 25;
+
+extern "C" {
+    fn polvihe_convert(input: *const u8, input_length: usize, output: *mut u8, output_length: usize) -> u8;
+}
+
+fn main() {
+    println!("Nanoseconds for each record, the best of {RUNS} runs.\n");
+    println!(
+        "| Call | records | data of each | memcpy of the output | proved call | ratio |\n|---|---|---|---|---|---|"
+    );
+    for (records, payload) in [(16, 65536), (1000, 65536), (4000, 64)] {
+        let short = capture(189, records, payload, 0, 1);
+        let long = capture(220, records, payload, 0, 1);
+        row("189 to 220", records, payload, &long, |output| {
+            // SAFETY: each pointer is that of a slice of the length beside it.
+            unsafe { polvihe_convert(short.as_ptr(), short.len(), output.as_mut_ptr(), output.len()) }
+        });
+        row("220 to 189", records, payload, &short, |output| {
+            // SAFETY: as above.
+            unsafe { polvihe_convert(long.as_ptr(), long.len(), output.as_mut_ptr(), output.len()) }
+        });
+    }
+}
+
+/// One row: the call makes `made`, byte for byte, and is timed beside a copy of it.
+fn row(name: &str, records: usize, payload: usize, made: &[u8], call: impl Fn(&mut [u8]) -> u8) {
+    let mut output = vec![0xAA; made.len()];
+    assert_eq!(call(&mut output), 0, "{name}");
+    assert!(output == made, "{name}: another file");
+    let (mut copied, mut called) = (f64::MAX, f64::MAX);
+    for _ in 0..RUNS {
+        copied = copied.min(timed(records, || output.copy_from_slice(black_box(made))));
+        called = called.min(timed(records, || assert_eq!(call(black_box(&mut output)), 0)));
+    }
+    println!("| {name} | {records} | {payload} | {copied:.0} | {called:.0} | {:.2} |", called / copied);
+}
+
+fn timed(records: usize, work: impl FnOnce()) -> f64 {
+    let start = Instant::now();
+    work();
+    start.elapsed().as_nanos() as f64 / records as f64
+}
+
+/// A capture of bulk records, `step` seconds apart from second `first` on.
+fn capture(link: u32, records: usize, payload: usize, first: u32, step: u32) -> Vec<u8> {
+    let added = if link == 220 { 16 } else { 0 };
+    let captured = (48 + added + payload) as u32;
+    let mut file = Vec::new();
+    file.extend([0xD4, 0xC3, 0xB2, 0xA1, 2, 0, 4, 0, 0, 0, 0, 0, 0, 0, 0, 0]);
+    file.extend(134217728u32.to_le_bytes());
+    file.extend(link.to_le_bytes());
+    for k in 0..records as u32 {
+        let mut usbmon = [7; 48];
+        usbmon[9] = 3;
+        usbmon[36..40].copy_from_slice(&(payload as u32).to_le_bytes());
+        file.extend((first + k * step).to_le_bytes());
+        file.extend(k.to_le_bytes());
+        file.extend(captured.to_le_bytes());
+        file.extend(captured.to_le_bytes());
+        file.extend(usbmon);
+        file.resize(file.len() + added, 0);
+        file.extend((0..payload).map(|i| (i as u32 * 11 + k) as u8));
+    }
+    file
+}

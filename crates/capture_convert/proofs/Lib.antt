@@ -1,0 +1,3 @@
+pub mod ConvertingLaws
+pub mod WritingLaws
+pub mod ThereAndBack

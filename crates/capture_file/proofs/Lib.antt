@@ -1,0 +1,4 @@
+pub mod ReadingLaws
+pub mod LayoutLaws
+pub mod FileLaws
+pub mod SurveyLaws

@@ -1,0 +1,5 @@
+pub mod Records
+pub mod Reading
+pub mod Files
+pub mod Answers
+pub mod Survey
