@@ -6,7 +6,7 @@ mod work;
 
 use measure::{Calls, Dumps, Instructions, Measure, Nanoseconds, RUNS};
 use product::Log;
-use work::{bytes, End, InWork, CONTROL_LENGTH, CONTROL_TRBS, FRAME_TRBS, TRANSFER_LENGTH};
+use work::{bytes, End, InWork, CONTROL_LENGTH, CONTROL_TRBS, FRAME_TRBS, ROWS, TRANSFER_LENGTH};
 
 #[global_allocator]
 static ALLOCATOR: lending::LendingAllocator = lending::LendingAllocator;
@@ -62,6 +62,7 @@ fn tables(measure: &mut dyn Measure) {
     print_tables("A whole TD, per TRB", &names_and_row, &wholes);
     print_tables("Submissions, per TRB", &names, &submissions);
     print_tables("The TD's completion, per TRB", &names_and_row, &completions);
+    row_table(bytes, measure);
     control_table(bytes, measure);
     carry_out_table(bytes, measure);
     raw_table(measure);
@@ -132,6 +133,40 @@ fn print_line(first: &str, cells: impl Iterator<Item = impl std::fmt::Display>) 
 
 fn print_rule(columns: usize) {
     println!("|---|{}", "---|".repeat(columns));
+}
+
+/// Rows of frames beside the same TDs on the Rust, one by one. What it costs to pass arrays and block is the cost of a row of no TDs; the rest is the row's
+/// questions and its walk.
+fn row_table(bytes: &'static [u8], measure: &mut dyn Measure) {
+    println!("A row of TDs of {FRAME_TRBS} Normals, per TRB\n");
+    println!(
+        "| TDs | Rust unchanged | Rust, capture left out | row | of it passing arrays and block | questions and walk | to unchanged | to capture left out |"
+    );
+    print_rule(7);
+    for end in [End::Full, End::Short] {
+        let td = InWork::new(bytes, FRAME_TRBS, end);
+        for tds in ROWS {
+            let (mut log, mut empty) = (Log::new(), Log::new());
+            let mut sides: [Calls; 4] = [
+                Box::new(|repeats| {
+                    unchanged::calls::in_td(td.data, td.trbs, td.transfer_length, td.status, true, tds * repeats)
+                }),
+                Box::new(|repeats| {
+                    capture_left_out::calls::in_td(td.data, td.trbs, td.transfer_length, td.status, true, tds * repeats)
+                }),
+                Box::new(|repeats| product::in_row(&mut log, &td, tds, repeats)),
+                Box::new(|repeats| product::in_row(&mut empty, &td, 0, repeats)),
+            ];
+            let sums: Vec<u64> = sides.iter_mut().map(|calls| calls(2)).collect();
+            assert!(sums[..3].iter().all(|sum| *sum == sums[0]), "a row of {tds}: the answers differ: {sums:?}");
+            let costs = measure.measure(tds * FRAME_TRBS, &mut sides);
+            let walk = costs[2] - costs[3];
+            let ratios = [walk / costs[0], walk / costs[1]].map(|ratio| format!("{ratio:.2}"));
+            let figures = [costs[0], costs[1], costs[2], costs[3], walk].map(|cost| format!("{cost:.0}"));
+            print_line(&format!("{tds} {}", end.name()), figures.iter().chain(&ratios));
+        }
+    }
+    println!();
 }
 
 fn control_table(bytes: &'static [u8], measure: &mut dyn Measure) {

@@ -42,6 +42,22 @@ extern "C" {
         repeats: u32,
     ) -> u64;
 
+    fn bench_calls_in_row(
+        log: *mut u8,
+        log_length: usize,
+        window: *const u8,
+        window_length: usize,
+        data: *const u8,
+        data_length: usize,
+        count: u32,
+        tds: u32,
+        trbs: u32,
+        transfer_length: u32,
+        status: u8,
+        length: u32,
+        repeats: u32,
+    ) -> u64;
+
     fn bench_raw_decode(trbs: *const u8, trbs_length: usize, repeats: u32) -> u64;
 
     fn bench_compact(log: *const u8, log_length: usize, buffer: *mut u8, buffer_length: usize, repeats: u32) -> u64;
@@ -125,6 +141,31 @@ pub fn in_by_row(log: &mut Log, work: &InWork, repeats: u32) -> u64 {
             work.trbs,
             work.transfer_length,
             work.status,
+            repeats,
+        )
+    }
+}
+
+/// Rows of so many TDs, each as `td`; a row of none has the cost of passing the arrays and the block, and no other.
+pub fn in_row(log: &mut Log, td: &InWork, tds: u32, repeats: u32) -> u64 {
+    let length = td.data.len() as u32;
+    // The bytes of a row lie behind those of its first TD in the same memory.
+    let joined = &td.window[..(tds * length) as usize];
+    // SAFETY: as above.
+    unsafe {
+        bench_calls_in_row(
+            log.0.as_mut_ptr(),
+            log.0.len(),
+            td.window.as_ptr(),
+            td.window.len(),
+            joined.as_ptr(),
+            joined.len(),
+            tds * td.trbs,
+            tds,
+            td.trbs,
+            td.transfer_length,
+            td.status,
+            length,
             repeats,
         )
     }

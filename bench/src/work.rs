@@ -8,8 +8,10 @@ pub const MAX_HELD: u32 = 512;
 pub const SIZES: [u32; 5] = [1, 3, FRAME_TRBS, 64, MAX_HELD];
 pub const CONTROL_TRBS: u32 = 3;
 pub const CONTROL_LENGTH: u32 = 18;
-/// Two records of 32 bytes for each of them.
-pub const LOG_BYTES: usize = 2 * 32 * MAX_HELD as usize;
+/// Two records of 32 bytes for each of them, and in a row a request for each TD.
+pub const LOG_BYTES: usize = 3 * 32 * MAX_HELD as usize;
+/// Frames that a row has.
+pub const ROWS: [u32; 3] = [1, 5, 25];
 pub const COLLECT_BYTES: usize = 65535;
 
 #[derive(Clone, Copy, PartialEq)]

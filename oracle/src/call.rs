@@ -2,7 +2,7 @@
 
 use std::fmt::{self, Display, Formatter};
 
-use crate::questions::MIN_LOG;
+use crate::questions::MIN_ROW_LOG;
 
 #[derive(Debug, Clone, Copy, PartialEq, Eq)]
 pub enum Kind {
@@ -158,10 +158,15 @@ pub enum Call {
     Hold(Trb),
     MakeUpIn { state: u8 },
     MakeUpControl { phase: u8, state: u8, direction: bool, length: u32 },
+    /// To the end of the row that is being written down.
+    AppendTrb(Trb),
+    /// What the next TD of that row is given.
+    AppendResult { status: Status, length: u32 },
+    CompleteRow { length: u64 },
 }
 
 impl Call {
-    /// `w`, `b`, `h` and `p` print nothing.
+    /// `w`, `b`, `h`, `p`, `q` and `e` print nothing.
     pub const fn is_answered(&self) -> bool {
         !matches!(
             self,
@@ -170,6 +175,8 @@ impl Call {
                 | Self::Hold(_)
                 | Self::MakeUpIn { .. }
                 | Self::MakeUpControl { .. }
+                | Self::AppendTrb(_)
+                | Self::AppendResult { .. }
         )
     }
 }
@@ -196,6 +203,9 @@ impl Display for Call {
             Self::MakeUpControl { phase, state, direction, length } => {
                 write!(f, "p {phase:x} {state:x} {:x} {length:x}", u8::from(*direction))
             }
+            Self::AppendTrb(trb) => write!(f, "q {trb}"),
+            Self::AppendResult { status, length } => write!(f, "e {:x} {length:x}", *status as u8),
+            Self::CompleteRow { length } => write!(f, "r {length:x}"),
         }
     }
 }
@@ -203,7 +213,7 @@ impl Display for Call {
 /// Of both regions together.
 pub const MAX_WINDOW: u64 = 0x140000;
 pub const FIRST_REGION: Region = Region { base: 0x8000, length: 0x40000 };
-pub const MAX_LOG: u64 = MIN_LOG;
+pub const MAX_LOG: u64 = MIN_ROW_LOG;
 pub const MAX_COLLECT: u64 = 0x10000;
 pub const MAX_DATA: u64 = MAX_WINDOW;
 
@@ -299,6 +309,12 @@ pub fn parse(line: &str) -> Option<Call> {
             direction: number(direction, 1)? == 1,
             length: number(length, u32::MAX.into())? as u32,
         },
+        ["q", ..] => Call::AppendTrb(trb(&fields[1..])?),
+        ["e", status, length] => Call::AppendResult {
+            status: *Status::ALL.get(number(status, 3)? as usize)?,
+            length: number(length, u32::MAX.into())? as u32,
+        },
+        ["r", length] => Call::CompleteRow { length: number(length, MAX_DATA)? },
         _ => return None,
     };
     Some(call)

@@ -3,7 +3,7 @@
 use std::sync::Arc;
 
 use crate::{
-    call::{parse, Call, Region, Status, Trb, FIRST_REGION, MAX_LOG},
+    call::{parse, Call, Kind, Region, Status, Trb, FIRST_REGION, MAX_LOG},
     device::xhci::{
         interrupter::EventSender,
         real_endpoint_handle::{ControlRequestProcessingResult, InTrbProcessingResult, InTrbProcessingStatus},
@@ -12,9 +12,10 @@ use crate::{
     effects::{Effect, EffectLog},
     endpoint::{Connections, Endpoint, ResultFields},
     guest_memory::GuestMemory,
-    questions::{self, Buffers, MAX_HELD, MAX_TRB_LENGTH},
+    questions::{self, Buffers, MAX_HELD, MAX_ROW, MAX_TRB_LENGTH},
     raw_trb::{has_reserved_bit, parsed},
-    record::{records, Surroundings},
+    record::{records, Record, Surroundings},
+    row::Row,
     scripted_device::{DeviceResult, ScriptedDevice},
 };
 
@@ -74,6 +75,7 @@ struct Driver {
     device: ScriptedDevice,
     buffers: Buffers,
     endpoint: Option<Endpoint>,
+    row: Row,
 }
 
 const FIRST_BUFFERS: Buffers = Buffers { log: MAX_LOG, collect: 0xffff };
@@ -107,6 +109,15 @@ fn control_result(status: Status, data: Vec<u8>) -> DeviceResult {
     })
 }
 
+/// A row has one TRB, or one result, more than the most that is accepted.
+fn append<T>(to: &mut Vec<T>, one: T) -> Result<(), Stop> {
+    if to.len() > MAX_ROW {
+        return Err(Stop::BadLine);
+    }
+    to.push(one);
+    Ok(())
+}
+
 impl Driver {
     fn new() -> Self {
         let effects = EffectLog::default();
@@ -123,6 +134,7 @@ impl Driver {
             device,
             buffers: FIRST_BUFFERS,
             endpoint: None,
+            row: Row::default(),
         }
     }
 
@@ -149,6 +161,7 @@ impl Driver {
             }
             Call::CreateIn { endpoint, slot, .. } => {
                 asked(questions::of_creation(endpoint, slot))?;
+                self.row = Row::default();
                 self.endpoint = Some(Endpoint::new_in(endpoint, slot, self.connections.clone()));
                 return self.answer_quietly().map(Some);
             }
@@ -157,6 +170,7 @@ impl Driver {
             }
             Call::CreateControl { endpoint, slot, .. } => {
                 asked(questions::of_creation(endpoint, slot))?;
+                self.row = Row::default();
                 self.endpoint = Some(Endpoint::new_control(endpoint, slot, self.connections.clone()));
                 return self.answer_quietly().map(Some);
             }
@@ -174,6 +188,9 @@ impl Driver {
             }
             Call::CompleteWithResult { status, length } => return self.complete(Some(status), length).map(Some),
             Call::CompleteWithout { length } => return self.complete(None, length).map(Some),
+            Call::AppendTrb(trb) => append(&mut self.row_of_in()?.trbs, trb)?,
+            Call::AppendResult { status, length } => append(&mut self.row_of_in()?.results, (status, length))?,
+            Call::CompleteRow { length } => return self.complete_row(length).map(Some),
         }
         Ok(None)
     }
@@ -228,6 +245,66 @@ impl Driver {
         });
         let carried_out = self.memory.carry_out(writes);
         self.answer(&fields.to_string(), &effects, &data, &format!("out {carried_out}\n"))
+    }
+
+    /// The row that is being written down, on an IN endpoint.
+    fn row_of_in(&mut self) -> Result<&mut Row, Stop> {
+        match self.endpoint {
+            Some(Endpoint::In(_)) => Ok(&mut self.row),
+            _ => Err(Stop::BadLine),
+        }
+    }
+
+    /// The Rust has no rows: each TD is submitted TRB by TRB and completed, until one fails. What they did is joined.
+    fn complete_row(&mut self, length: u64) -> Result<String, Stop> {
+        let row = std::mem::take(self.row_of_in()?);
+        let endpoint = self.endpoint.as_mut().ok_or(Stop::BadLine)?;
+        asked(questions::of_row(endpoint, &row, length, self.buffers, &self.memory))?;
+        let data = device_data(length);
+        let mut joined: Vec<Record> = vec![];
+        let mut effects: Vec<Effect> = vec![];
+        let mut result = ResultFields::OK;
+        let (mut finished, mut start) = (0, 0);
+        for (trbs, (status, given)) in row.tds().into_iter().zip(&row.results) {
+            let own = &data[start..start + *given as usize];
+            let (fields, own_effects, own_records) = self.complete_td(trbs, *status, own)?;
+            joined.extend(own_records.into_iter().map(|record| record.moved_by(start)));
+            effects.extend(own_effects);
+            start += own.len();
+            result = fields;
+            if !result.is_ok() {
+                break;
+            }
+            finished += 1;
+        }
+        let writes = effects.iter().filter_map(|effect| match effect {
+            Effect::Write { address, bytes } => Some((*address, &bytes[..])),
+            _ => None,
+        });
+        let carried_out = self.memory.carry_out(writes);
+        let lines: String = joined.iter().map(|record| format!("{record}\n")).collect();
+        let state = self.endpoint()?.state_line();
+        Ok(format!("ok {} {result} {finished}\n{lines}out {carried_out}\n{state}\n", joined.len()))
+    }
+
+    /// One TD by single calls.
+    fn complete_td(&mut self, trbs: &[Trb], status: Status, data: &[u8]) -> Result<(ResultFields, Vec<Effect>, Vec<Record>), Stop> {
+        let endpoint = self.endpoint.as_mut().ok_or(Stop::BadLine)?;
+        let (last, chained) = trbs.split_last().ok_or(Stop::BadLine)?;
+        for trb in chained {
+            endpoint.submit(trb);
+            endpoint.complete();
+        }
+        endpoint.submit(last);
+        let (id, slot) = endpoint.ids();
+        let first_address = endpoint.first_address();
+        if trbs.iter().any(|trb| trb.kind == Kind::Normal) {
+            self.device.script(in_result(status, data.to_vec()).ok_or(Stop::BadLine)?);
+        }
+        let result = ResultFields(endpoint.complete());
+        let effects = self.effects.take();
+        let records = records(&effects, &Surroundings { endpoint: id, slot, first_address, data });
+        Ok((result, effects, records))
     }
 
     /// The answer of a call that is no completion.

@@ -3,10 +3,10 @@
 use crate::{
     call::{
         parse, Call, Kind, Region, Status, Trb, CHAIN, CYCLE, DIRECTION, IMMEDIATE_DATA, INTERRUPT_ON_COMPLETION, INTERRUPT_ON_SHORT,
-        MAX_COLLECT, MAX_DATA, MAX_LOG, MAX_WINDOW,
+        MAX_COLLECT, MAX_DATA, MAX_WINDOW,
     },
     model::{Due, Model, Phase, Script, PHASES},
-    questions::{MAX_ENDPOINT, MAX_HELD, MAX_TRB_LENGTH, MIN_COLLECT},
+    questions::{MAX_ENDPOINT, MAX_HELD, MAX_ROW, MAX_TRB_LENGTH, MIN_COLLECT, MIN_LOG},
     random::Random,
     raw_trb::{encode, with_unheld},
 };
@@ -173,11 +173,11 @@ impl Generator {
         let any_collect = self.random.below(MAX_COLLECT + 1);
         let collect = self.random.pick(&[0, MIN_COLLECT, MAX_COLLECT, any_collect]);
         if self.random.percent(30) {
-            let log = self.random.below(MAX_LOG);
+            let log = self.random.below(MIN_LOG);
             self.script.call(Call::Buffers { log, collect });
             self.script.call(Call::Cancel);
         }
-        self.script.call(Call::Buffers { log: MAX_LOG, collect });
+        self.script.call(Call::Buffers { log: MIN_LOG, collect });
     }
 
     fn make_up_block(&mut self) {
@@ -260,7 +260,7 @@ impl Generator {
         }
         if self.model().phase.is_some() && self.script.collect < MIN_COLLECT {
             let collect = self.random.pick(&[MIN_COLLECT, MAX_COLLECT]);
-            self.script.call(Call::Buffers { log: MAX_LOG, collect });
+            self.script.call(Call::Buffers { log: MIN_LOG, collect });
         }
         if self.model().held.len() <= 1 {
             self.target = self.random.pick(&[1, 1, 2, 3, 4, 6, 20, 64, MAX_HELD - 1, MAX_HELD - 1, MAX_HELD, MAX_HELD + 1]);
@@ -411,6 +411,68 @@ impl Generator {
             (trb.a, trb.length) = self.place(trb.length);
         }
         trb
+    }
+}
+
+/// Rows of TDs on IN endpoints, `count` of them, with cancels, other endpoints and other guest memory between.
+pub fn row_script(seed: u64, count: usize) -> String {
+    let mut random = Random::new(seed ^ 0x726f_7773);
+    let style = Style { is_control: false, ..Style::any(&mut random) };
+    let mut generator = Generator { random, script: Script::default(), style, target: 1, next_address: 0x1000 };
+    while generator.script.answered < count {
+        generator.style = Style { is_control: false, ..Style::any(&mut generator.random) };
+        generator.create();
+        for _ in 0..generator.style.calls.min(20) {
+            if generator.random.percent(10) {
+                generator.change_window();
+            }
+            if generator.random.percent(5) {
+                generator.script.call(Call::Cancel);
+            }
+            generator.row();
+        }
+    }
+    generator.script.text
+}
+
+impl Generator {
+    /// A row of whole TDs, with what each is given.
+    fn row(&mut self) {
+        let longest = self.random.pick(&[0, 1, 3, 20, 60, MAX_ROW]);
+        let mut room = MAX_DATA;
+        let mut count = 0;
+        while count < longest {
+            let wanted = self.random.pick(&[1, 1, 2, 3, 20, MAX_ROW]);
+            let size = wanted.min(longest - count);
+            room -= self.row_td(size, room);
+            count += size;
+            if self.random.percent(10) {
+                break;
+            }
+        }
+        self.script.call(Call::CompleteRow { length: MAX_DATA - room });
+    }
+
+    /// A TD of so many TRBs, given no more than there is room for; how much it is given.
+    fn row_td(&mut self, size: usize, room: u64) -> u64 {
+        let (mut asked, mut normal) = (0, false);
+        for i in 0..size {
+            let event_data = self.random.percent(self.style.event_data);
+            let fitting = self.random.pick(&[Kind::Normal, Kind::Normal, Kind::Normal, Kind::NoOp]);
+            let kind = if event_data { Kind::EventData } else { fitting };
+            let mut trb = self.submitted_trb(kind);
+            trb.flags = trb.flags & !CHAIN | if i + 1 < size { CHAIN } else { 0 };
+            asked += u64::from(trb.length);
+            normal |= kind == Kind::Normal;
+            self.script.call(Call::AppendTrb(trb));
+        }
+        let anything = self.random.below(asked + 20);
+        let length = self.random.pick(&[asked, asked, asked, asked + 1, asked.saturating_sub(1), anything, 0]).min(room);
+        let error = self.random.pick(&[Status::Stall, Status::TransactionError, Status::Disconnect]);
+        let status = if self.random.percent(93) { Status::Success } else { error };
+        let (status, length) = if normal { (status, length) } else { (Status::Success, 0) };
+        self.script.call(Call::AppendResult { status, length: length as u32 });
+        length
     }
 }
 

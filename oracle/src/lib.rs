@@ -15,4 +15,5 @@ pub mod questions;
 pub mod random;
 pub mod raw_trb;
 pub mod record;
+pub mod row;
 pub mod scripted_device;

@@ -195,6 +195,7 @@ impl Script {
             Call::Buffers { collect, .. } => self.collect = collect,
             Call::CreateIn { .. } => self.model = Some(Model::new_in()),
             Call::CreateControl { .. } => self.model = Some(Model::new_control()),
+            Call::AppendTrb(_) | Call::AppendResult { .. } | Call::CompleteRow { .. } => {}
             _ => self.on_endpoint(call),
         }
     }

@@ -2,13 +2,14 @@
 //! Each function gives the number of the first question whose answer is no.
 
 use crate::{
-    call::{Kind, Trb, IMMEDIATE_DATA},
+    call::{Kind, Status, Trb, CHAIN, IMMEDIATE_DATA},
     device::xhci::endpoint_handle::{
         peek::{ControlState, InState},
         ControlTransferState,
     },
     endpoint::{Control, Endpoint, In},
     guest_memory::GuestMemory,
+    row::Row,
 };
 
 pub const MIN_COLLECT: u64 = 65_535;
@@ -16,6 +17,9 @@ pub const MAX_TRB_LENGTH: u32 = 131_071;
 pub const MAX_HELD: usize = 512;
 /// Two records of 32 bytes for each TRB held.
 pub const MIN_LOG: u64 = 32 * 2 * MAX_HELD as u64;
+pub const MAX_ROW: usize = MAX_HELD;
+/// A request for each TD and two records for each TRB.
+pub const MIN_ROW_LOG: u64 = 32 * 3 * MAX_ROW as u64;
 pub const MAX_COLLECTED: usize = 65_535;
 pub const MAX_ENDPOINT: u8 = 31;
 
@@ -119,4 +123,42 @@ pub fn of_completion(endpoint: &mut Endpoint, has_result: bool, buffers: Buffers
         (3, !submission_is_due(endpoint)),
         (8, awaits_device(endpoint) == has_result),
     ])
+}
+
+/// 15: at most 512 TRBs of the kinds that an IN endpoint holds, whole TDs, a result for each, lengths that add up to the data, and
+/// nothing but Success and no bytes for a TD without a Normal.
+fn is_shaped(row: &Row, data_length: u64) -> bool {
+    let kinds = |trb: &Trb| matches!(trb.kind, Kind::Normal | Kind::EventData | Kind::NoOp);
+    let whole = row.trbs.last().is_none_or(|trb| !trb.has(CHAIN));
+    let tds = row.tds();
+    let given: u64 = row.results.iter().map(|(_, length)| u64::from(*length)).sum();
+    let rightly = |(trbs, given): (&&[Trb], &(Status, u32))| {
+        trbs.iter().any(|trb| trb.kind == Kind::Normal) || *given == (Status::Success, 0)
+    };
+    row.trbs.len() <= MAX_ROW
+        && row.trbs.iter().all(kinds)
+        && whole
+        && tds.len() == row.results.len()
+        && given == data_length
+        && tds.iter().zip(&row.results).all(rightly)
+}
+
+/// A script's data is shorter than question 9 asks.
+pub fn of_row(endpoint: &mut Endpoint, row: &Row, data_length: u64, buffers: Buffers, memory: &GuestMemory) -> Option<u8> {
+    let of_trb = |trb: &Trb| {
+        let holds_data = trb.kind.has_length();
+        first_no(&[
+            (4, trb.length <= MAX_TRB_LENGTH),
+            (21, !holds_data || !trb.has(IMMEDIATE_DATA)),
+            (6, !holds_data || trb.length == 0 || memory.contains(trb.a, trb.length as usize)),
+        ])
+    };
+    first_no(&[
+        (1, buffers.log >= MIN_ROW_LOG),
+        (13, !memory.share_an_address()),
+        (2, is_sound(endpoint)),
+        (3, submission_is_due(endpoint) && endpoint.held() == 0),
+        (15, is_shaped(row, data_length)),
+    ])
+    .or_else(|| row.trbs.iter().find_map(of_trb))
 }

@@ -28,6 +28,14 @@ impl Display for Record {
     }
 }
 
+impl Record {
+    /// With its start, if it is a write's, moved by so many bytes.
+    pub fn moved_by(self, bytes: usize) -> Self {
+        let start = if self.kind == 1 { self.start + bytes } else { self.start };
+        Self { start, ..self }
+    }
+}
+
 /// Request type, request, value and index, as at offset 24 of a request record.
 pub fn request_bytes(request: &UsbRequest) -> [u8; 6] {
     let [value_low, value_high] = request.value.to_le_bytes();

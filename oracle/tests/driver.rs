@@ -2,7 +2,7 @@
 
 use oracle::{
     driver::{run, Stop},
-    questions::MAX_HELD,
+    questions::{MAX_HELD, MAX_ROW},
 };
 
 fn stop(script: &str) -> Option<(usize, Stop)> {
@@ -42,7 +42,7 @@ fn bad_lines() {
         "w 00 1",
         "w 0A 1",
         "w 10000000000000000 1",
-        "b 8001 0",
+        "b c001 0",
         "b 0 10001",
         "s 6 0 0 0 0",
         "s 1 0 20 0 0",
@@ -63,6 +63,10 @@ fn bad_lines() {
         "u 00 00000000000000000000000000200000",
         "u 00000000000000000000000000200000",
         "u 0 0 00000000000000000000000000200000",
+        "q 6 0 0 0 0",
+        "e 4 0",
+        "e 0 100000000",
+        "r 140001",
         "x\r",
         "d 0",
         "l",
@@ -82,6 +86,11 @@ fn bad_lines() {
     assert_eq!(run(b"i 3 2\n\xff\n").stopped, Some((2, Stop::BadLine)));
     let full = format!("i 3 2\n{}", "h 8 0 0 0 0\n".repeat(MAX_HELD + 1));
     assert_eq!(stop(&full), Some((MAX_HELD + 2, Stop::BadLine)), "one made-up TRB too many");
+    let long = format!("i 3 2\n{}", "q 8 0 0 0 0\n".repeat(MAX_ROW + 2));
+    assert_eq!(stop(&long), Some((MAX_ROW + 3, Stop::BadLine)), "a row of two TRBs too many");
+    for line in ["q 8 0 0 0 0", "e 0 0", "r 0"] {
+        assert_eq!(stop(&format!("c 3 2\n{line}\n")), Some((2, Stop::BadLine)), "{line:?} on control");
+    }
     assert_eq!(stop(""), None);
 }
 
@@ -98,6 +107,12 @@ fn refused_calls() {
         ("i 3 2\ns 8 0 0 0 0\nb 7fff ffff\nl 0\n", 4, "question 1"),
         ("i 3 2\np 2\nd 0 0\n", 3, "question 2"),
         ("i 3 2\np 2\ns 8 0 0 0 0\n", 3, "question 2"),
+        ("i 3 2\nb bfff ffff\nr 0\n", 3, "question 1"),
+        ("i 3 2\np 1\nr 0\n", 3, "question 3"),
+        ("i 3 2\nq 8 0 2 0 0\ne 0 0\nr 0\n", 4, "question 15"),
+        ("i 3 2\nq 8 0 0 0 0\nr 0\n", 3, "question 15"),
+        ("i 3 2\nq 8 0 0 0 0\ne 1 0\nr 0\n", 4, "question 15"),
+        ("i 3 2\nq 1 0 0 7fff 1\nq 1 0 0 8000 20000\ne 0 0\ne 0 0\nr 0\n", 6, "question 6"),
         ("i 3 2\nl 0\n", 2, "question 3"),
         ("c 3 2\nd 0 0\n", 2, "question 3"),
         ("i 3 2\ns 8 0 2 0 0\ns 8 0 2 0 0\n", 3, "question 3"),

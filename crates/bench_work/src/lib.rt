@@ -54,7 +54,8 @@ pub fn sum_of_completion(answer: CompletionAnswer, records: usize) -> u64 {
 
 // ---- The work
 
-fn status_of(number: u8) -> InTrbProcessingStatus {
+// The device result of this number.
+pub fn status_of(number: u8) -> InTrbProcessingStatus {
     if number == 0 {
         return InTrbProcessingStatus::Success;
     }

@@ -5,7 +5,7 @@ use session::Session;
 ghost use mathlib.Core.Path.{_≡_};
 ghost use Prim.Native.Nat.{_*_, _≤_};
 ghost use lib.ListN.{length};
-ghost use Rattle.trb.specs.Limits.{minLog};
+ghost use Rattle.trb.specs.Limits.{minRowLog};
 ghost use Rattle.call_script.specs.Limits.{maxWindow, maxLentLog, maxLentCollect, maxScriptData};
 ghost use Rattle.script_lines.specs.Steps.{Stepped};
 ghost use Rattle.state_text.specs.Widths.{maxAnswer};
@@ -44,7 +44,7 @@ fn run_line(
     high: &mut [u8],
 ) -> Progress
     requires { ⌜ maxAnswer ≤ length (now text) ⌝ }
-    requires { ⌜ length (now log) ≤ minLog ⌝ }
+    requires { ⌜ length (now log) ≤ minRowLog ⌝ }
 {
     let before = progress.session;
     let at = script_lines::make_room(text, progress.end, state_text::MAX_ANSWER);
@@ -95,7 +95,7 @@ fn run_step(
     high: &mut [u8],
 ) -> Progress
     requires { ⌜ maxAnswer ≤ length (now text) ⌝ }
-    requires { ⌜ length (now log) ≤ minLog ⌝ }
+    requires { ⌜ length (now log) ≤ minRowLog ⌝ }
     requires { ⌜ Stepped (length (now input)) step ⌝ }
 {
     let found = step.found;
@@ -129,7 +129,7 @@ fn run_input(
     high: &mut [u8],
 ) -> Progress
     requires { ⌜ maxAnswer ≤ length (now text) ⌝ }
-    requires { ⌜ length (now log) ≤ minLog ⌝ }
+    requires { ⌜ length (now log) ≤ minRowLog ⌝ }
 {
     let mut progress = started();
     let mut from = 0;

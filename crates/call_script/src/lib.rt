@@ -8,6 +8,7 @@ use trb::ControlTransferState;
 use trb::DataStageTrb;
 use trb::EndpointId;
 use trb::EventDataTrb;
+use trb::InTrbProcessingStatus;
 use trb::NoOpTrb;
 use trb::NormalTrb;
 use trb::SetupStageTrb;
@@ -26,8 +27,8 @@ ghost use Rattle.call_script.specs.Limits.{scriptLimits, WithinLimits};
 // Bytes of guest memory, both regions together.
 pub const MAX_WINDOW: usize = 0x140000;
 
-// Bytes of the lent log: as many as a call may ask for.
-pub const MAX_LENT_LOG: usize = trb::MIN_LOG;
+// Bytes of the lent log: as many as a row asks for.
+pub const MAX_LENT_LOG: usize = trb::MIN_ROW_LOG;
 
 // Bytes of the lent collect buffer.
 pub const MAX_LENT_COLLECT: usize = 0x10000;
@@ -91,6 +92,9 @@ pub enum Call {
     Hold(TransferTrb),
     MakeUpIn(TdBasedNormalSubmissionState),
     MakeUpControl(ControlTransferState, ControlSubmissionState, bool, u32),
+    AppendTrb(TransferTrb),
+    AppendResult(InTrbProcessingStatus, u32),
+    CompleteRow(usize),
     Bad,
 }
 
@@ -614,6 +618,57 @@ fn completion_without(fields: Fields) -> Call
     Call::CompleteWithout(length)
 }
 
+// `q`: the TRB goes to the end of the row that is being written down.
+fn row_trb(fields: Fields) -> Call
+    ensures { λ r. ⌜ WithinLimits r ⌝ }
+{
+    if fields.count != MAX_NUMBERS {
+        return Call::Bad;
+    }
+    let t = script_trb(trb_fields(fields));
+    match t {
+        ScriptTrb::Is(t) => Call::AppendTrb(t),
+        ScriptTrb::Bad => Call::Bad,
+    }
+}
+
+// `e`: what the next TD of that row is given.
+fn row_result(fields: Fields) -> Call
+    ensures { λ r. ⌜ WithinLimits r ⌝ }
+{
+    let numbers = fields.numbers;
+    let status = numbers[0];
+    let length = numbers[1];
+    if fields.count != 2 {
+        return Call::Bad;
+    }
+    if MAX_WORD < length {
+        return Call::Bad;
+    }
+    match status {
+        0 => Call::AppendResult(InTrbProcessingStatus::Success, length as u32),
+        1 => Call::AppendResult(InTrbProcessingStatus::Stall, length as u32),
+        2 => Call::AppendResult(InTrbProcessingStatus::TransactionError, length as u32),
+        3 => Call::AppendResult(InTrbProcessingStatus::Disconnect, length as u32),
+        _ => Call::Bad,
+    }
+}
+
+// `r`: the row call.
+fn row_completion(fields: Fields) -> Call
+    ensures { λ r. ⌜ WithinLimits r ⌝ }
+{
+    let numbers = fields.numbers;
+    let length = numbers[0] as usize;
+    if fields.count != 1 {
+        return Call::Bad;
+    }
+    if MAX_SCRIPT_DATA < length {
+        return Call::Bad;
+    }
+    Call::CompleteRow(length)
+}
+
 fn cancel(fields: Fields) -> Call
     ensures { λ r. ⌜ WithinLimits r ⌝ }
 {
@@ -715,6 +770,9 @@ pub fn read_call(line: &[u8]) -> Call
         b'x' => cancel(fields),
         b'h' => holding(fields),
         b'p' => made_up(fields),
+        b'q' => row_trb(fields),
+        b'e' => row_result(fields),
+        b'r' => row_completion(fields),
         _ => Call::Bad,
     }
 }

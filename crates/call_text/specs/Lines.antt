@@ -22,7 +22,7 @@ refusedLine n = refusedWord ++ decimalOf n ++ (lineFeed ∷ [])
 unfoldable pub acceptedLine : ℕ → List ℕ
 acceptedLine n = acceptedWord ++ decimalOf n ++ noResult
 
--- ADDR and CYCLE, which end the line
+-- ADDR and CYCLE
 unfoldable pub addressFields : ℕ → Bool → List ℕ
 addressFields a cycle = behind (hexOf a) ++ cond cycle cycleOn cycleOff
 
@@ -36,9 +36,17 @@ resultFields TransactionError = transactionWord ++ noAddress
 resultFields (TransactionErrorAt a cycle) = transactionWord ++ addressFields a cycle
 resultFields Disconnect = disconnectWord ++ noAddress
 
--- a completion, accepted: `ok COUNT RESULT ADDR CYCLE`
+-- `ok COUNT RESULT ADDR CYCLE`
+unfoldable pub completedFields : ℕ → TrbProcessingResult → List ℕ
+completedFields n r = acceptedWord ++ decimalOf n ++ resultFields r
+
+-- a completion, accepted
 unfoldable pub completedLine : ℕ → TrbProcessingResult → List ℕ
-completedLine n r = acceptedWord ++ decimalOf n ++ resultFields r
+completedLine n r = completedFields n r ++ (lineFeed ∷ [])
+
+-- a row, accepted: `ok COUNT RESULT ADDR CYCLE FINISHED`
+unfoldable pub rowLine : ℕ → TrbProcessingResult → ℕ → List ℕ
+rowLine n r finished = completedFields n r ++ behind (decimalOf finished) ++ (lineFeed ∷ [])
 
 -- carry-out's answer: `out NUMBER`
 unfoldable pub carriedOutLine : ℕ → List ℕ

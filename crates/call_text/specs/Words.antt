@@ -14,17 +14,17 @@ acceptedWord = 111 ∷ 107 ∷ 32 ∷ []
 abbrev pub noResult : List ℕ
 noResult = 32 ∷ 45 ∷ 32 ∷ 45 ∷ 32 ∷ 45 ∷ 10 ∷ []
 
--- two fields of `-` and a line feed
+-- two fields of `-`
 abbrev pub noAddress : List ℕ
-noAddress = 32 ∷ 45 ∷ 32 ∷ 45 ∷ 10 ∷ []
+noAddress = 32 ∷ 45 ∷ 32 ∷ 45 ∷ []
 
--- cycle bit 1 and a line feed
+-- cycle bit 1
 abbrev pub cycleOn : List ℕ
-cycleOn = 32 ∷ 49 ∷ 10 ∷ []
+cycleOn = 32 ∷ 49 ∷ []
 
--- cycle bit 0 and a line feed
+-- cycle bit 0
 abbrev pub cycleOff : List ℕ
-cycleOff = 32 ∷ 48 ∷ 10 ∷ []
+cycleOff = 32 ∷ 48 ∷ []
 
 -- result Ok
 abbrev pub okWord : List ℕ

@@ -10,8 +10,8 @@ ghost use Rattle.numerals.specs.Digits.{decimalOf, hexOf};
 ghost use Rattle.numerals.specs.Widths.{decimalPlaces};
 ghost use Rattle.numerals.specs.Written.{Written};
 ghost use Rattle.call_text.specs.Words.{cycleOn, cycleOff};
-ghost use Rattle.call_text.specs.Widths.{maxDecimal, maxHex, maxResult, maxFirst, maxCarriedOut};
-ghost use Rattle.call_text.specs.Lines.{behind, refusedLine, acceptedLine, addressFields, resultFields, completedLine, carriedOutLine, countOf};
+ghost use Rattle.call_text.specs.Widths.{maxDecimal, maxHex, maxResult, maxCompleted, maxFirst, maxCarriedOut};
+ghost use Rattle.call_text.specs.Lines.{behind, refusedLine, acceptedLine, addressFields, resultFields, completedFields, completedLine, rowLine, carriedOutLine, countOf};
 
 // ---- Words
 
@@ -71,19 +71,19 @@ pub fn put_accepted(text: &mut [u8], at: usize, records: u32) -> usize
 }
 
 fn put_cycle_bit(text: &mut [u8], at: usize, cycle_bit: bool) -> usize
-    requires { ⌜ at + 3 ≤ length (now text) ⌝ }
-    ensures { λ r. ⌜ Written 3 (now (text .entry)) at (cond «cycle_bit» cycleOn cycleOff) r (now (text .exit)) ⌝ }
+    requires { ⌜ at + 2 ≤ length (now text) ⌝ }
+    ensures { λ r. ⌜ Written 2 (now (text .entry)) at (cond «cycle_bit» cycleOn cycleOff) r (now (text .exit)) ⌝ }
 {
     if cycle_bit {
-        put_word(text, at, b" 1\n")
+        put_word(text, at, b" 1")
     } else {
-        put_word(text, at, b" 0\n")
+        put_word(text, at, b" 0")
     }
 }
 
 fn put_address(text: &mut [u8], at: usize, addr: u64, cycle_bit: bool) -> usize
-    requires { ⌜ at + (maxHex + 3) ≤ length (now text) ⌝ }
-    ensures { λ r. ⌜ Written (maxHex + 3) (now (text .entry)) at (addressFields addr «cycle_bit») r (now (text .exit)) ⌝ }
+    requires { ⌜ at + (maxHex + 2) ≤ length (now text) ⌝ }
+    ensures { λ r. ⌜ Written (maxHex + 2) (now (text .entry)) at (addressFields addr «cycle_bit») r (now (text .exit)) ⌝ }
 {
     let next = put_hex_behind(text, at, addr);
     put_cycle_bit(text, next, cycle_bit)
@@ -94,20 +94,34 @@ fn put_result(text: &mut [u8], at: usize, result: TrbProcessingResult) -> usize
     ensures { λ r. ⌜ Written maxResult (now (text .entry)) at (resultFields result) r (now (text .exit)) ⌝ }
 {
     match result {
-        TrbProcessingResult::Ok => put_word(text, at, b" ok - -\n"),
-        TrbProcessingResult::Stall => put_word(text, at, b" stall - -\n"),
+        TrbProcessingResult::Ok => put_word(text, at, b" ok - -"),
+        TrbProcessingResult::Stall => put_word(text, at, b" stall - -"),
         TrbProcessingResult::StallAt(addr, cycle_bit) => {
             let next = put_word(text, at, b" stall");
             put_address(text, next, addr, cycle_bit)
         }
-        TrbProcessingResult::TrbError => put_word(text, at, b" trb - -\n"),
-        TrbProcessingResult::TransactionError => put_word(text, at, b" transaction - -\n"),
+        TrbProcessingResult::TrbError => put_word(text, at, b" trb - -"),
+        TrbProcessingResult::TransactionError => put_word(text, at, b" transaction - -"),
         TrbProcessingResult::TransactionErrorAt(addr, cycle_bit) => {
             let next = put_word(text, at, b" transaction");
             put_address(text, next, addr, cycle_bit)
         }
-        TrbProcessingResult::Disconnect => put_word(text, at, b" disconnect - -\n"),
+        TrbProcessingResult::Disconnect => put_word(text, at, b" disconnect - -"),
     }
+}
+
+// Writes what the first line of a completion has, without its line feed.
+fn put_completed_fields(
+    text: &mut [u8],
+    at: usize,
+    records: u32,
+    result: TrbProcessingResult,
+) -> usize
+    requires { ⌜ at + maxCompleted ≤ length (now text) ⌝ }
+    ensures { λ r. ⌜ Written maxCompleted (now (text .entry)) at (completedFields records result) r (now (text .exit)) ⌝ }
+{
+    let next = put_numbered(text, at, b"ok ", records);
+    put_result(text, next, result)
 }
 
 // Of a completion.
@@ -115,8 +129,24 @@ pub fn put_completed(text: &mut [u8], at: usize, records: u32, result: TrbProces
     requires { ⌜ at + maxFirst ≤ length (now text) ⌝ }
     ensures { λ r. ⌜ Written maxFirst (now (text .entry)) at (completedLine records result) r (now (text .exit)) ⌝ }
 {
-    let next = put_numbered(text, at, b"ok ", records);
-    put_result(text, next, result)
+    let end = put_completed_fields(text, at, records, result);
+    numerals::put_char(text, end, b'\n')
+}
+
+// Of a row, of which so many TDs were finished well.
+pub fn put_row_completed(
+    text: &mut [u8],
+    at: usize,
+    records: u32,
+    result: TrbProcessingResult,
+    finished: u32,
+) -> usize
+    requires { ⌜ at + maxFirst ≤ length (now text) ⌝ }
+    ensures { λ r. ⌜ Written maxFirst (now (text .entry)) at (rowLine records result finished) r (now (text .exit)) ⌝ }
+{
+    let next = put_completed_fields(text, at, records, result);
+    let end = put_decimal_behind(text, next, finished);
+    numerals::put_char(text, end, b'\n')
 }
 
 // Carry-out's answer: 0, or the number of its refusal.

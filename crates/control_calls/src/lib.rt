@@ -16,7 +16,7 @@ use trb::UsbRequest;
 ghost use mathlib.Core.Path.{_≡_};
 ghost use Prim.Native.Nat.{_+_, _≤_};
 ghost use lib.ListN.{length};
-ghost use Rattle.trb.specs.Limits.{minLog};
+ghost use Rattle.trb.specs.Limits.{minRowLog};
 ghost use Rattle.state_text.specs.Widths.{maxState, maxAnswer};
 
 // What a call leaves: the block, the index behind the answer, and whether the line was good.
@@ -111,7 +111,7 @@ fn submit<'a>(
     high: &'a [u8],
 ) -> ControlRan
     requires { ⌜ at + maxAnswer ≤ length (now text) ⌝ }
-    requires { ⌜ length (now log) ≤ minLog ⌝ }
+    requires { ⌜ length (now log) ≤ minRowLog ⌝ }
     ensures { λ r. ⌜ r .end ≤ at + maxAnswer ⌝ }
 {
     let end = call_script::least(lent, collect.len());
@@ -145,7 +145,7 @@ fn complete(
     high: &mut [u8],
 ) -> ControlRan
     requires { ⌜ at + maxAnswer ≤ length (now text) ⌝ }
-    requires { ⌜ length (now log) ≤ minLog ⌝ }
+    requires { ⌜ length (now log) ≤ minRowLog ⌝ }
     ensures { λ r. ⌜ r .end ≤ at + maxAnswer ⌝ }
 {
     let completed = control_endpoint::next_completion(log, block, result, data);
@@ -242,7 +242,7 @@ pub fn run(
     high: &mut [u8],
 ) -> ControlRan
     requires { ⌜ at + maxAnswer ≤ length (now text) ⌝ }
-    requires { ⌜ length (now log) ≤ minLog ⌝ }
+    requires { ⌜ length (now log) ≤ minRowLog ⌝ }
     ensures { λ r. ⌜ r .end ≤ at + maxAnswer ⌝ }
 {
     match call {
@@ -306,6 +306,9 @@ pub fn run(
             direction,
             length,
         ),
+        Call::AppendTrb(_) => bad(block, at),
+        Call::AppendResult(_, _) => bad(block, at),
+        Call::CompleteRow(_) => bad(block, at),
         Call::Bad => bad(block, at),
     }
 }

@@ -72,7 +72,7 @@ held-tested xs n p all-places tested s i k h =
     testing-end xs p (places-few xs n p all-places tested) s i k h ∙ ap (λ (ts : List TransferTrb). heldTest ts) (places-held xs n p all-places tested)
 
 -- of a list that fits a block every Normal is counted
-normals-length : (ts : List TransferTrb) → normals ts ≤ length ts
+pub normals-length : (ts : List TransferTrb) → normals ts ≤ length ts
 normals-length [] = omega arith
 normals-length (t ∷ ts) = omega (arith, at-most-one (isNormal (t .variant)), normals-length ts)
   where

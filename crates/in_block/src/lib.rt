@@ -114,7 +114,8 @@ pub fn awaits_device(state: TdBasedNormalSubmissionState) -> bool
     }
 }
 
-fn is_normal(variant: TransferTrbVariant) -> bool
+// Is it a Normal?
+pub fn is_normal(variant: TransferTrbVariant) -> bool
     ensures { λ r. ⌜ r ≡ isNormal variant ⌝ }
 {
     match variant {

@@ -3,6 +3,7 @@ use call_script::Call;
 use call_script::DeviceStatus;
 use in_block::InBlock;
 use in_td::InMode;
+use row_walk::TdResult;
 use trb::Answer;
 use trb::EndpointId;
 use trb::InTrbProcessingResult;
@@ -13,7 +14,7 @@ use trb::TransferTrb;
 ghost use mathlib.Core.Path.{_≡_};
 ghost use Prim.Native.Nat.{_+_, _≤_};
 ghost use lib.ListN.{length};
-ghost use Rattle.trb.specs.Limits.{minLog};
+ghost use Rattle.trb.specs.Limits.{minRowLog};
 ghost use Rattle.state_text.specs.Widths.{maxState, maxAnswer};
 
 // What a call leaves: the block, the index behind the answer, and whether the line was good.
@@ -87,7 +88,7 @@ fn submit(
     high: &[u8],
 ) -> InRan
     requires { ⌜ at + maxAnswer ≤ length (now text) ⌝ }
-    requires { ⌜ length (now log) ≤ minLog ⌝ }
+    requires { ⌜ length (now log) ≤ minRowLog ⌝ }
     ensures { λ r. ⌜ r .end ≤ at + maxAnswer ⌝ }
 {
     let submitted = in_endpoint::submit_trb(log, block, t, low_base, low, high_base, high);
@@ -110,7 +111,7 @@ fn complete(
     high: &mut [u8],
 ) -> InRan
     requires { ⌜ at + maxAnswer ≤ length (now text) ⌝ }
-    requires { ⌜ length (now log) ≤ minLog ⌝ }
+    requires { ⌜ length (now log) ≤ minRowLog ⌝ }
     ensures { λ r. ⌜ r .end ≤ at + maxAnswer ⌝ }
 {
     let completed = in_endpoint::next_completion(log, block, result, data);
@@ -157,7 +158,7 @@ fn complete_with_result(
     high: &mut [u8],
 ) -> InRan
     requires { ⌜ at + maxAnswer ≤ length (now text) ⌝ }
-    requires { ⌜ length (now log) ≤ minLog ⌝ }
+    requires { ⌜ length (now log) ≤ minRowLog ⌝ }
     ensures { λ r. ⌜ r .end ≤ at + maxAnswer ⌝ }
 {
     let result = result_of(status);
@@ -204,6 +205,57 @@ fn make_up(at: usize, block: InBlock, state: TdBasedNormalSubmissionState) -> In
     silent(after, at)
 }
 
+// A row of so many TRBs, with so many results; of the device's data so many bytes are given, if there are as many.
+pub fn complete_row(
+    text: &mut [u8],
+    at: usize,
+    log: &mut [u8],
+    block: InBlock,
+    row: [TransferTrb; trb::MAX_ROW],
+    count: usize,
+    results: [TdResult; trb::MAX_ROW],
+    tds: usize,
+    data: &[u8],
+    low_base: u64,
+    low: &mut [u8],
+    high_base: u64,
+    high: &mut [u8],
+) -> InRan
+    requires { ⌜ at + maxAnswer ≤ length (now text) ⌝ }
+    requires { ⌜ length (now log) ≤ minRowLog ⌝ }
+    ensures { λ r. ⌜ r .end ≤ at + maxAnswer ⌝ }
+{
+    let completed = in_row::complete_tds(
+        log,
+        block,
+        row,
+        count,
+        results,
+        tds,
+        low_base,
+        low,
+        high_base,
+        high,
+        data,
+    );
+    let answer = completed.answer;
+    let after = completed.block;
+    let next = call_answer::put_row(
+        text,
+        at,
+        answer,
+        completed.finished,
+        completed.records,
+        log,
+        data,
+        low_base,
+        low,
+        high_base,
+        high,
+    );
+    answered(text, next, after)
+}
+
 // Makes a call on the endpoint. `data` is the device's data, of which the call says how much is given.
 pub fn run(
     text: &mut [u8],
@@ -218,7 +270,7 @@ pub fn run(
     high: &mut [u8],
 ) -> InRan
     requires { ⌜ at + maxAnswer ≤ length (now text) ⌝ }
-    requires { ⌜ length (now log) ≤ minLog ⌝ }
+    requires { ⌜ length (now log) ≤ minRowLog ⌝ }
     ensures { λ r. ⌜ r .end ≤ at + maxAnswer ⌝ }
 {
     match call {
@@ -261,6 +313,9 @@ pub fn run(
         Call::Hold(t) => hold(at, block, t),
         Call::MakeUpIn(state) => make_up(at, block, state),
         Call::MakeUpControl(_, _, _, _) => bad(block, at),
+        Call::AppendTrb(_) => bad(block, at),
+        Call::AppendResult(_, _) => bad(block, at),
+        Call::CompleteRow(_) => bad(block, at),
         Call::Bad => bad(block, at),
     }
 }

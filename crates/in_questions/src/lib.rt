@@ -15,7 +15,7 @@ ghost use Rattle.trb.specs.Questions.{firstNo};
 ghost use Rattle.in_questions.specs.Questions.{trbQuestions, submissionQuestions, isGiven, completionQuestions};
 
 // Questions 4, 21, 5 and 6, of a TRB behind `held` others.
-fn ask_of_trb(held: usize, variant: TransferTrbVariant, regions: Regions) -> Answer
+pub fn ask_of_trb(held: usize, variant: TransferTrbVariant, regions: Regions) -> Answer
     requires { ⌜ held ≤ maxHeld ⌝ }
     ensures { λ r. ⌜ numberOf r ≡ firstNo (trbQuestions held variant regions) ⌝ }
 {

@@ -30,7 +30,7 @@ pub fn in_guest_memory(variant: TransferTrbVariant, regions: Regions) -> bool
 }
 
 // The length of a Normal; of any other TRB 0.
-fn normal_length(variant: TransferTrbVariant) -> u32
+pub fn normal_length(variant: TransferTrbVariant) -> u32
     ensures { λ r. ⌜ r ≡ lengthOf (normalOf variant) ⌝ }
 {
     match variant {

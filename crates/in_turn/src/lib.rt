@@ -11,7 +11,7 @@ ghost use Rattle.td_part.specs.Parts.{Within};
 ghost use Rattle.in_td.specs.Td.{processTrb, nextTrb};
 
 // What a TRB does, by its kind.
-fn process_trb(log: &mut [u8], td: InTd, so_far: TdProcessed, t: TransferTrb) -> TdProcessed
+pub fn process_trb(log: &mut [u8], td: InTd, so_far: TdProcessed, t: TransferTrb) -> TdProcessed
     requires { ⌜ (recordLength * («so_far» .progress .records + 2) ≤ length (now log)) × Within (td .info) («so_far» .progress) ⌝ }
     ensures { λ r. ⌜ Meets (processTrb td «so_far» t) («so_far» .progress .records) (now (log .entry)) r (now (log .exit)) ⌝ }
 {

@@ -6,12 +6,15 @@ use control_calls::ControlRan;
 use in_block::InBlock;
 use in_calls::InRan;
 use in_td::InMode;
+use row_walk::TdResult;
 use trb::EndpointId;
+use trb::InTrbProcessingStatus;
 use trb::SlotId;
+use trb::TransferTrb;
 ghost use mathlib.Core.Path.{_≡_};
 ghost use Prim.Native.Nat.{_+_, _≤_};
 ghost use lib.ListN.{length};
-ghost use Rattle.trb.specs.Limits.{minLog};
+ghost use Rattle.trb.specs.Limits.{minRowLog};
 ghost use Rattle.state_text.specs.Widths.{maxAnswer};
 
 // Guest memory at the start: one region of this base and length.
@@ -26,7 +29,8 @@ pub enum Endpoint {
     Control,
 }
 
-// What a script has come to.
+// What a script has come to. The row that is being written down has one TRB or result more than the places at most: what is behind the
+// places is counted, not kept, since such a row is refused.
 pub struct Session {
     pub endpoint: Endpoint,
     pub in_block: InBlock,
@@ -37,6 +41,10 @@ pub struct Session {
     pub high_length: usize,
     pub log_length: usize,
     pub collect_length: usize,
+    pub row: [TransferTrb; trb::MAX_ROW],
+    pub row_count: usize,
+    pub results: [TdResult; trb::MAX_ROW],
+    pub result_count: usize,
 }
 
 pub fn new_session() -> Session {
@@ -48,6 +56,11 @@ pub fn new_session() -> Session {
     );
     let in_block = in_created.block;
     let control_block = control_created.block;
+    let blank = held::blank();
+    let nothing = TdResult {
+        status: InTrbProcessingStatus::Success,
+        length: 0,
+    };
     Session {
         endpoint: Endpoint::Nothing,
         in_block: in_block,
@@ -58,6 +71,10 @@ pub fn new_session() -> Session {
         high_length: 0,
         log_length: call_script::MAX_LENT_LOG,
         collect_length: trb::MAX_COLLECTED,
+        row: [blank; trb::MAX_ROW],
+        row_count: 0,
+        results: [nothing; trb::MAX_ROW],
+        result_count: 0,
     }
 }
 
@@ -83,6 +100,8 @@ fn after_in(session: Session, ran: InRan) -> Ran
 {
     let in_block = ran.block;
     let control_block = session.control_block;
+    let row = session.row;
+    let results = session.results;
     let next = Session {
         endpoint: Endpoint::In,
         in_block: in_block,
@@ -93,6 +112,10 @@ fn after_in(session: Session, ran: InRan) -> Ran
         high_length: session.high_length,
         log_length: session.log_length,
         collect_length: session.collect_length,
+        row: row,
+        row_count: session.row_count,
+        results: results,
+        result_count: session.result_count,
     };
     Ran {
         session: next,
@@ -106,6 +129,8 @@ fn after_control(session: Session, ran: ControlRan) -> Ran
 {
     let in_block = session.in_block;
     let control_block = ran.block;
+    let row = session.row;
+    let results = session.results;
     let next = Session {
         endpoint: Endpoint::Control,
         in_block: in_block,
@@ -116,6 +141,10 @@ fn after_control(session: Session, ran: ControlRan) -> Ran
         high_length: session.high_length,
         log_length: session.log_length,
         collect_length: session.collect_length,
+        row: row,
+        row_count: session.row_count,
+        results: results,
+        result_count: session.result_count,
     };
     Ran {
         session: next,
@@ -170,7 +199,105 @@ fn lend_buffers(session: Session, at: usize, log_length: usize, collect_length: 
     }
 }
 
+// ---- The row that is being written down
+
+// Nothing is written down.
+fn without_row(session: Session) -> Session {
+    let mut next = session;
+    next.row_count = 0;
+    next.result_count = 0;
+    next
+}
+
+// The TRB goes to its end.
+fn append_trb(session: Session, at: usize, t: TransferTrb) -> Ran
+    ensures { λ r. ⌜ r .end ≡ at ⌝ }
+{
+    let place = session.row_count;
+    if trb::MAX_ROW < place {
+        return bad(session, at);
+    }
+    let mut next = session;
+    if place < trb::MAX_ROW {
+        next.row[place] = t;
+    }
+    next.row_count = place + 1;
+    Ran {
+        session: next,
+        end: at,
+        good: true,
+    }
+}
+
+// Its next TD is given this.
+fn append_result(session: Session, at: usize, given: TdResult) -> Ran
+    ensures { λ r. ⌜ r .end ≡ at ⌝ }
+{
+    let place = session.result_count;
+    if trb::MAX_ROW < place {
+        return bad(session, at);
+    }
+    let mut next = session;
+    if place < trb::MAX_ROW {
+        next.results[place] = given;
+    }
+    next.result_count = place + 1;
+    Ran {
+        session: next,
+        end: at,
+        good: true,
+    }
+}
+
+fn is_in(endpoint: Endpoint) -> bool {
+    match endpoint {
+        Endpoint::Nothing => false,
+        Endpoint::In => true,
+        Endpoint::Control => false,
+    }
+}
+
 // ---- Calls
+
+// The row call: the row written down is empty afterwards, whatever the answer.
+fn run_row(
+    text: &mut [u8],
+    at: usize,
+    session: Session,
+    bytes: usize,
+    log: &mut [u8],
+    data: &[u8],
+    low: &mut [u8],
+    high: &mut [u8],
+) -> Ran
+    requires { ⌜ at + maxAnswer ≤ length (now text) ⌝ }
+    requires { ⌜ length (now log) ≤ minRowLog ⌝ }
+    ensures { λ r. ⌜ r .end ≤ at + maxAnswer ⌝ }
+{
+    let block = session.in_block;
+    let row = session.row;
+    let results = session.results;
+    let log_end = call_script::least(session.log_length, log.len());
+    let low_end = call_script::least(session.low_length, low.len());
+    let high_end = call_script::least(session.high_length, high.len());
+    let given = call_script::least(bytes, data.len());
+    let ran = in_calls::complete_row(
+        text,
+        at,
+        &mut log[..log_end],
+        block,
+        row,
+        session.row_count,
+        results,
+        session.result_count,
+        &data[..given],
+        session.low_base,
+        &mut low[..low_end],
+        session.high_base,
+        &mut high[..high_end],
+    );
+    after_in(without_row(session), ran)
+}
 
 fn run_in(
     text: &mut [u8],
@@ -183,7 +310,7 @@ fn run_in(
     high: &mut [u8],
 ) -> Ran
     requires { ⌜ at + maxAnswer ≤ length (now text) ⌝ }
-    requires { ⌜ length (now log) ≤ minLog ⌝ }
+    requires { ⌜ length (now log) ≤ minRowLog ⌝ }
     ensures { λ r. ⌜ r .end ≤ at + maxAnswer ⌝ }
 {
     let block = session.in_block;
@@ -217,7 +344,7 @@ fn run_control(
     high: &mut [u8],
 ) -> Ran
     requires { ⌜ at + maxAnswer ≤ length (now text) ⌝ }
-    requires { ⌜ length (now log) ≤ minLog ⌝ }
+    requires { ⌜ length (now log) ≤ minRowLog ⌝ }
     ensures { λ r. ⌜ r .end ≤ at + maxAnswer ⌝ }
 {
     let block = session.control_block;
@@ -254,7 +381,7 @@ fn run_on_endpoint(
     high: &mut [u8],
 ) -> Ran
     requires { ⌜ at + maxAnswer ≤ length (now text) ⌝ }
-    requires { ⌜ length (now log) ≤ minLog ⌝ }
+    requires { ⌜ length (now log) ≤ minRowLog ⌝ }
     ensures { λ r. ⌜ r .end ≤ at + maxAnswer ⌝ }
 {
     let endpoint = session.endpoint;
@@ -277,7 +404,7 @@ fn create_in(
     ensures { λ r. ⌜ r .end ≤ at + maxAnswer ⌝ }
 {
     after_in(
-        session,
+        without_row(session),
         in_calls::create(text, at, endpoint_id, slot_id, mode),
     )
 }
@@ -295,7 +422,7 @@ fn create_control(
     ensures { λ r. ⌜ r .end ≤ at + maxAnswer ⌝ }
 {
     after_control(
-        session,
+        without_row(session),
         control_calls::create(text, at, endpoint_id, slot_id, release, collect),
     )
 }
@@ -313,7 +440,7 @@ pub fn run_call(
     high: &mut [u8],
 ) -> Ran
     requires { ⌜ at + maxAnswer ≤ length (now text) ⌝ }
-    requires { ⌜ length (now log) ≤ minLog ⌝ }
+    requires { ⌜ length (now log) ≤ minRowLog ⌝ }
     ensures { λ r. ⌜ r .end ≤ at + maxAnswer ⌝ }
 {
     if let Call::Window(low_base, low_length, high_base, high_length) = call {
@@ -336,6 +463,23 @@ pub fn run_call(
     }
     if let Call::CreateControl(endpoint_id, slot_id, release) = call {
         return create_control(text, at, session, endpoint_id, slot_id, release, collect);
+    }
+    let endpoint = session.endpoint;
+    if !is_in(endpoint) {
+        return run_on_endpoint(text, at, session, call, log, collect, data, low, high);
+    }
+    if let Call::AppendTrb(t) = call {
+        return append_trb(session, at, t);
+    }
+    if let Call::AppendResult(status, length) = call {
+        let given = TdResult {
+            status: status,
+            length: length,
+        };
+        return append_result(session, at, given);
+    }
+    if let Call::CompleteRow(length) = call {
+        return run_row(text, at, session, length, log, data, low, high);
     }
     run_on_endpoint(text, at, session, call, log, collect, data, low, high)
 }

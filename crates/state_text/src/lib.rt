@@ -17,7 +17,7 @@ ghost use Rattle.state_text.specs.Lines.{inState, inLine, phaseWord, con
 // ---- Limits: the constant has this name here and one in specs/Widths.antt; `answer_limits` ties the two.
 
 // Characters of the longest answer: its first line, a line for each record, carry-out's line and a state line.
-pub const MAX_ANSWER: usize = 45 + trb::MAX_RECORDS * log_text::MAX_LINE + 15 + 131;
+pub const MAX_ANSWER: usize = 56 + trb::MAX_ROW_RECORDS * log_text::MAX_LINE + 15 + 131;
 
 pub struct AnswerLimits {
     pub answer: usize,

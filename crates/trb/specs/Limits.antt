@@ -35,6 +35,18 @@ maxRecords = 2 * maxHeld
 abbrev pub minLog : ℕ
 minLog = recordLength * maxRecords
 
+-- 02, R-7: a row of at most 512 TRBs, as many as a block holds
+abbrev pub maxRow : ℕ
+maxRow = maxHeld
+
+-- 02, R-7: a row may write 1,536 records, a request for each TD and two for each TRB
+abbrev pub maxRowRecords : ℕ
+maxRowRecords = 3 * maxRow
+
+-- 02, R-7: a log of 49,152 bytes, room for that many records
+abbrev pub minRowLog : ℕ
+minRowLog = recordLength * maxRowRecords
+
 -- 01, Examples: a log longer than 65,536 bytes is not printed
 abbrev pub maxPrintedLog : ℕ
 maxPrintedLog = 65536
@@ -49,5 +61,8 @@ limitTable = record {
   «record_length» = recordLength;
   records = maxRecords;
   log = minLog;
+  row = maxRow;
+  «row_records» = maxRowRecords;
+  «row_log» = minRowLog;
   «printed_log» = maxPrintedLog;
 }

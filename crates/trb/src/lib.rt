@@ -35,6 +35,15 @@ pub const MAX_RECORDS: usize = 2 * MAX_HELD;
 // Bytes of the shortest log that a call takes.
 pub const MIN_LOG: usize = RECORD_LENGTH * MAX_RECORDS;
 
+// TRBs of a row, and so the most TDs that it has: as many as a block holds, so that any TD of a row fits one.
+pub const MAX_ROW: usize = MAX_HELD;
+
+// Records that a row logs: a request for each TD, and two for each TRB.
+pub const MAX_ROW_RECORDS: usize = 3 * MAX_ROW;
+
+// Bytes of the shortest log that a row takes.
+pub const MIN_ROW_LOG: usize = RECORD_LENGTH * MAX_ROW_RECORDS;
+
 // Bytes of the longest log that is printed.
 pub const MAX_PRINTED_LOG: usize = 65536;
 
@@ -47,6 +56,9 @@ pub struct LimitTable {
     pub record_length: usize,
     pub records: usize,
     pub log: usize,
+    pub row: usize,
+    pub row_records: usize,
+    pub row_log: usize,
     pub printed_log: usize,
 }
 
@@ -63,6 +75,9 @@ pub fn limits() -> LimitTable
         record_length: RECORD_LENGTH,
         records: MAX_RECORDS,
         log: MIN_LOG,
+        row: MAX_ROW,
+        row_records: MAX_ROW_RECORDS,
+        row_log: MIN_ROW_LOG,
         printed_log: MAX_PRINTED_LOG,
     }
 }

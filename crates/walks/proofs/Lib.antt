@@ -1,2 +1,3 @@
+pub mod GoingLaws
 pub mod WalkLaws
 pub mod AllLaws

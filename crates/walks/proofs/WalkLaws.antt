@@ -1,20 +1,20 @@
 -- How a loop over an array keeps to a walk: after i turns, what the walk over the rest makes of the present state and log is what
 -- the whole walk makes of the first state and log. Assumes nothing.
 use Prim.Native.Nat.{ℕ, suc, _+_, _*_, _<_, _≤_}
-use mathlib.Core.Path.{_≡_, refl, sym, ap, _∙_, subst}
+use mathlib.Core.Path.{_≡_, refl, sym}
 use mathlib.Core.Bool.{Bool, true, false, cond}
 use mathlib.Core.List.{List, [], _∷_, _++_}
 use native.Mathlib.Nat.{mul-le-mul-left, mul-suc, add-zero}
 use native.Mathlib.Numerals.{add-one}
 use native.Mathlib.Omega.{arith}
-use lib.ListN.{length, take, drop, getD, drop-of-length-le, length-append}
-use lib.Seq.{drop-cons, getD-take, length-take-le}
+use lib.ListN.{length, take, drop, getD, length-append}
+use lib.Seq.{getD-take, length-take-le}
 use Rattle.trb.specs.Limits.{recordLength}
 use Rattle.log.specs.declared.Record.{Record}
 use Rattle.log.specs.Calls.{Out, silent, Meets}
 use Rattle.log.specs.Logs.{logged, AllFit}
-use Rattle.log.proofs.LogLaws.{logged-append, logged-none, length-logged, AllFit-append}
 use Rattle.walks.specs.Walk.{join, walk}
+use Rattle.walks.proofs.GoingLaws.{Going, walk-cons, walk-none, walk-stopped as stopped-walk, going-turn, going-end, going-stop}
 
 -- what holds of a step: it keeps what holds of each state, logs at most so many records, and counts them
 pub record Fine {S : Type 0} (Good : S → Type 0) (count : S → ℕ) (most : ℕ) (s : S) (o : Out S) : Type 0 where
@@ -48,19 +48,9 @@ pub record Walked {S T : Type 0} (k : Walker S T) (s₀ : S) (ts : List T) (l₀
   pub fits : AllFit (walkOf k s (drop i ts) .records) → AllFit (walkOf k s₀ ts .records)
 
 module _ {S T : Type 0} (k : Walker S T) where
-  walk-cons : (s : S) (t : T) (ts : List T) → k .stopped s ≡ false → walkOf k s (t ∷ ts) ≡ join (k .step s t) (walkOf k (k .step s t .state) ts)
-  unfolding walk
-  walk-cons s t ts e = rw e
-
-  walk-none : (s : S) → walkOf k s [] ≡ silent s
-  unfolding walk
-  walk-none s = refl
-
   -- a state that stops the walk
   pub walk-stopped : (s : S) (ts : List T) → k .stopped s ≡ true → walkOf k s ts ≡ silent s
-  unfolding walk
-  walk-stopped s [] e = refl
-  walk-stopped s (t ∷ ts) e = rw e
+  walk-stopped s ts e = stopped-walk (k .step) (k .stopped) s ts e
 
   fine-cons : (s : S) (t : T) (ts : List T) (v : Bool) → k .stopped s ≡ v → k .Good s
       → Fine (k .Good) (k .count) (k .most * length ts) (k .step s t .state) (walkOf k (k .step s t .state) ts)
@@ -70,12 +60,12 @@ module _ {S T : Type 0} (k : Walker S T) where
   fine-cons s t ts false e g ih =
       let f : Fine (k .Good) (k .count) (k .most) s (k .step s t) = k .fine s t g in
       let long = length-append (k .step s t .records) (walkOf k (k .step s t .state) ts .records) in
-      rw (walk-cons s t ts e)
+      rw (walk-cons (k .step) (k .stopped) s t ts e)
       (record { good = ih .good; few = omega (arith, ih .few, f .few, long, mul-suc (k .most) (length ts)); counts = omega (arith, ih .counts, f .counts, long) })
 
   -- of a walk holds what holds of its steps
   walk-fine : (s : S) (ts : List T) → k .Good s → Fine (k .Good) (k .count) (k .most * length ts) s (walkOf k s ts)
-  walk-fine s [] g = rw (walk-none s) (fine-silent (k .most * 0) s g)
+  walk-fine s [] g = rw (walk-none (k .step) (k .stopped) s) (fine-silent (k .most * 0) s g)
   walk-fine s (t ∷ ts) g = fine-cons s t ts (k .stopped s) refl g (walk-fine (k .step s t .state) ts (k .fine s t g .good))
 
   -- a walk counts its records
@@ -90,58 +80,48 @@ module _ {S T : Type 0} (k : Walker S T) where
   pub walked-none : (s : S) (ts : List T) (l : List ℕ) → k .Good s → Walked k s ts l l s 0
   walked-none s ts l g = record { good = g; room = omega arith; long = refl; state = refl; log = refl; fits = λ f. f }
 
-  walked-step : (s₀ : S) (ts : List T) (l₀ l : List ℕ) (s : S) (i : ℕ) (d : T) → Walked k s₀ ts l₀ l s i
+  -- a loop that keeps to a walk
+  going : (s₀ : S) (ts : List T) (l₀ l : List ℕ) (s : S) (i : ℕ) → Walked k s₀ ts l₀ l s i → Going (k .step) (k .stopped) (k .count) s₀ ts l₀ l s i
+  going s₀ ts l₀ l s i w = record { long = w .long; state = w .state; log = w .log; fits = w .fits }
+
+  walked-step : (s₀ : S) (ts : List T) (l₀ l l' : List ℕ) (s r : S) (i : ℕ) (d : T) → Walked k s₀ ts l₀ l s i
       → k .stopped s ≡ false → i < length ts → recordLength * (k .count s₀ + k .most * length ts) ≤ length l₀
-      → AllFit (k .step s (getD ts i d) .records)
-      → Walked k s₀ ts l₀ (logged l (k .count s) (k .step s (getD ts i d) .records)) (k .step s (getD ts i d) .state) (i + 1)
-  walked-step s₀ ts l₀ l s i d w going more room fit =
+      → Meets (k .step s (getD ts i d)) (k .count s) l r l' → Walked k s₀ ts l₀ l' r (i + 1)
+  walked-step s₀ ts l₀ l l' s r i d w on more room m =
       let o : Out S = k .step s (getD ts i d) in
       let f : Fine (k .Good) (k .count) (k .most) s o = k .fine s (getD ts i d) (w .good) in
       let up : k .most * (i + 1) ≡ k .most * i + k .most = rw add-one (mul-suc (k .most) i) in
       let upto : k .most * (i + 1) ≤ k .most * length ts = mul-le-mul-left (k .most) (omega arith) in
       let space : recordLength * (k .count s + length (o .records)) ≤ length l = omega (arith, w, f, up, upto) in
-      let rest : List T = drop (suc i) ts in
-      let e : walkOf k s (drop i ts) ≡ join o (walkOf k (o .state) rest) = ap (walkOf k s) (drop-cons ts i d more) ∙ walk-cons s (getD ts i d) rest going in
+      let g = going-turn (k .step) (k .stopped) (k .count) s₀ ts l₀ l s i (going s₀ ts l₀ l s i w) l' r d on more (f .counts) space m in
       record {
-        good = f .good;
-        room = omega (arith, w, f, up, upto);
-        long = length-logged l (k .count s) (o .records) space ∙ w .long;
-        state = rw add-one (sym (ap (λ (p : Out S). p .state) e) ∙ w .state);
-        log = rw (add-one, f .counts)
-            (logged-append l (k .count s) (o .records) (walkOf k (o .state) rest .records) space
-            ∙ sym (ap (λ (p : Out S). logged l (k .count s) (p .records)) e) ∙ w .log);
-        fits = rw add-one
-            (λ g. w .fits (subst (λ (p : Out S). AllFit (p .records)) (sym e) (AllFit-append (o .records) (walkOf k (o .state) rest .records) fit g)));
+        good = rw (m .state) (f .good);
+        room = rw (m .state) (omega (arith, w, f, up, upto));
+        long = g .long;
+        state = g .state;
+        log = g .log;
+        fits = g .fits;
       }
-
-  walked-done : (s₀ : S) (ts : List T) (l₀ l : List ℕ) (s : S) (i : ℕ) → Walked k s₀ ts l₀ l s i → walkOf k s (drop i ts) ≡ silent s
-      → Meets (walkOf k s₀ ts) (k .count s₀) l₀ s l
-  walked-done s₀ ts l₀ l s i w e = record {
-    state = sym (ap (λ (p : Out S). p .state) e) ∙ w .state;
-    log = sym (ap (λ (p : Out S). logged l (k .count s) (p .records)) e ∙ logged-none l (k .count s)) ∙ w .log;
-    fits = w .fits (subst (λ (p : Out S). AllFit (p .records)) (sym e) tt);
-  }
 
   module _ (xs : List T) (n : ℕ) (long : n ≤ length xs) (s₀ : S) (l₀ : List ℕ) where
     -- a turn of a loop over an array whose first n elements are walked: d is what a read past its end would give
     pub walked-turn : (l l' : List ℕ) (s r : S) (i : ℕ) (d : T) → Walked k s₀ (take n xs) l₀ l s i
         → k .stopped s ≡ false → i < n → recordLength * (k .count s₀ + k .most * n) ≤ length l₀
         → Meets (k .step s (getD xs i d)) (k .count s) l r l' → Walked k s₀ (take n xs) l₀ l' r (i + 1)
-    walked-turn l l' s r i d w going more room m =
+    walked-turn l l' s r i d w on more room m =
         let e : length (take n xs) ≡ n = length-take-le n xs long in
         let same : getD (take n xs) i d ≡ getD xs i d = getD-take n xs i d more in
-        rw (m .state, m .log, ← same)
-        (walked-step s₀ (take n xs) l₀ l s i d w going (omega arith) (rw e room) (rw same (m .fits)))
+        walked-step s₀ (take n xs) l₀ l l' s r i d w on (omega arith) (rw e room) (rw same m)
 
     -- after the last element
     pub walked-end : (l : List ℕ) (s : S) (i : ℕ) → Walked k s₀ (take n xs) l₀ l s i → n ≤ i → Meets (walkOf k s₀ (take n xs)) (k .count s₀) l₀ s l
     walked-end l s i w h =
         let e : length (take n xs) ≡ n = length-take-le n xs long in
-        walked-done s₀ (take n xs) l₀ l s i w (ap (walkOf k s) (drop-of-length-le (take n xs) {i = i} (omega arith)) ∙ walk-none s)
+        going-end (k .step) (k .stopped) (k .count) s₀ (take n xs) l₀ l s i (going s₀ (take n xs) l₀ l s i w) (omega arith)
 
     -- where a state stops the walk
     pub walked-stop : (l : List ℕ) (s : S) (i : ℕ) → Walked k s₀ (take n xs) l₀ l s i → k .stopped s ≡ true → Meets (walkOf k s₀ (take n xs)) (k .count s₀) l₀ s l
-    walked-stop l s i w h = walked-done s₀ (take n xs) l₀ l s i w (walk-stopped s (drop i (take n xs)) h)
+    walked-stop l s i w h = going-stop (k .step) (k .stopped) (k .count) s₀ (take n xs) l₀ l s i (going s₀ (take n xs) l₀ l s i w) h
 
 -- what holds of no records, of two lists one behind the other, and of what a step logs, holds of what a walk logs
 module _ {S T : Type 0} (step : S → T → Out S) (stopped : S → Bool) (Good : S → Type 0) (P : List Record → Type 0)

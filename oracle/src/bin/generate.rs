@@ -7,6 +7,7 @@ use oracle::{exhaustive, generate};
 const USAGE: &str = "\
 generate SEED COUNT                 a random script of COUNT calls
 generate raw SEED COUNT             the same with each TRB raw
+generate rows SEED COUNT            rows of TDs, COUNT calls
 generate exhaustive-control [PART]  all control chains of up to five TRBs
 generate exhaustive-in [PART]       all IN TDs of up to three TRBs
 generate wrap                       the request length past 2^32 by Unrecognized TRBs
@@ -30,6 +31,9 @@ fn main() -> io::Result<()> {
         }
         ["raw", seed, count] => {
             out.write_all(generate::raw_script(number(seed), number(count) as usize).as_bytes())
+        }
+        ["rows", seed, count] => {
+            out.write_all(generate::row_script(number(seed), number(count) as usize).as_bytes())
         }
         [name] => {
             let family = family_named(name);

@@ -1,0 +1,2 @@
+pub mod Completion
+pub mod SingleCalls

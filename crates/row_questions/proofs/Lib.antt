@@ -1,0 +1,2 @@
+pub mod RowTestLaws
+pub mod QuestionLaws

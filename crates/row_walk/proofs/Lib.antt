@@ -1,0 +1,4 @@
+pub mod MovedLaws
+pub mod TdsLaws
+pub mod RowLaws
+pub mod AccountLaws
