@@ -1,4 +1,5 @@
 mod PartLaws
 mod WalkLaws
 pub mod Laws
+pub mod AllCame
 pub mod Examples

@@ -1,1 +1,2 @@
 pub mod ByCount
+pub mod AllCame
