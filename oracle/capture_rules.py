@@ -1,4 +1,4 @@
-"""Document 02's sentences on capture files, R-12, and nothing else: what converting answers and leaves in the output buffer.
+"""Document 02's sentences on capture files, R-12 and R-13, and nothing else: what converting and merging answer and leave in the output buffer.
 
 A file is read with struct, record by record; no line of this follows the product's code or definitions."""
 import struct
@@ -51,6 +51,20 @@ def converted(data):
         return file_of(zone, accuracy, snap, 220, moved)
     moved = [(s, u, original - 16, usbmon, b'', payload) for s, u, original, usbmon, _, payload in records]
     return file_of(zone, accuracy, snap, 189, moved)
+
+
+def merged(first, second):
+    """Two captures made one, or 17, 19 or 20."""
+    (zone, accuracy, snap, link), ours = records_of(first, False)
+    (_, _, other_snap, other_link), theirs = records_of(second, False)
+    if link != other_link:
+        raise No(19)
+    for records in (ours, theirs):
+        times = [record[:2] for record in records]
+        if times != sorted(times):
+            raise No(20)
+    # sorted keeps the order of what is equal: the first file's records stand in front
+    return file_of(zone, accuracy, max(snap, other_snap), link, sorted(ours + theirs, key=lambda record: record[:2]))
 
 
 def answer(make, room):

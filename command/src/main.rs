@@ -54,6 +54,15 @@ const COMMANDS: &[Command] = &[
         most_files: 1,
         run: captures::convert,
     },
+    Command {
+        name: "merge",
+        usage: "[-o FILE] FILE FILE",
+        does: "makes two captures one, ordered by time; at equal times the first one's records come first",
+        has_output: true,
+        least_files: 2,
+        most_files: 2,
+        run: captures::merge,
+    },
 ];
 
 /// What was asked for was refused by its questions.

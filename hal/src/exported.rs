@@ -37,4 +37,20 @@ extern "C" {
     pub fn polvihe_converted_length(input: *const u8, input_length: usize) -> usize;
 
     pub fn polvihe_convert(input: *const u8, input_length: usize, output: *mut u8, output_length: usize) -> u8;
+
+    pub fn polvihe_merged_length(
+        first: *const u8,
+        first_length: usize,
+        second: *const u8,
+        second_length: usize,
+    ) -> usize;
+
+    pub fn polvihe_merge(
+        first: *const u8,
+        first_length: usize,
+        second: *const u8,
+        second_length: usize,
+        output: *mut u8,
+        output_length: usize,
+    ) -> u8;
 }

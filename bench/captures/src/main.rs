@@ -8,6 +8,14 @@ const RUNS: usize = 25;
 
 extern "C" {
     fn polvihe_convert(input: *const u8, input_length: usize, output: *mut u8, output_length: usize) -> u8;
+    fn polvihe_merge(
+        first: *const u8,
+        first_length: usize,
+        second: *const u8,
+        second_length: usize,
+        output: *mut u8,
+        output_length: usize,
+    ) -> u8;
 }
 
 fn main() {
@@ -15,7 +23,7 @@ fn main() {
     println!(
         "| Call | records | data of each | memcpy of the output | proved call | ratio |\n|---|---|---|---|---|---|"
     );
-    for (records, payload) in [(16, 65536), (1000, 65536), (4000, 64)] {
+    for (records, payload) in [(16, 65536), (1000, 65536), (4578, 65536), (4000, 64)] {
         let short = capture(189, records, payload, 0, 1);
         let long = capture(220, records, payload, 0, 1);
         row("189 to 220", records, payload, &long, |output| {
@@ -26,7 +34,25 @@ fn main() {
             // SAFETY: as above.
             unsafe { polvihe_convert(long.as_ptr(), long.len(), output.as_mut_ptr(), output.len()) }
         });
+        let (even, odd) = (capture(189, records / 2, payload, 0, 2), capture(189, records / 2, payload, 1, 2));
+        row("two merged, record by record", records, payload, &woven(&even, &odd, records / 2), |output| {
+            // SAFETY: as above.
+            unsafe {
+                polvihe_merge(even.as_ptr(), even.len(), odd.as_ptr(), odd.len(), output.as_mut_ptr(), output.len())
+            }
+        });
     }
+}
+
+/// Two captures of so many records each, of equal sizes, taken in turn.
+fn woven(first: &[u8], second: &[u8], records: usize) -> Vec<u8> {
+    let size = (first.len() - 24) / records;
+    let mut file = first[..24].to_vec();
+    for k in 0..records {
+        file.extend(&first[24 + k * size..][..size]);
+        file.extend(&second[24 + k * size..][..size]);
+    }
+    file
 }
 
 /// One row: the call makes `made`, byte for byte, and is timed beside a copy of it.

@@ -11,6 +11,7 @@ use Rattle.buffers.specs.LittleEndian.{leField}
 use Rattle.capture_file.specs.declared.Survey.{Survey}
 use Rattle.capture_file.specs.Reading.{capturedAt, fromEach, recordAt, recordsIn, wholeRecord, wholeRecords, every}
 use Rattle.capture_file.specs.Files.{extraOf, mostOf, fileIn, wholeHead, wholeFile}
+use Rattle.capture_file.specs.Times.{before, orderedFrom}
 use Rattle.capture_file.specs.Survey.{convertible, found, foundBroken, surveyOf, fileSurvey}
 use Rattle.capture_file.proofs.ReadingLaws.{recordsIn-none, recordsIn-step, wholeRecords-none, wholeRecords-step}
 use Rattle.capture_file.proofs.LayoutLaws.{both, Whole, whole-tests}
@@ -26,15 +27,17 @@ and-assoc : (a b c : Bool) → ((a && b) && c) ≡ (a && (b && c))
 and-assoc true b c = refl
 and-assoc false b c = refl
 
--- so far `count` records were passed, all of them whole, and `so` says whether all of them can be converted
-pub record Surveying (extra most : ℕ) (l : List ℕ) (at count : ℕ) (so : Bool) : Type 0 where
+-- so far `count` records were passed, all of them whole; `so` says whether all of them can be converted, and `up` whether their times do not go backwards; the last
+-- time is (s, m)
+pub record Surveying (extra most : ℕ) (l : List ℕ) (at count : ℕ) (so up : Bool) (s m : ℕ) : Type 0 where
   pub within : at ≤ length l
   pub few : count ≤ at
   pub whole : wholeRecords extra most (drop at l) ≡ wholeRecords extra most l
   pub plain : (so && every convertible (recordsIn extra (drop at l))) ≡ every convertible (recordsIn extra l)
+  pub sorted : (up && orderedFrom s m (recordsIn extra (drop at l))) ≡ orderedFrom 0 0 (recordsIn extra l)
   pub counted : count + length (recordsIn extra (drop at l)) ≡ length (recordsIn extra l)
 
-module _ {extra most : ℕ} {l : List ℕ} {at count : ℕ} {so : Bool} (w : Surveying extra most l at count so) (h : at < length l) where
+module _ {extra most : ℕ} {l : List ℕ} {at count : ℕ} {so up : Bool} {s m : ℕ} (w : Surveying extra most l at count so up s m) (h : at < length l) where
   -- a record that is not whole ends the pass
   pub survey-broken : wholeRecord extra most (drop at l) ≡ false → foundBroken ≡ surveyOf extra most l
   unfolding surveyOf
@@ -50,10 +53,14 @@ module _ {extra most : ℕ} {l : List ℕ} {at count : ℕ} {so : Bool} (w : Sur
     pub survey-within : at + (16 + capturedAt (drop at l)) ≤ length l
     survey-within = omega (arith, here .complete, length-drop at l)
 
-    pub survey-step : Surveying extra most l (at + (16 + capturedAt (drop at l))) (count + 1) (so && convertible (recordAt extra (drop at l)))
-    survey-step =
+    pub survey-step : {i t n : ℕ} {so' up' : Bool} → i ≡ 16 + capturedAt (drop at l) → so' ≡ (so && convertible (recordAt extra (drop at l)))
+        → up' ≡ (up && not (before (leField 0 4 (drop at l)) (leField 4 4 (drop at l)) s m)) → t ≡ leField 0 4 (drop at l) → n ≡ leField 4 4 (drop at l)
+        → Surveying extra most l (at + i) (count + 1) so' up' t n
+    unfolding recordAt
+    survey-step passed plain sorted seconds microseconds =
         let split = recordsIn-step extra 0 at l h in
-        record {
+        rw (passed, plain, sorted, seconds, microseconds)
+        (record {
           within = survey-within;
           few = omega (arith, w .few);
           whole = sym (wholeRecords-step extra most at l h ∙ rw passes) ∙ w .whole;
@@ -61,20 +68,25 @@ module _ {extra most : ℕ} {l : List ℕ} {at count : ℕ} {so : Bool} (w : Sur
               and-assoc so (convertible (recordAt extra (drop at l))) _
               ∙ ap (λ (b : Bool). so && b) (sym (ap (every convertible) split))
               ∙ w .plain;
+          sorted =
+              and-assoc up (not (before (leField 0 4 (drop at l)) (leField 4 4 (drop at l)) s m)) _
+              ∙ ap (λ (b : Bool). up && b) (sym (ap (orderedFrom s m) split))
+              ∙ w .sorted;
           counted = omega (arith, w .counted, ap length split);
-        }
+        })
 
 -- at the end nothing is left
-pub survey-ends : {extra most : ℕ} {l : List ℕ} {at count : ℕ} {so : Bool} → Surveying extra most l at count so → length l ≤ at
-    → _≡_ {A = Survey} (record { whole = true; convertible = so; records = count }) (surveyOf extra most l)
+pub survey-ends : {extra most : ℕ} {l : List ℕ} {at count : ℕ} {so up : Bool} {s m : ℕ} → Surveying extra most l at count so up s m → length l ≤ at
+    → _≡_ {A = Survey} (record { whole = true; convertible = so; ordered = up; records = count }) (surveyOf extra most l)
 unfolding surveyOf found
-survey-ends {extra} {most} {l} {at} {count} {so} w h =
+survey-ends {extra} {most} {l} {at} {count} {so} {up} w h =
     let none : drop at l ≡ [] = drop-of-length-le l h in
     let whole : wholeRecords extra most l ≡ true = sym (w .whole) ∙ rw none (wholeRecords-none extra most) in
     let left : recordsIn extra (drop at l) ≡ [] = rw none (recordsIn-none extra) in
     let plain : so ≡ every convertible (recordsIn extra l) = and-true so ∙ rw left at (w .plain) in
+    let sorted : up ≡ orderedFrom 0 0 (recordsIn extra l) = and-true up ∙ rw left at (w .sorted) in
     let counted : count ≡ length (recordsIn extra l) = omega (arith, w .counted, ap length left) in
-    rw whole (λ i. record { whole = true; convertible = plain i; records = counted i })
+    rw whole (λ i. record { whole = true; convertible = plain i; ordered = sorted i; records = counted i })
   where
     and-true : (a : Bool) → a ≡ (a && true)
     and-true true = refl
@@ -105,6 +117,10 @@ module _ (growth : ℕ) (l : List ℕ) (whole : wholeFile growth l ≡ true) whe
   pub survey-convertible : fileSurvey growth l .convertible ≡ every convertible (fileIn l .records)
   unfolding fileSurvey found
   survey-convertible = rw whole
+
+  pub survey-ordered : fileSurvey growth l .ordered ≡ orderedFrom 0 0 (fileIn l .records)
+  unfolding fileSurvey found
+  survey-ordered = rw whole
 
   pub survey-count : fileSurvey growth l .records ≡ length (fileIn l .records)
   unfolding fileSurvey found

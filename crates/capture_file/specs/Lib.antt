@@ -2,4 +2,5 @@ pub mod Records
 pub mod Reading
 pub mod Files
 pub mod Answers
+pub mod Times
 pub mod Survey

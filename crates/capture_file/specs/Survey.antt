@@ -6,6 +6,7 @@ use lib.Dec.{eqb}
 use lib.ListN.{length, getD}
 use Rattle.capture_file.specs.declared.Survey.{Survey}
 use Rattle.capture_file.specs.Records.{CaptureRecord}
+use Rattle.capture_file.specs.Times.{orderedFrom}
 use Rattle.capture_file.specs.Reading.{recordsIn, wholeRecords, every}
 use Rattle.capture_file.specs.Files.{fileIn, wholeFile}
 
@@ -15,11 +16,11 @@ convertible r = not (eqb (getD (r .link) 9 0) 0) && every (eqb 0) (r .added)
 
 -- what is found of records, where they are whole
 unfoldable pub found : List CaptureRecord → Survey
-found rs = record { whole = true; convertible = every convertible rs; records = length rs }
+found rs = record { whole = true; convertible = every convertible rs; ordered = orderedFrom 0 0 rs; records = length rs }
 
 -- and where they are not
 abbrev pub foundBroken : Survey
-foundBroken = record { whole = false; convertible = false; records = 0 }
+foundBroken = record { whole = false; convertible = false; ordered = false; records = 0 }
 
 unfoldable pub surveyOf : ℕ → ℕ → List ℕ → Survey
 surveyOf extra most l = cond (wholeRecords extra most l) (found (recordsIn extra l)) foundBroken

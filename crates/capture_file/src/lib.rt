@@ -1,14 +1,16 @@
 // Capture files, pcap 2.4 with usbmon headers: one pass that checks a file, and the two headers' bytes.
 use trb::Refusal;
-ghost use mathlib.Core.Bool.{_&&_};
+ghost use mathlib.Core.Bool.{not, _&&_};
 ghost use mathlib.Core.Path.{_≡_};
 ghost use Prim.Native.Nat.{_+_, _≤_};
 ghost use lib.Dec.{eqb};
 ghost use lib.ListN.{length};
+ghost use Rattle.buffers.specs.LittleEndian.{leField};
 ghost use Rattle.capture_file.specs.Answers.{captureNumber, captureLength};
 ghost use Rattle.capture_file.specs.Records.{head};
 ghost use Rattle.capture_file.specs.Reading.{capturedAt, recordAt, wholeRecord, every};
 ghost use Rattle.capture_file.specs.Files.{knownLink, extraOf, mostOf, fileHead, wholeHead};
+ghost use Rattle.capture_file.specs.Times.{before};
 ghost use Rattle.capture_file.specs.Survey.{convertible, foundBroken, surveyOf, fileSurvey};
 
 // LINKTYPE_USB_LINUX, with a header of 48 bytes, and LINKTYPE_USB_LINUX_MMAPPED, with one of 64.
@@ -42,11 +44,12 @@ pub fn answer_length(answer: CaptureAnswer) -> usize
     }
 }
 
-// What one pass over a file finds: whether it is whole and, of a whole one, whether each record can be converted, and how many
-// there are.
+// What one pass over a file finds: whether it is whole and, of a whole one, whether each record can be converted, whether the
+// times never go backwards, and how many records there are.
 pub struct Survey {
     pub whole: bool,
     pub convertible: bool,
+    pub ordered: bool,
     pub records: usize,
 }
 
@@ -119,8 +122,35 @@ fn found_broken() -> Survey
     Survey {
         whole: false,
         convertible: false,
+        ordered: false,
         records: 0,
     }
+}
+
+// Is the first time, in seconds and microseconds, before the second?
+pub fn is_before(s: u32, m: u32, t: u32, n: u32) -> bool
+    ensures { λ r. ⌜ r ≡ before s m t n ⌝ }
+{
+    if s < t {
+        return true;
+    }
+    if s != t {
+        return false;
+    }
+    m < n
+}
+
+// Is the time of the record that the bytes start with not before this one?
+fn follows(rest: &[u8], seconds: u32, microseconds: u32) -> bool
+    requires { ⌜ 8 ≤ length (now rest) ⌝ }
+    ensures { λ r. ⌜ r ≡ not (before (leField 0 4 (now (rest .entry))) (leField 4 4 (now (rest .entry))) seconds microseconds) ⌝ }
+{
+    !is_before(
+        buffers::le32(rest, 0),
+        buffers::le32(rest, 4),
+        seconds,
+        microseconds,
+    )
 }
 
 // One pass over the records behind a file header.
@@ -131,18 +161,25 @@ fn survey_records(records: &[u8], extra: usize, most: u32) -> Survey
     let mut at = 0;
     let mut count = 0;
     let mut convertible = true;
+    let mut ordered = true;
+    let mut seconds: u32 = 0;
+    let mut microseconds: u32 = 0;
     while at < records.len() {
         let rest = &records[at..];
         if !whole_record(rest, extra, most) {
             return found_broken();
         }
         convertible = both(convertible, is_convertible(rest, extra));
+        ordered = both(ordered, follows(rest, seconds, microseconds));
+        seconds = buffers::le32(rest, 0);
+        microseconds = buffers::le32(rest, 4);
         count += 1;
         at += record_size(rest);
     }
     Survey {
         whole: true,
         convertible: convertible,
+        ordered: ordered,
         records: count,
     }
 }

@@ -9,6 +9,7 @@ ghost use Rattle.trb.specs.Refusals.{refusalNumber};
 ghost use Rattle.log_text.specs.Widths.{maxLine};
 ghost use Rattle.capture_file.specs.Answers.{captureLength};
 ghost use Rattle.capture_convert.specs.Converting.{lengthAnswer, convertQuestions, outputAfter};
+ghost use Rattle.capture_merge.specs.Merging as merging;
 ghost use Rattle.polvihe.specs.Stored.{checkQuestions, Compacts, Prints};
 
 // What a call answers: the number of the question that said no, or 0, and how many records or bytes it made.
@@ -98,4 +99,20 @@ pub extern "C" fn polvihe_convert(input: &[u8], output: &mut [u8]) -> u8
     ensures { λ r. ⌜ (r ≡ firstNo (convertQuestions (now (input .entry)) (length (now (output .entry))))) × (now (output .exit) ≡ outputAfter (now (input .entry)) (now (output .entry))) ⌝ }
 {
     capture_file::answer_number(capture_convert::convert(input, output))
+}
+
+// The length of two captures made one; 0 where merging answers 17, 19 or 20.
+#[no_mangle]
+pub extern "C" fn polvihe_merged_length(first: &[u8], second: &[u8]) -> usize
+    ensures { λ r. ⌜ r ≡ captureLength (merging.lengthAnswer (now (first .entry)) (now (second .entry))) ⌝ }
+{
+    capture_file::answer_length(capture_merge::merged_length(first, second))
+}
+
+// Makes two captures one, ordered by time. The number: 0, or 17, 19, 20, 14 with the output as it was.
+#[no_mangle]
+pub extern "C" fn polvihe_merge(first: &[u8], second: &[u8], output: &mut [u8]) -> u8
+    ensures { λ r. ⌜ (r ≡ firstNo (merging.mergeQuestions (now (first .entry)) (now (second .entry)) (length (now (output .entry))))) × (now (output .exit) ≡ merging.outputAfter (now (first .entry)) (now (second .entry)) (now (output .entry))) ⌝ }
+{
+    capture_file::answer_number(capture_merge::merge(first, second, output))
 }

@@ -1,24 +1,28 @@
 -- `capture_file::survey_records` meets its contract. The loop's invariant: what was found so far, with what the records from `at` on give, is what all of
 -- them give. A record that is not whole ends the pass. The measure is the number of bytes left. Assumes nothing.
 use Prim.Native.Nat.{ℕ, _+_, _-_, _≤_}
-use mathlib.Core.Bool.{true}
-use mathlib.Core.Path.{_≡_, refl, sym, _∙_}
+use mathlib.Core.Bool.{Bool, true, not, _&&_}
+use mathlib.Core.Path.{_≡_, refl, sym, ap, _∙_}
 use mathlib.Core.List.{List}
 use native.Mathlib.Omega.{arith}
 use lib.ListN.{length, drop}
 use borrow.Author.Needs.{needs}
 use borrow.Author.Tests.{not-true, not-false}
-use Rattle.capture_file.specs.Reading.{capturedAt, wholeRecord}
+use Rattle.buffers.specs.LittleEndian.{leField}
+use Rattle.capture_file.specs.Reading.{capturedAt, recordAt, wholeRecord}
+use Rattle.capture_file.specs.Times.{before}
+use Rattle.capture_file.specs.Survey.{convertible}
 use Rattle.capture_file.proofs.ReadingLaws.{part-from}
 use Rattle.capture_file.proofs.SurveyLaws.{Surveying, survey-broken, survey-header, survey-within, survey-step, survey-ends}
 use Rattle.capture_file.proofs.survey_records.Statement.{statement}
 use Rattle.capture_file.proofs.survey_records.Tie as tie
 
 abbrev Inv-loop : tie.InvT-loop
-Inv-loop records extra most at₀ count₀ convertible₀ at count convertible = Surveying extra most records at count convertible
+Inv-loop records extra most at₀ count₀ convertible₀ ordered₀ seconds₀ microseconds₀ at count convertible ordered seconds microseconds =
+    Surveying extra most records at count convertible ordered seconds microseconds
 
 abbrev μ-loop : tie.MeasureT-loop
-μ-loop records extra most at₀ count₀ convertible₀ at count convertible = length records - at
+μ-loop records extra most at₀ count₀ convertible₀ ordered₀ seconds₀ microseconds₀ at count convertible ordered seconds microseconds = length records - at
 
 -- the record at `at`, once it is known to be whole
 module _ (c : tie.Else1 Inv-loop μ-loop) where
@@ -40,7 +44,7 @@ module _ (c : tie.Else1 Inv-loop μ-loop) where
   within = survey-within (turn .before .loop .inv) (turn .loop-test .taken) passes
 
 loop-holds : tie.Need-loop-holds Inv-loop μ-loop
-loop-holds c = record { within = search needs; few = search needs; whole = refl; plain = refl; counted = search needs }
+loop-holds c = record { within = search needs; few = search needs; whole = refl; plain = refl; sorted = refl; counted = search needs }
 
 sub-rest : tie.Need-sub-rest Inv-loop μ-loop
 sub-rest c = search needs
@@ -72,32 +76,76 @@ is-convertible-requires c κs =
 both-requires : tie.Need-both-requires Inv-loop μ-loop
 both-requires c κs = search needs
 
+follows-requires : tie.Need-follows-requires Inv-loop μ-loop
+follows-requires c κs =
+    let o = turn (c .before .before) .before in
+    rw (part-from (o .before .before .args .records .now) (o .loop .at)) (omega (arith, header (c .before .before)))
+
+both-requires-2 : tie.Need-both-requires-2 Inv-loop μ-loop
+both-requires-2 c κs = search needs
+
+le32-requires : tie.Need-le32-requires Inv-loop μ-loop
+le32-requires c κs =
+    let o = turn (c .before .before .before .before) .before in
+    rw (part-from (o .before .before .args .records .now) (o .loop .at)) (omega (arith, header (c .before .before .before .before)))
+
+le32-requires-2 : tie.Need-le32-requires-2 Inv-loop μ-loop
+le32-requires-2 c κs =
+    let o = turn (c .before .before .before .before .before) .before in
+    rw (part-from (o .before .before .args .records .now) (o .loop .at)) (omega (arith, header (c .before .before .before .before .before)))
+
 add-count : tie.Need-add-count Inv-loop μ-loop
 add-count c = search needs
 
 record-size-requires : tie.Need-record-size-requires Inv-loop μ-loop
 record-size-requires c κs =
-    let o = turn (c .before .before) .before in
-    rw (part-from (o .before .before .args .records .now) (o .loop .at)) (omega (arith, header (c .before .before)))
+    let o = turn (c .before .before .before .before .before .before) .before in
+    rw (part-from (o .before .before .args .records .now) (o .loop .at)) (omega (arith, header (c .before .before .before .before .before .before)))
 
--- the size of that record
-sized : (c : tie.After-record-size Inv-loop μ-loop) → c .record-size .result ≡ 16 + capturedAt (rest (c .before .before .before))
-sized c =
-    let o = turn (c .before .before .before) .before in
-    rw (part-from (o .before .before .args .records .now) (o .loop .at)) at (c .record-size .ensures)
+-- what was read of that record
+module _ (c : tie.After-record-size Inv-loop μ-loop) where
+  abbrev ordering : tie.After-both2 Inv-loop μ-loop
+  ordering = c .before .before .before
+
+  abbrev yes : tie.Else1 Inv-loop μ-loop
+  yes = ordering .before .before .before .before
+
+  abbrev records : List ℕ
+  records = turn yes .before .before .before .args .records .now
+
+  abbrev at : ℕ
+  at = turn yes .before .loop .at
+
+  sized : c .record-size .result ≡ 16 + capturedAt (rest yes)
+  sized = rw (part-from records at) at (c .record-size .ensures)
+
+  seconds : c .before .before .le32 .result ≡ leField 0 4 (rest yes)
+  seconds = rw (part-from records at) at (c .before .before .le32 .ensures)
+
+  microseconds : c .before .le322 .result ≡ leField 4 4 (rest yes)
+  microseconds = rw (part-from records at) at (c .before .le322 .ensures)
+
+  plain : ordering .before .before .both .result ≡ (turn yes .before .loop .convertible && convertible (recordAt (turn yes .before .before .before .args .extra) (rest yes)))
+  plain =
+      ordering .before .before .both .ensures
+      ∙ ap (λ (b : Bool). turn yes .before .loop .convertible && b) (rw (part-from records at) at (ordering .before .before .before .is-convertible .ensures))
+
+  sorted : ordering .both2 .result
+      ≡ (turn yes .before .loop .ordered && not (before (leField 0 4 (rest yes)) (leField 4 4 (rest yes)) (turn yes .before .loop .seconds) (turn yes .before .loop .microseconds)))
+  sorted =
+      ordering .both2 .ensures
+      ∙ ap (λ (b : Bool). turn yes .before .loop .ordered && b) (rw (part-from records at) at (ordering .before .follows .ensures))
 
 add-at : tie.Need-add-at Inv-loop μ-loop
-add-at c = omega (arith, sized c, within (c .before .before .before))
+add-at c = omega (arith, sized c, within (yes c))
 
 loop-less : tie.Need-loop-less Inv-loop μ-loop
-loop-less c = omega (arith, sized c, within (c .before .before .before))
+loop-less c = omega (arith, sized c, within (yes c))
 
 loop-again : tie.Need-loop-again Inv-loop μ-loop
 loop-again c =
-    let t = turn (c .before .before .before) in
-    let o = t .before in
-    let plain = rw (part-from (o .before .before .args .records .now) (o .loop .at)) at (c .before .before .is-convertible .ensures) in
-    rw (sized c, c .before .both .ensures, plain) (survey-step (o .loop .inv) (t .loop-test .taken) (passes (c .before .before .before)))
+    let t = turn (yes c) in
+    survey-step (t .before .loop .inv) (t .loop-test .taken) (passes (yes c)) (sized c) (plain c) (sorted c) (seconds c) (microseconds c)
 
 returns-2 : tie.Need-returns-2 Inv-loop μ-loop
 returns-2 c = survey-ends (c .before .loop .inv) (c .loop-test .left)
@@ -117,6 +165,10 @@ survey-records-spec =
     returns
     is-convertible-requires
     both-requires
+    follows-requires
+    both-requires-2
+    le32-requires
+    le32-requires-2
     add-count
     record-size-requires
     add-at

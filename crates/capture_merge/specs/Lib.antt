@@ -1,0 +1,3 @@
+pub mod Merging
+pub mod Order
+pub mod Examples
