@@ -1,22 +1,11 @@
 //! Times converting and merging beside `memcpy` of the file made, in one run, and prints a table: nanoseconds for each record,
 //! the best of the runs. The output buffer is touched before the first one.
 
+use polvihe_hal::{capture as product, Refusal};
 use std::hint::black_box;
 use std::time::Instant;
 
 const RUNS: usize = 25;
-
-extern "C" {
-    fn polvihe_convert(input: *const u8, input_length: usize, output: *mut u8, output_length: usize) -> u8;
-    fn polvihe_merge(
-        first: *const u8,
-        first_length: usize,
-        second: *const u8,
-        second_length: usize,
-        output: *mut u8,
-        output_length: usize,
-    ) -> u8;
-}
 
 fn main() {
     println!("Nanoseconds for each record, the best of {RUNS} runs.\n");
@@ -26,20 +15,11 @@ fn main() {
     for (records, payload) in [(16, 65536), (1000, 65536), (4578, 65536), (4000, 64)] {
         let short = capture(189, records, payload, 0, 1);
         let long = capture(220, records, payload, 0, 1);
-        row("189 to 220", records, payload, &long, |output| {
-            // SAFETY: each pointer is that of a slice of the length beside it.
-            unsafe { polvihe_convert(short.as_ptr(), short.len(), output.as_mut_ptr(), output.len()) }
-        });
-        row("220 to 189", records, payload, &short, |output| {
-            // SAFETY: as above.
-            unsafe { polvihe_convert(long.as_ptr(), long.len(), output.as_mut_ptr(), output.len()) }
-        });
+        row("189 to 220", records, payload, &long, |output| product::convert(&short, output));
+        row("220 to 189", records, payload, &short, |output| product::convert(&long, output));
         let (even, odd) = (capture(189, records / 2, payload, 0, 2), capture(189, records / 2, payload, 1, 2));
         row("two merged, record by record", records, payload, &woven(&even, &odd, records / 2), |output| {
-            // SAFETY: as above.
-            unsafe {
-                polvihe_merge(even.as_ptr(), even.len(), odd.as_ptr(), odd.len(), output.as_mut_ptr(), output.len())
-            }
+            product::merge(&even, &odd, output)
         });
     }
 }
@@ -56,14 +36,14 @@ fn woven(first: &[u8], second: &[u8], records: usize) -> Vec<u8> {
 }
 
 /// One row: the call makes `made`, byte for byte, and is timed beside a copy of it.
-fn row(name: &str, records: usize, payload: usize, made: &[u8], call: impl Fn(&mut [u8]) -> u8) {
+fn row(name: &str, records: usize, payload: usize, made: &[u8], call: impl Fn(&mut [u8]) -> Result<(), Refusal>) {
     let mut output = vec![0xAA; made.len()];
-    assert_eq!(call(&mut output), 0, "{name}");
+    assert_eq!(call(&mut output), Ok(()), "{name}");
     assert!(output == made, "{name}: another file");
     let (mut copied, mut called) = (f64::MAX, f64::MAX);
     for _ in 0..RUNS {
         copied = copied.min(timed(records, || output.copy_from_slice(black_box(made))));
-        called = called.min(timed(records, || assert_eq!(call(black_box(&mut output)), 0)));
+        called = called.min(timed(records, || assert_eq!(call(black_box(&mut output)), Ok(()))));
     }
     println!("| {name} | {records} | {payload} | {copied:.0} | {called:.0} | {:.2} |", called / copied);
 }

@@ -5,21 +5,8 @@
 //! `c` converts, `m` merges. An answer is the number (one byte), the length that the product measures (64 bits) and the whole output
 //! buffer, which every byte of was 0xAA before.
 
+use polvihe_hal::capture;
 use std::io::{self, BufReader, BufWriter, Read, Write};
-
-extern "C" {
-    fn polvihe_converted_length(input: *const u8, input_length: usize) -> usize;
-    fn polvihe_convert(input: *const u8, input_length: usize, output: *mut u8, output_length: usize) -> u8;
-    fn polvihe_merged_length(first: *const u8, first_length: usize, second: *const u8, second_length: usize) -> usize;
-    fn polvihe_merge(
-        first: *const u8,
-        first_length: usize,
-        second: *const u8,
-        second_length: usize,
-        output: *mut u8,
-        output_length: usize,
-    ) -> u8;
-}
 
 fn main() -> io::Result<()> {
     let mut calls = BufReader::with_capacity(1 << 20, io::stdin().lock());
@@ -33,29 +20,14 @@ fn main() -> io::Result<()> {
         let first = bytes(&mut calls, first_length)?;
         let second = bytes(&mut calls, second_length)?;
         let mut output = vec![0xAA; room];
-        // SAFETY: each pointer is that of a slice of the length beside it; the output is no part of the input.
-        let (number, measured) = unsafe {
-            match letter[0] {
-                b'c' => (
-                    polvihe_convert(first.as_ptr(), first.len(), output.as_mut_ptr(), output.len()),
-                    polvihe_converted_length(first.as_ptr(), first.len()),
-                ),
-                b'm' => (
-                    polvihe_merge(
-                        first.as_ptr(),
-                        first.len(),
-                        second.as_ptr(),
-                        second.len(),
-                        output.as_mut_ptr(),
-                        output.len(),
-                    ),
-                    polvihe_merged_length(first.as_ptr(), first.len(), second.as_ptr(), second.len()),
-                ),
-                letter => return Err(io::Error::other(format!("no call: {letter}"))),
-            }
+        let (answer, measured) = match letter[0] {
+            b'c' => (capture::convert(&first, &mut output), capture::converted_length(&first)),
+            b'm' => (capture::merge(&first, &second, &mut output), capture::merged_length(&first, &second)),
+            letter => return Err(io::Error::other(format!("no call: {letter}"))),
         };
+        let number = answer.err().map_or(0, |refusal| refusal.number() as u8);
         answers.write_all(&[number])?;
-        answers.write_all(&(measured as u64).to_le_bytes())?;
+        answers.write_all(&(measured.unwrap_or(0) as u64).to_le_bytes())?;
         answers.write_all(&output)?;
         if calls.buffer().is_empty() {
             answers.flush()?;
