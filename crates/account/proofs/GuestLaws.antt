@@ -101,11 +101,6 @@ pub bytes-none : (rs : List Record) → any isWrite rs ≡ false → bytes rs �
 bytes-none [] e = refl
 bytes-none (r ∷ rs) e = rw (or-false-left (isWrite r) (any isWrite rs) e) (bytes-none rs (or-false-right (isWrite r) (any isWrite rs) e))
 
-pub writeLengths-none : (rs : List Record) → any isWrite rs ≡ false → writeLengths rs ≡ 0
-writeLengths-none [] e = refl
-writeLengths-none (r ∷ rs) e =
-    rw (or-false-left (isWrite r) (any isWrite rs) e, writeLengths-none rs (or-false-right (isWrite r) (any isWrite rs) e))
-
 -- a log that is split at the record r
 module _ (test : Record → Bool) (r : Record) where
   pub any-at : (xs ys : List Record) → test r ≡ true → any test (xs ++ r ∷ ys) ≡ true

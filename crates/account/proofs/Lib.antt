@@ -2,6 +2,6 @@ pub mod GuestLaws
 pub mod StepLaws
 pub mod TdLog
 pub mod Accounted
-pub mod WriteLengths
+pub mod WrittenBytes
 pub mod StrictLaws
 pub mod ClaimLaws

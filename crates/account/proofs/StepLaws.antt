@@ -6,7 +6,7 @@ use mathlib.Core.Bool.{Bool, true, false, _||_, or-true, true≢false}
 use mathlib.Core.List.{List, [], _∷_, append-nil}
 use mathlib.Core.Logic.{_⊎_, inl, inr, ⊎-elim}
 use mathlib.Core.Option.{none}
-use native.Mathlib.Nat.{add-zero, min-eq-left, min-eq-right, le-of-lt}
+use native.Mathlib.Nat.{min-eq-left, min-eq-right, le-of-lt}
 use native.Mathlib.Omega.{arith}
 use borrow.Author.Tests.{eqb-true, ne-eqb}
 use lib.Dec.{eqb}
@@ -31,9 +31,9 @@ use Rattle.in_td.specs.declared.InMode.{InMode}
 use Rattle.in_td.specs.declared.InMode.the-variants.{AsPorted, Strict}
 use Rattle.in_td.specs.declared.InTd.{InTd}
 use Rattle.in_td.specs.declared.TdProcessed.{TdProcessed}
-use Rattle.account.specs.Guest.{normalOf, requested, range, isWrite, isUnsuccessful, any, numbered, bytes, writeLengths}
+use Rattle.account.specs.Guest.{normalOf, requested, range, isWrite, isUnsuccessful, any, numbered, bytes}
 use Rattle.account.specs.Strict.{failureCode, failureResult}
-use Rattle.account.proofs.GuestLaws.{bytes-none, writeLengths-none}
+use Rattle.account.proofs.GuestLaws.{bytes-none}
 
 -- a TRB is a Normal, or of another kind
 pub normal-or-other : (v : TransferTrbVariant) → ((m : NormalTrb) × (v ≡ Normal m)) ⊎ (normalOf v ≡ none)
@@ -236,9 +236,6 @@ module _ (td : InTd) (start : ℕ) (m : NormalTrb) (a : ℕ) where
   bytes-full =
       rw (bytes-none (when (m .«interrupt_on_completion») (fullEvent td a)) writeless-event)
       (append-nil (numbered start (range (m .«data_pointer») (m .«transfer_length»))))
-
-  pub writeLengths-full : writeLengths (fullRecords td start m a) ≡ m .«transfer_length»
-  writeLengths-full = rw (writeLengths-none (when (m .«interrupt_on_completion») (fullEvent td a)) writeless-event) (add-zero (m .«transfer_length»))
 
 -- the event of a short Normal with interrupt-on-short is due, and the guest relies on it
 pub shortDue-isp : (st : InTrbProcessingStatus) (m : NormalTrb) → m .«interrupt_on_short» ≡ true → shortDue st m ≡ true

@@ -1,5 +1,5 @@
 -- Carrying out the log of a call: its records are what is carried out. Assumes nothing.
-use Prim.Native.Nat.{ℕ, _*_, _/_, _%_, _≤_}
+use Prim.Native.Nat.{ℕ, _*_, _/_, _%_}
 use mathlib.Core.Bool.{true, cond, Bool, false}
 use mathlib.Core.Path.{_≡_, sym, ap, _∙_, refl}
 use mathlib.Core.List.{List, [], append-nil, _∷_}
@@ -23,10 +23,10 @@ use Rattle.log_check.specs.WellFormed.{kindsKnown, wellFormed}
 use Rattle.carry_out.specs.Writes.{recordsOf, writesInRange, written}
 use Rattle.carry_out.specs.CarryOut.{answerOf, memoryAfter}
 
--- the bytes that a call wrote, of a log that was long enough
-pub take-logged : (l : List ℕ) (rs : List Record) → recordLength * length rs ≤ length l → take (recordLength * length rs) (logged l 0 rs) ≡ encodeAll rs
+-- the bytes that a call wrote
+pub take-logged : (l : List ℕ) (rs : List Record) → take (recordLength * length rs) (logged l 0 rs) ≡ encodeAll rs
 unfolding logged patch
-take-logged l rs h = take-at (encodeAll rs) _ (recordLength * length rs) (length-encodeAll rs)
+take-logged l rs = take-at (encodeAll rs) _ (recordLength * length rs) (length-encodeAll rs)
 
 module _ (rs : List Record) (fits : AllFit rs) where
   count : length (encodeAll rs) / recordLength ≡ length rs

@@ -6,49 +6,34 @@ use mathlib.Core.List.{List}
 use native.Mathlib.Omega.{arith}
 use lib.Dec.{eqb}
 use lib.ListN.{length, take}
-use lib.Seq.{take-at}
-use Rattle.buffers.specs.Patch.{patch}
 use Rattle.trb.specs.Limits.{recordLength}
 use Rattle.trb.specs.Questions.{firstNo}
 use Rattle.trb.specs.declared.InTrbProcessingResult.{InTrbProcessingResult}
-use Rattle.log.specs.Logs.{encodeAll, logged, recordsIn}
-use Rattle.log.specs.declared.Record.{Record}
-use Rattle.log.proofs.LogLaws.{length-encodeAll, recordsIn-logged}
+use Rattle.log.specs.Logs.{encodeAll, recordsIn}
+use Rattle.log.proofs.LogLaws.{recordsIn-logged}
 use Rattle.carry_out.specs.Writes.{recordsOf}
-use Rattle.carry_out.proofs.CarryOutLaws.{recordsOf-encodeAll}
+use Rattle.carry_out.proofs.CarryOutLaws.{take-logged, recordsOf-encodeAll}
 use Rattle.account.specs.Guest.{Account}
 use Rattle.in_block.specs.Blocks.{heldOf}
 use Rattle.in_block.specs.Facts.{factsOf}
 use Rattle.in_block.specs.Outcomes.{endingOf}
-use Rattle.in_block.specs.declared.Ending.{Ending}
-use Rattle.in_block.specs.declared.Ending.the-variants.{KeepCollecting, Transfer, ReportUnsupported}
 use Rattle.in_block.specs.declared.InBlock.{InBlock}
 use Rattle.in_questions.specs.Questions.{completionQuestions}
-use Rattle.in_endpoint.specs.Completion.{refused, transferred, completedAs, completion, Accounted, Completes}
+use Rattle.in_endpoint.specs.Completion.{refused, completedAs, completion, Accounted, Completes}
 use Rattle.in_endpoint.specs.declared.Completed.{Completed}
+use Rattle.in_endpoint.proofs.CompletionLaws.{completedAs-counts}
 use Rattle.log_compact.specs.Compacting.{keptBytes}
 use Rattle.compact_account.proofs.AccountLaws.{account-kept}
 
 -- a completion counts its records
-count-as : (e : Ending) (b : InBlock) → completedAs e b .state .records ≡ length (completedAs e b .records)
-unfolding transferred
-count-as KeepCollecting b = refl
-count-as (Transfer st n) b = refl
-count-as (ReportUnsupported a) b = refl
-
 counted : (l : ℕ) (b : InBlock) (s : InTrbProcessingResult) (n : ℕ) → completion l b s n .state .records ≡ length (completion l b s n .records)
 unfolding completion
 counted l b s n = by-answer (eqb (firstNo (completionQuestions l (factsOf b) s n)) 0)
   where
     by-answer : (t : Bool) → cond t (completedAs (endingOf (b .state) s n) b) (refused b (firstNo (completionQuestions l (factsOf b) s n))) .state .records
         ≡ length (cond t (completedAs (endingOf (b .state) s n) b) (refused b (firstNo (completionQuestions l (factsOf b) s n))) .records)
-    by-answer true = count-as (endingOf (b .state) s n) b
+    by-answer true = completedAs-counts (endingOf (b .state) s n) b
     by-answer false = refl
-
--- the bytes of records that were written from the start of a log
-take-logged : (l : List ℕ) (rs : List Record) → take (recordLength * length rs) (logged l 0 rs) ≡ encodeAll rs
-unfolding logged patch
-take-logged l rs = take-at (encodeAll rs) _ (recordLength * length rs) (length-encodeAll rs)
 
 -- 02, R-9: the account rule's byte statement holds of compacted logs too
 pub accounted-kept : (b : InBlock) (s : InTrbProcessingResult) (n : ℕ) (l : List ℕ) (r : Completed) (l' : List ℕ) → Completes b s n l r l'

@@ -6,7 +6,7 @@ use mathlib.Core.Path.{_≡_, refl, sym, ap, _∙_, subst}
 use mathlib.Core.List.{List}
 use native.Mathlib.Omega.{arith}
 use lib.ListN.{length, take, length-take}
-use Rattle.trb.specs.Limits.{recordLength, maxHeld}
+use Rattle.trb.specs.Limits.{recordLength}
 use Rattle.trb.specs.Questions.{firstNo, agree}
 use Rattle.trb.specs.declared.InTrbProcessingResult.{InTrbProcessingResult}
 use Rattle.trb.specs.declared.InTrbProcessingResult.the-variants.{NoneGiven, Given}
@@ -16,35 +16,32 @@ use Rattle.trb.specs.declared.TdBasedNormalSubmissionState.the-variants.{Submis
 use Rattle.log.specs.Calls.{Out, Meets}
 use Rattle.log.specs.Logs.{encodeAll, recordsIn}
 use Rattle.log.specs.declared.Record.{Record}
-use Rattle.log.proofs.LogLaws.{length-logged, recordsIn-logged}
+use Rattle.log.proofs.LogLaws.{length-encodeAll, recordsIn-logged}
 use Rattle.log_check.specs.WellFormed.{kindKnown, kindsKnown}
 use Rattle.guest_memory.specs.declared.Regions.{Regions}
 use Rattle.guest_memory.specs.Regions.{shareAnAddress}
 use Rattle.guest_memory.specs.Places.{Memory, regionsOf}
 use Rattle.carry_out.specs.Writes.{writeInRange, movesBytes, writesInRange, written}
 use Rattle.account.specs.Guest.{Account}
-use Rattle.walks.proofs.WalkLaws.{length-walk}
-use Rattle.in_td.specs.Td.{normals, unprocessed, inTd}
-use Rattle.in_td.proofs.TdLaws.{tdWalker}
+use Rattle.in_td.specs.Td.{inTd}
 use Rattle.in_block.specs.Blocks.{heldOf}
 use Rattle.in_block.specs.Facts.{awaitsDevice, factsOf}
 use Rattle.in_block.specs.Outcomes.{endingOf}
 use Rattle.in_block.specs.declared.Ending.{Ending}
 use Rattle.in_block.specs.declared.Ending.the-variants.{KeepCollecting, Transfer, ReportUnsupported}
 use Rattle.in_block.specs.declared.InBlock.{InBlock}
-use Rattle.in_block.proofs.SoundLaws.{sound-held}
 use Rattle.in_questions.specs.Questions.{isGiven, completionQuestions}
 use Rattle.in_questions.proofs.PassedLaws.{passed-completion}
 use Rattle.in_endpoint.specs.Completion.{transferred, completedAs, completion, isAccepted, Completes}
 use Rattle.in_endpoint.specs.declared.Completed.{Completed}
-use Rattle.in_endpoint.proofs.CompletionLaws.{accepted-none}
+use Rattle.in_endpoint.proofs.CompletionLaws.{accepted-none, completedAs-counts}
 use Rattle.carry_out.proofs.CarryOutLaws.{take-logged}
-use Rattle.delivery.specs.Ranges.{InRegions, writesInside}
+use Rattle.delivery_laws.specs.Ranges.{InRegions, writesInside}
 use Rattle.delivery.specs.Completing.{completed, DeliveredWhole}
-use Rattle.delivery.proofs.RangeLaws.{writesInside-none, writesInRange-processTd}
-use Rattle.delivery.proofs.InsideLaws.{inRegions-writesInside}
-use Rattle.delivery.proofs.KindLaws.{kinds-processTd}
-use Rattle.delivery.proofs.DeliveryLaws.{delivered}
+use Rattle.delivery_laws.proofs.RangeLaws.{writesInside-none, writesInRange-processTd}
+use Rattle.delivery_laws.proofs.InsideLaws.{inRegions-writesInside}
+use Rattle.delivery_laws.proofs.KindLaws.{kinds-processTd}
+use Rattle.delivery_laws.proofs.DeliveryLaws.{delivered}
 
 -- ---- What a completion logs
 
@@ -55,13 +52,6 @@ module _ (b : InBlock) where
   kinds-ended KeepCollecting = refl
   kinds-ended (Transfer st k) = kinds-processTd (inTd (b .«endpoint_id») (b .«slot_id») (b .mode) st k) (heldOf b)
   kinds-ended (ReportUnsupported a) = refl
-
-  -- and counted
-  counts-ended : (x : Ending) → completedAs x b .state .records ≡ length (completedAs x b .records)
-  unfolding transferred
-  counts-ended KeepCollecting = refl
-  counts-ended (Transfer st k) = refl
-  counts-ended (ReportUnsupported a) = refl
 
   -- question 11, told by the TRBs held: of a TD the device's n bytes are written; no other completion writes any
   pub inside-ended : (n : ℕ) (regions : Regions) (x : TdBasedNormalSubmissionState) (r : InTrbProcessingResult) → agree (isGiven r) (awaitsDevice x) ≡ true
@@ -75,18 +65,6 @@ module _ (b : InBlock) where
   inside-ended n regions SubmissionDue r e = sym (writesInside-none regions (heldOf b))
   inside-ended n regions CollectingTd r e = sym (writesInside-none regions (heldOf b))
   inside-ended n regions (UnsupportedTrb a) r e = sym (writesInside-none regions (heldOf b))
-
-  -- there are at most two for each TRB held, and one for a TRB of an unsupported kind
-  few-ended : (x : Ending) → b .held ≤ maxHeld → length (completedAs x b .records) ≤ 2 * maxHeld
-  unfolding transferred
-  few-ended KeepCollecting few = omega arith
-  few-ended (Transfer st k) few =
-      omega (
-        arith,
-        length-walk (tdWalker (inTd (b .«endpoint_id») (b .«slot_id») (b .mode) st k)) (unprocessed (normals (heldOf b))) (heldOf b) (record { within = omega arith }),
-        length-take (b .held) (b .trbs),
-      )
-  few-ended (ReportUnsupported a) few = omega arith
 
 -- ---- An accepted completion
 
@@ -104,20 +82,15 @@ module _ (b : InBlock) (s : InTrbProcessingResult) (n : ℕ) (l : List ℕ) (r :
   done-meets = subst (λ (o : Out Completed). Meets o 0 l r l') done (h .met)
 
   done-count : r .records ≡ length records
-  done-count = ap (λ (c : Completed). c .records) (done-meets .state) ∙ counts-ended b (endingOf (b .state) s n)
-
-  -- the log is long enough for its records
-  done-room : recordLength * length records ≤ length l
-  done-room =
-      let known = passed-completion (length l) (factsOf b) s n none in
-      omega (arith, few-ended b (endingOf (b .state) s n) (sound-held (factsOf b) (known .sound)), known .log-long)
-
-  pub done-fits : recordLength * r .records ≤ length l'
-  done-fits = rw (done-count, done-meets .log, length-logged l 0 records (omega (arith, done-room))) done-room
+  done-count = ap (λ (c : Completed). c .records) (done-meets .state) ∙ completedAs-counts (endingOf (b .state) s n) b
 
   -- its bytes are those of its records
   pub done-bytes : take (recordLength * r .records) l' ≡ encodeAll records
-  done-bytes = rw (done-count, done-meets .log) (take-logged l records done-room)
+  done-bytes = rw (done-count, done-meets .log) (take-logged l records)
+
+  -- so the log is long enough for them
+  pub done-fits : recordLength * r .records ≤ length l'
+  done-fits = omega (arith, ap length done-bytes ∙ length-encodeAll records, length-take (recordLength * r .records) l', done-count)
 
   done-account : Account n (heldOf b) (recordsIn (r .records) l') → Account n (heldOf b) records
   done-account = subst (Account n (heldOf b)) (rw (done-count, done-meets .log) (recordsIn-logged l 0 records (omega arith) (done-meets .fits)))

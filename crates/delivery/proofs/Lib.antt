@@ -1,12 +1,4 @@
-pub mod LaidLaws
-pub mod ReadLaws
-pub mod RangeLaws
-pub mod InsideLaws
-pub mod KindLaws
-pub mod DeliveryLaws
 pub mod CompletionLaws
-pub mod HeldLaws
 pub mod TurnLaws
 pub mod QuestionLaws
 pub mod CallLaws
-pub mod ClaimLaws

@@ -22,7 +22,7 @@ use Rattle.in_block.specs.Facts.{submissionDue, awaitsDevice, soundBlock, facts
 use Rattle.in_block.specs.declared.InBlock.{InBlock}
 use Rattle.in_questions.specs.Questions.{isGiven, completionQuestions}
 use Rattle.in_questions.proofs.PassedLaws.{PassedCompletion, passed-completion}
-use Rattle.delivery.specs.Ranges.{writesInside}
+use Rattle.delivery_laws.specs.Ranges.{writesInside}
 use Rattle.delivery.specs.Completing.{completed, deliveryQuestions}
 use Rattle.delivery.proofs.CompletionLaws.{inside-ended}
 

@@ -15,7 +15,7 @@ use Rattle.guest_memory.specs.declared.Regions.{Regions}
 use Rattle.guest_memory.specs.Places.{rangeInside}
 use Rattle.held.specs.Places.{pastEnd}
 use Rattle.account.specs.Guest.{normalOf, lengthOf}
-use Rattle.delivery.specs.Ranges.{pointerOf, writeInside, writesInside}
+use Rattle.delivery_laws.specs.Ranges.{pointerOf, writeInside, writesInside}
 
 module _ (regions : Regions) where
   -- after i TRBs of ts, with so many bytes left of those given

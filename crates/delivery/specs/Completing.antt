@@ -25,7 +25,7 @@ use Rattle.in_block.specs.declared.InBlock.{InBlock}
 use Rattle.in_questions.specs.Questions.{isGiven}
 use Rattle.in_endpoint.specs.Completion.{refused, completedAs, isAccepted, Accounted}
 use Rattle.in_endpoint.specs.declared.Completed.{Completed}
-use Rattle.delivery.specs.Delivered.{Delivered}
+use Rattle.delivery_laws.specs.Delivered.{Delivered}
 
 -- what a completion does once its questions were answered with yes
 abbrev pub completed : InBlock → InTrbProcessingResult → ℕ → Out Completed

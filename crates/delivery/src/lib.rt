@@ -22,7 +22,7 @@ ghost use Rattle.guest_memory.specs.Places.{memoryOf};
 ghost use Rattle.carry_out.specs.CarryOut.{Carried};
 ghost use Rattle.account.specs.Guest.{normalOf, lengthOf};
 ghost use Rattle.in_block.specs.Facts.{heldTest, awaitsDevice};
-ghost use Rattle.delivery.specs.Ranges.{pointerOf, writesInside};
+ghost use Rattle.delivery_laws.specs.Ranges.{pointerOf, writesInside};
 ghost use Rattle.delivery.specs.Completing.{deliveryQuestions, Delivers};
 
 // ---- Question 11, of the TRBs held
@@ -164,7 +164,7 @@ fn ask(
 // ---- The call
 
 // Carries out the first records of a log.
-fn carry_out_first(
+pub fn carry_out_first(
     log: &[u8],
     records: usize,
     data: &[u8],

@@ -71,6 +71,13 @@ completedAs-number KeepCollecting b = refl
 completedAs-number (Transfer st n) b = refl
 completedAs-number (ReportUnsupported a) b = refl
 
+-- a completion counts its records
+pub completedAs-counts : (x : Ending) (b : InBlock) → completedAs x b .state .records ≡ length (completedAs x b .records)
+unfolding transferred
+completedAs-counts KeepCollecting b = refl
+completedAs-counts (Transfer st n) b = refl
+completedAs-counts (ReportUnsupported a) b = refl
+
 -- the number of a completion's answer is that of the first no
 module _ (l : ℕ) (b : InBlock) (r : InTrbProcessingResult) (n : ℕ) where
   abbrev number-by : (long sound due agreed short : Bool) → ℕ

@@ -11,6 +11,7 @@ use Rattle.trb.specs.Questions.{firstNo, askedIf, agree}
 use Rattle.trb.specs.Trbs.{transferLength, immediateOf}
 use Rattle.trb.specs.declared.InTrbProcessingResult.{InTrbProcessingResult}
 use Rattle.trb.specs.declared.TransferTrb.{TransferTrb}
+use Rattle.trb.specs.declared.TransferTrbVariant.{TransferTrbVariant}
 use Rattle.trb.proofs.QuestionLaws.{yes-first, yes-behind}
 use Rattle.held.specs.Sound.{supported}
 use Rattle.held.specs.declared.EndpointKind.the-variants.{In}
@@ -28,17 +29,26 @@ pub record PassedSubmission (l : ℕ) (f : BlockFacts) (t : TransferTrb) : Type 
   pub from-memory : supported In (t .variant) ≡ true → immediateOf (t .variant) ≡ false
   pub room : supported In (t .variant) ≡ true → f .held < maxHeld
 
-module _ (l : ℕ) (f : BlockFacts) (t : TransferTrb) (regions : Regions) where
-  -- the questions that are left, number by number
+-- the questions of a TRB behind h others that are left, number by number
+module _ (h : ℕ) (v : TransferTrbVariant) (regions : Regions) where
   abbrev from-window : List (Bool × ℕ)
-  from-window = (askedIf (supported In (t .variant)) (inGuestMemory (t .variant) regions), 6) ∷ []
+  from-window = (askedIf (supported In v) (inGuestMemory v regions), 6) ∷ []
 
   abbrev from-held : List (Bool × ℕ)
-  from-held = (askedIf (supported In (t .variant)) (leb (f .held + 1) maxHeld), 5) ∷ from-window
+  from-held = (askedIf (supported In v) (leb (h + 1) maxHeld), 5) ∷ from-window
 
   abbrev from-flag : List (Bool × ℕ)
-  from-flag = (askedIf (supported In (t .variant)) (not (immediateOf (t .variant))), 21) ∷ from-held
+  from-flag = (askedIf (supported In v) (not (immediateOf v)), 21) ∷ from-held
 
+  -- question 6
+  pub passed-window : firstNo (trbQuestions h v regions) ≡ 0 → supported In v ≡ true → inGuestMemory v regions ≡ true
+  passed-window none kind =
+      let flag = yes-behind (leb (transferLength v) maxTransferLength) 3 from-flag none in
+      let held = yes-behind (askedIf (supported In v) (not (immediateOf v))) 20 from-held flag in
+      let window = yes-behind (askedIf (supported In v) (leb (h + 1) maxHeld)) 4 from-window held in
+      rw kind at (yes-first (askedIf (supported In v) (inGuestMemory v regions)) 5 [] window)
+
+module _ (l : ℕ) (f : BlockFacts) (t : TransferTrb) (regions : Regions) (none : firstNo (submissionQuestions l f t regions) ≡ 0) where
   abbrev from-trb : List (Bool × ℕ)
   from-trb = trbQuestions (f .held) (t .variant) regions
 
@@ -51,22 +61,25 @@ module _ (l : ℕ) (f : BlockFacts) (t : TransferTrb) (regions : Regions) where
   abbrev from-regions : List (Bool × ℕ)
   from-regions = (not (shareAnAddress regions), 13) ∷ from-block
 
-  pub passed-submission : firstNo (submissionQuestions l f t regions) ≡ 0 → PassedSubmission l f t
+  block : firstNo from-block ≡ 0
   unfolding submissionQuestions
-  passed-submission none =
-      let apart = yes-behind (leb minLog l) 0 from-regions none in
-      let block = yes-behind (not (shareAnAddress regions)) 12 from-block apart in
-      let turn = yes-behind (soundBlock f) 1 from-turn block in
-      let trb = yes-behind (submissionDue (f .state)) 2 from-trb turn in
-      let flag = yes-behind (leb (transferLength (t .variant)) maxTransferLength) 3 from-flag trb in
-      let held = yes-behind (askedIf (supported In (t .variant)) (not (immediateOf (t .variant)))) 20 from-held flag in
+  block = yes-behind (not (shareAnAddress regions)) 12 from-block (yes-behind (leb minLog l) 0 from-regions none)
+
+  pub passed-trb : firstNo from-trb ≡ 0
+  passed-trb = yes-behind (submissionDue (f .state)) 2 from-trb (yes-behind (soundBlock f) 1 from-turn block)
+
+  pub passed-submission : PassedSubmission l f t
+  unfolding submissionQuestions
+  passed-submission =
+      let flag = yes-behind (leb (transferLength (t .variant)) maxTransferLength) 3 (from-flag (f .held) (t .variant) regions) passed-trb in
+      let held = yes-behind (askedIf (supported In (t .variant)) (not (immediateOf (t .variant)))) 20 (from-held (f .held) (t .variant) regions) flag in
       record {
         log-long = leb-true _ _ (yes-first (leb minLog l) 0 from-regions none);
         sound = yes-first (soundBlock f) 1 from-turn block;
-        short = leb-true _ _ (yes-first (leb (transferLength (t .variant)) maxTransferLength) 3 from-flag trb);
-        from-memory = λ kind. not-true _ (rw kind at (yes-first (askedIf (supported In (t .variant)) (not (immediateOf (t .variant)))) 20 from-held flag));
+        short = leb-true _ _ (yes-first (leb (transferLength (t .variant)) maxTransferLength) 3 (from-flag (f .held) (t .variant) regions) passed-trb);
+        from-memory = λ kind. not-true _ (rw kind at (yes-first (askedIf (supported In (t .variant)) (not (immediateOf (t .variant)))) 20 (from-held (f .held) (t .variant) regions) flag));
         room = λ kind.
-            let fits : leb (f .held + 1) maxHeld ≡ true = rw kind at (yes-first (askedIf (supported In (t .variant)) (leb (f .held + 1) maxHeld)) 4 from-window held) in
+            let fits : leb (f .held + 1) maxHeld ≡ true = rw kind at (yes-first (askedIf (supported In (t .variant)) (leb (f .held + 1) maxHeld)) 4 (from-window (f .held) (t .variant) regions) held) in
             omega (arith, leb-true (f .held + 1) maxHeld fits);
       }
 

@@ -1,4 +1,4 @@
-mod CallLaws
+pub mod CallLaws
 mod InLaws
 mod ControlLaws
 mod SumLaws

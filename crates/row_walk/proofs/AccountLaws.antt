@@ -22,6 +22,9 @@ use Rattle.in_td.specs.declared.InMode.{InMode}
 use Rattle.log.specs.declared.Record.{Record}
 use Rattle.account.specs.Guest.{requested, places, Account, isWrite, isEvent, isUnsuccessful, any, first, beforeFirst, beforeLast, relied, sumFor, residualIn, namesHeld, countBefore, before, later, numbered, range, standsFor, bytes}
 use Rattle.account.proofs.Accounted.{accounted}
+use Rattle.account.proofs.GuestLaws.{bytes-append, bytes-none}
+use Rattle.account.proofs.StepLaws.{any-when}
+use Rattle.account.proofs.WrittenBytes.{bytes-processTd}
 use Rattle.in_endpoint.specs.Submission.{requestOf}
 use Rattle.row_walk.specs.declared.RowProgress.{RowProgress}
 use Rattle.row_walk.specs.Rows.{RowTd, rowTds, hasNormal, movedBy, completed, ownLog, unstarted, tdInRow, failed, processRow}
@@ -83,6 +86,9 @@ module _ (by : ℕ) where
   numbered-further k [] = refl
   numbered-further k (a ∷ xs) = ap (λ (l : List (ℕ × ℕ)). (by + k, a) ∷ l) (ap (λ (n : ℕ). numbered n xs) (sym (add-suc by k)) ∙ numbered-further (suc k) xs)
 
+  numbered-from : (xs : List ℕ) → further (numbered 0 xs) ≡ numbered by xs
+  numbered-from xs = sym (numbered-further 0 xs) ∙ ap (λ (k : ℕ). numbered k xs) (add-zero by)
+
   further-append : (bs cs : List (ℕ × ℕ)) → further (bs ++ cs) ≡ further bs ++ further cs
   further-append [] cs = refl
   further-append (b ∷ bs) cs = ap (λ (l : List (ℕ × ℕ)). (by + b .0, b .1) ∷ l) (further-append bs cs)
@@ -121,7 +127,7 @@ module _ (by : ℕ) where
           covered = rw (this, residual-moved (relied rs), sum-moved (relied rs)) (c .covered);
           exact = rw (this, residual-moved (relied rs), sum-moved (relied rs)) (c .exact);
           hasEvent = any-moved isEvent (λ r. refl) rs ∙ c .hasEvent;
-          placed = rw (count-moved rs, take-moved (countBefore rs) rs, bytes-moved (before rs)) (ap further (c .placed) ∙ sym (numbered-further 0 (take (min n (requested ts)) (places ts))) ∙ ap (λ (k : ℕ). numbered k (take (min n (requested ts)) (places ts))) (add-zero by));
+          placed = rw (count-moved rs, take-moved (countBefore rs) rs, bytes-moved (before rs)) (ap further (c .placed) ∙ numbered-from (take (min n (requested ts)) (places ts)));
           noneLater = rw (count-moved rs, drop-moved (countBefore rs) rs, any-moved isWrite (λ r. refl) (later rs)) (c .noneLater);
         }
 
@@ -170,6 +176,18 @@ module _ (e : EndpointId) (s : SlotId) (mode : InMode) where
       (account-when (x .trbs) e s (map (movedBy (w .start)) (completed e s mode x .records)) (hasNormal (x .trbs)) (w .start) (x .given .length) (x .trbs)
       (account-moved (w .start) (x .trbs) (x .given .length) (completed e s mode x .records) (accounted e s mode (x .given .status) (x .given .length) (x .trbs) distinct isp last)))
 
+  -- its writes are the device's first min(n, S) bytes for it, each at its place, whatever its addresses and flags
+  pub bytes-own : (start : ℕ) (x : RowTd)
+      → bytes (map (movedBy start) (ownLog e s mode x)) ≡ numbered start (take (min (x .given .length) (requested (x .trbs))) (places (x .trbs)))
+  unfolding ownLog
+  bytes-own start x =
+      let request : List Record = when (hasNormal (x .trbs)) (requestOf (x .trbs) e s) in
+      let own : List ℕ = take (min (x .given .length) (requested (x .trbs))) (places (x .trbs)) in
+      let alone : bytes (ownLog e s mode x) ≡ numbered 0 own =
+      bytes-append request (completed e s mode x .records)
+      ∙ rw (bytes-none request (any-when isWrite (hasNormal (x .trbs)) (requestOf (x .trbs) e s) refl)) (bytes-processTd e s mode (x .given .status) (x .given .length) (x .trbs)) in
+      bytes-moved start (ownLog e s mode x) ∙ ap (further start) alone ∙ numbered-from start own
+
   -- the log of a TD, and of those behind it that are started
   logs-cons : (w : RowProgress) (x : RowTd) (xs : List RowTd) (b : Bool) → isError (completed e s mode x .state .result) ≡ b
       → (b ≡ false → walk (tdInRow e s mode) failed (tdInRow e s mode w x .state) xs .records ≡ joined (startedLogs e s mode (w .start + x .given .length) xs))
@@ -179,14 +197,14 @@ module _ (e : EndpointId) (s : SlotId) (mode : InMode) where
   logs-cons w x xs false h more = more refl
 
   -- 02, R-7: logs stand one behind the other
-  row-logs : (w : RowProgress) (xs : List RowTd) → failed w ≡ false → walk (tdInRow e s mode) failed w xs .records ≡ joined (startedLogs e s mode (w .start) xs)
+  pub row-logs : (w : RowProgress) (xs : List RowTd) → failed w ≡ false → walk (tdInRow e s mode) failed w xs .records ≡ joined (startedLogs e s mode (w .start) xs)
   unfolding startedLogs joined walk tdInRow
   row-logs w [] well = refl
   row-logs w (x ∷ xs) well =
       rw well (ap (λ (l : List Record). map (movedBy (w .start)) (ownLog e s mode x) ++ l)
       (logs-cons w x xs (isError (completed e s mode x .state .result)) refl (λ h. row-logs (tdInRow e s mode w x .state) xs h)))
 
-  each-accounted : (w : RowProgress) (xs : List RowTd) → EachAccounted (w .start) xs (startedLogs e s mode (w .start) xs)
+  pub each-accounted : (w : RowProgress) (xs : List RowTd) → EachAccounted (w .start) xs (startedLogs e s mode (w .start) xs)
   unfolding startedLogs EachAccounted tdInRow
   each-accounted w [] = tt
   each-accounted w (x ∷ xs) = (accounted-td w x, by-test (isError (completed e s mode x .state .result)) (each-accounted (tdInRow e s mode w x .state) xs))
@@ -213,13 +231,13 @@ module _ (e : EndpointId) (s : SlotId) (mode : InMode) where
   started-by w x xs true h more = rw (walk-stopped (tdInRow e s mode) failed (tdInRow e s mode w x .state) xs h, h) (omega arith)
   started-by w x xs false h more = let k : startedOf (walk (tdInRow e s mode) failed (tdInRow e s mode w x .state) xs .state) ≡ w .finished + 1 + length (startedLogs e s mode (w .start + x .given .length) xs) = more refl ∙ rw h in omega (arith, k)
 
-  row-started : (w : RowProgress) (xs : List RowTd) → failed w ≡ false → startedOf (walk (tdInRow e s mode) failed w xs .state) ≡ w .finished + length (startedLogs e s mode (w .start) xs)
+  pub row-started : (w : RowProgress) (xs : List RowTd) → failed w ≡ false → startedOf (walk (tdInRow e s mode) failed w xs .state) ≡ w .finished + length (startedLogs e s mode (w .start) xs)
   unfolding startedLogs walk tdInRow
   row-started w [] well = rw well (omega arith)
   row-started w (x ∷ xs) well = rw well (started-by w x xs (isError (completed e s mode x .state .result)) refl (λ h. row-started (tdInRow e s mode w x .state) xs h))
 
   -- a row counts its records
-  row-counts : (w : RowProgress) (xs : List RowTd) → walk (tdInRow e s mode) failed w xs .state .records ≡ w .records + length (walk (tdInRow e s mode) failed w xs .records)
+  pub row-counts : (w : RowProgress) (xs : List RowTd) → walk (tdInRow e s mode) failed w xs .state .records ≡ w .records + length (walk (tdInRow e s mode) failed w xs .records)
   unfolding walk
   row-counts w [] = omega arith
   row-counts w (x ∷ xs) = by-test (failed w) (row-counts (tdInRow e s mode w x .state) xs)

@@ -2,8 +2,8 @@
 -- memory and of device data alone give the same. A contract equates what a call gives with a definition, and these definitions take lengths and never
 -- bytes. Assumes nothing.
 use Prim.Native.Nat.{ℕ}
-use mathlib.Core.Path.{_≡_, refl, sym, _∙_, ap, subst}
-use mathlib.Core.List.{List, [], _∷_}
+use mathlib.Core.Path.{_≡_, refl, sym, _∙_, ap}
+use mathlib.Core.List.{List}
 use lib.ListN.{length}
 use Rattle.trb.specs.declared.Answer.{Answer}
 use Rattle.trb.specs.declared.Answer.the-variants.{Accepted, Refused}
@@ -17,9 +17,9 @@ use Rattle.log.specs.declared.Record.{Record}
 use Rattle.log_print.specs.declared.Printed.{Printed}
 use Rattle.log_print.specs.LogText.{Prints}
 use Rattle.guest_memory.specs.Places.{Memory, regionsOf}
-use Rattle.carry_out.specs.CarryOut.{Carried, answerOf, memoryAfter}
-use Rattle.carry_out.specs.Writes.{afterRecord, written, recordsOf}
-use Rattle.carry_out.proofs.WriteLaws.{regionsOf-afterRecord}
+use Rattle.carry_out.specs.CarryOut.{Carried, memoryAfter}
+use Rattle.carry_out.specs.Writes.{written, recordsOf}
+use Rattle.carry_out.proofs.WriteLaws.{regionsOf-written}
 use Rattle.log_compact.specs.declared.CompactAnswer.{CompactAnswer}
 use Rattle.log_compact.specs.Compacting.{Compacts}
 use Rattle.in_td.specs.declared.InMode.{InMode}
@@ -36,13 +36,14 @@ use Rattle.row_walk.specs.declared.TdResult.{TdResult}
 use Rattle.in_row.specs.declared.TdsCompleted.{TdsCompleted}
 use Rattle.in_row.specs.Completion.{rowCompletion as tdsCompletion, CompletesTds}
 use Rattle.delivery.specs.Completing.{delivery, Delivers}
+use Rattle.row_delivery.specs.Completing.{DeliversTds}
 use Rattle.control_block.specs.declared.ControlBlock.{ControlBlock}
 use Rattle.control_block.specs.declared.GuestRelease.{GuestRelease}
 use Rattle.control_endpoint.specs.declared.Created.{Created as ControlCreated}
 use Rattle.control_endpoint.specs.declared.Submitted.{Submitted as ControlSubmitted}
 use Rattle.control_endpoint.specs.declared.Completed.{Completed as ControlCompleted}
 use Rattle.control_endpoint.specs.Creation.{Creates as ControlCreates}
-use Rattle.control_endpoint.specs.Submission.{submission as controlSubmission, Submits as ControlSubmits}
+use Rattle.control_endpoint.specs.Submission.{Submits as ControlSubmits}
 use Rattle.control_endpoint.specs.Completion.{completion as controlCompletion, Completes as ControlCompletes}
 use Rattle.secrecy.specs.Alike.{SameWindows, SameLength, SameGiven}
 
@@ -90,10 +91,6 @@ same-control-completion {b} {s} bytes bytes' {l} n p q = same-met (ap (controlCo
 -- ---- Carry-out
 
 -- guest memory keeps its windows
-pub regionsOf-written : (bytes : List ℕ) (m : Memory) (rs : List Record) → regionsOf (written bytes m rs) ≡ regionsOf m
-regionsOf-written bytes m [] = refl
-regionsOf-written bytes m (r ∷ rs) = regionsOf-written bytes (afterRecord bytes m r) rs ∙ regionsOf-afterRecord bytes m r
-
 regionsOf-memoryAfter : (a : Answer) (l bytes : List ℕ) (m : Memory) → regionsOf (memoryAfter a l bytes m) ≡ regionsOf m
 regionsOf-memoryAfter Accepted l bytes m = regionsOf-written bytes m (recordsOf l)
 regionsOf-memoryAfter (Refused q) l bytes m = refl
@@ -115,11 +112,20 @@ pub same-delivery : {b : InBlock} {s : InTrbProcessingResult} {bytes bytes' : Li
 same-delivery {b} {s} {bytes} {bytes'} {m} {m'} {m₁} {m₂} {l} n w p q =
     same-met (ap (λ (x : ℕ). delivery (length l) b s x (regionsOf m)) n ∙ ap (delivery (length l) b s (length bytes')) w) (p .met) (q .met)
 
+-- what the writes of whichever records leave differs in bytes alone
+same-windows-written : (bytes bytes' : List ℕ) (m m' : Memory) (rs rs' : List Record) {m₁ m₂ : Memory} → SameWindows m m' → m₁ ≡ written bytes m rs → m₂ ≡ written bytes' m' rs' → SameWindows m₁ m₂
+same-windows-written bytes bytes' m m' rs rs' w p q = ap regionsOf p ∙ regionsOf-written bytes m rs ∙ w ∙ sym (ap regionsOf q ∙ regionsOf-written bytes' m' rs')
+
 pub same-windows-delivered : {b : InBlock} {s : InTrbProcessingResult} {bytes bytes' : List ℕ} {m m' m₁ m₂ : Memory} {l l₁ l₂ : List ℕ} {r₁ r₂ : InCompleted} → SameWindows m m'
     → Delivers b s bytes l m r₁ l₁ m₁ → Delivers b s bytes' l m' r₂ l₂ m₂ → SameWindows m₁ m₂
 same-windows-delivered {b} {s} {bytes} {bytes'} {m} {m'} {m₁} {m₂} {l} w p q =
-    ap regionsOf (p .memory) ∙ regionsOf-written bytes m (delivery (length l) b s (length bytes) (regionsOf m) .records) ∙ w
-    ∙ sym (ap regionsOf (q .memory) ∙ regionsOf-written bytes' m' (delivery (length l) b s (length bytes') (regionsOf m') .records))
+    same-windows-written bytes bytes' m m' (delivery (length l) b s (length bytes) (regionsOf m) .records) (delivery (length l) b s (length bytes') (regionsOf m') .records) w (p .memory) (q .memory)
+
+pub same-windows-tds : {b : InBlock} {k : ℕ} {ts : List TransferTrb} {j : ℕ} {ds : List TdResult} {bytes bytes' : List ℕ} {m m' m₁ m₂ : Memory} {l l₁ l₂ : List ℕ} {r₁ r₂ : TdsCompleted}
+    → SameWindows m m' → DeliversTds b k ts j ds bytes l m r₁ l₁ m₁ → DeliversTds b k ts j ds bytes' l m' r₂ l₂ m₂ → SameWindows m₁ m₂
+same-windows-tds {b} {k} {ts} {j} {ds} {bytes} {bytes'} {m} {m'} {m₁} {m₂} {l} w p q =
+    same-windows-written bytes bytes' m m' (tdsCompletion (length l) b k ts j ds (length bytes) (regionsOf m) .records)
+    (tdsCompletion (length l) b k ts j ds (length bytes') (regionsOf m') .records) w (p .memory) (q .memory)
 
 -- ---- Stored logs
 

@@ -2,7 +2,7 @@
 -- replies at every step, and leave equal blocks. Guest memory after carry-out differs and is fed on; its windows stay. Assumes nothing.
 use Prim.Native.Nat.{ℕ}
 use mathlib.Core.Path.{_≡_, refl, ap, sym, subst}
-use mathlib.Core.List.{List, [], _∷_}
+use mathlib.Core.List.{List}
 use lib.ListN.{length}
 use Rattle.guest_memory.specs.Places.{Memory, regionsOf}
 use Rattle.in_block.specs.declared.InBlock.{InBlock}
@@ -11,16 +11,17 @@ use Rattle.in_endpoint.specs.Submission.{Submits as InSubmits}
 use Rattle.in_endpoint.specs.Completion.{Completes as InCompletes}
 use Rattle.in_row.specs.Completion.{CompletesTds}
 use Rattle.delivery.specs.Completing.{Delivers}
+use Rattle.row_delivery.specs.Completing.{DeliversTds}
 use Rattle.control_block.specs.declared.ControlBlock.{ControlBlock}
 use Rattle.control_endpoint.specs.Submission.{Submits as ControlSubmits}
 use Rattle.control_endpoint.specs.Completion.{Completes as ControlCompletes}
 use Rattle.secrecy.specs.Alike.{SameWindows, SameGiven}
 use Rattle.secrecy.specs.Runs.{Call, Reply, World, worldOf, SameWorld, SameStep}
-use Rattle.secrecy.specs.Runs.{inCreated, inSubmitted, inCompleted, inCancelled, rowCompleted, tdsCompleted, delivered, controlCreated, controlSubmitted, controlCompleted, controlCancelled, carriedOut, compacted, printed, nothing}
-use Rattle.secrecy.specs.Runs.{Gives, creates-in, submits-in, completes-in, cancels-in, completes-row, completes-tds, delivers, creates-control, submits-control, completes-control, cancels-control, carries-out, compacts, prints, guest-writes}
-use Rattle.secrecy.specs.Runs.{SameCall, creating-in, submitting-in, completing-in, cancelling-in, completing-row, completing-tds, delivering, creating-control, submitting-control, completing-control, cancelling-control, carrying-out, compacting, printing, guest-writing}
+use Rattle.secrecy.specs.Runs.{inCreated, inSubmitted, inCompleted, inCancelled, rowCompleted, tdsCompleted, delivered, tdsDelivered, controlCreated, controlSubmitted, controlCompleted, controlCancelled, carriedOut, compacted, printed}
+use Rattle.secrecy.specs.Runs.{Gives, creates-in, submits-in, completes-in, cancels-in, completes-row, completes-tds, delivers, delivers-tds, creates-control, submits-control, completes-control, cancels-control, carries-out, compacts, prints, guest-writes}
+use Rattle.secrecy.specs.Runs.{SameCall, creating-in, submitting-in, completing-in, cancelling-in, completing-row, completing-tds, delivering, delivering-tds, creating-control, submitting-control, completing-control, cancelling-control, carrying-out, compacting, printing, guest-writing}
 use Rattle.secrecy.specs.Runs.{Run, done, next, SameCalls, none, more, SameRun}
-use Rattle.secrecy.proofs.EntryLaws.{same-in-creation, same-in-submission, same-in-completion, same-row, same-tds, same-control-creation, same-control-submission, same-control-completion, same-carry-out, same-windows-after, same-delivery, same-windows-delivered, same-compacted, same-printed}
+use Rattle.secrecy.proofs.EntryLaws.{same-in-creation, same-in-submission, same-in-completion, same-row, same-tds, same-control-creation, same-control-submission, same-control-completion, same-carry-out, same-windows-after, same-delivery, same-windows-delivered, same-windows-tds, same-compacted, same-printed}
 
 -- a reply is made of what is the same
 reply-of : {R : Type 0} (reply : R → List ℕ → Reply) {r r' : R} {l l' : List ℕ} → SameGiven r r' l l' → reply r l ≡ reply r' l'
@@ -51,6 +52,10 @@ same-step (delivering {l = l} {bytes' = bytes'} {s = s} n) h (delivers p) (deliv
     let alike = subst (λ b. Delivers b s bytes' l m' r₂ l₂ m₂) (sym (h .inBlock)) q in
     let g = same-delivery n (h .windows) p alike in
     record { reply = reply-of delivered g; world = worlds (ap (λ r. r .block) (g .returned)) (h .controlBlock) (same-windows-delivered (h .windows) p alike) }
+same-step (delivering-tds {l = l} {bytes = bytes} {bytes' = bytes'} {k = k} {ts = ts} {j = j} {ds = ds} n) h (delivers-tds {m = m} p) (delivers-tds {l' = l₂} {m = m'} {m' = m₂} {r = r₂} q) =
+    let alike = subst (λ b. DeliversTds b k ts j ds bytes' l m' r₂ l₂ m₂) (sym (h .inBlock)) q in
+    let g = same-tds bytes bytes' m m' n (h .windows) (p .completes) (alike .completes) in
+    record { reply = reply-of tdsDelivered g; world = worlds (ap (λ r. r .block) (g .returned)) (h .controlBlock) (same-windows-tds (h .windows) p alike) }
 same-step creating-control h (creates-control p) (creates-control q) =
     let e = same-control-creation p q in
     record { reply = ap controlCreated e; world = worlds (h .inBlock) (ap (λ r. r .block) e) (h .windows) }

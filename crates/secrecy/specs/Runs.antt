@@ -31,6 +31,7 @@ use Rattle.row_walk.specs.declared.TdResult.{TdResult}
 use Rattle.in_row.specs.declared.TdsCompleted.{TdsCompleted}
 use Rattle.in_row.specs.Completion.{CompletesTds}
 use Rattle.delivery.specs.Completing.{Delivers}
+use Rattle.row_delivery.specs.Completing.{DeliversTds}
 use Rattle.control_block.specs.declared.ControlBlock.{ControlBlock}
 use Rattle.control_block.specs.declared.GuestRelease.{GuestRelease}
 use Rattle.control_endpoint.specs.declared.Created.{Created as ControlCreated}
@@ -52,6 +53,7 @@ pub data Call : Type 0 where
   completeRow : (log : List ℕ) → EndpointId → SlotId → InMode → List TransferTrb → InTrbProcessingResult → (bytes : List ℕ) → Call
   completeTds : (log : List ℕ) → (count : ℕ) → List TransferTrb → (results : ℕ) → List TdResult → (bytes : List ℕ) → Call
   deliver : (log : List ℕ) → InTrbProcessingResult → (bytes : List ℕ) → Call
+  deliverTds : (log : List ℕ) → (count : ℕ) → List TransferTrb → (results : ℕ) → List TdResult → (bytes : List ℕ) → Call
   createControl : EndpointId → SlotId → GuestRelease → Call
   submitControl : (log collect : List ℕ) → TransferTrb → Call
   completeControl : (log : List ℕ) → ControlRequestProcessingResult → (bytes : List ℕ) → Call
@@ -71,6 +73,7 @@ pub data Reply : Type 0 where
   rowCompleted : RowCompleted → (log : List ℕ) → Reply
   tdsCompleted : TdsCompleted → (log : List ℕ) → Reply
   delivered : InCompleted → (log : List ℕ) → Reply
+  tdsDelivered : TdsCompleted → (log : List ℕ) → Reply
   controlCreated : ControlCreated → Reply
   controlSubmitted : ControlSubmitted → (log : List ℕ) → Reply
   controlCompleted : ControlCompleted → (log : List ℕ) → Reply
@@ -106,6 +109,8 @@ pub data Gives : Call → World → Reply → World → Type 0 where
       → CompletesTds i k ts j ds (length bytes) (regionsOf m) l r l' → Gives (completeTds l k ts j ds bytes) (worldOf i c m) (tdsCompleted r l') (worldOf (r .block) c m)
   delivers : {l l' bytes : List ℕ} {s : InTrbProcessingResult} {i : InBlock} {c : ControlBlock} {m m' : Memory} {r : InCompleted}
       → Delivers i s bytes l m r l' m' → Gives (deliver l s bytes) (worldOf i c m) (delivered r l') (worldOf (r .block) c m')
+  delivers-tds : {l l' bytes : List ℕ} {k : ℕ} {ts : List TransferTrb} {j : ℕ} {ds : List TdResult} {i : InBlock} {c : ControlBlock} {m m' : Memory} {r : TdsCompleted}
+      → DeliversTds i k ts j ds bytes l m r l' m' → Gives (deliverTds l k ts j ds bytes) (worldOf i c m) (tdsDelivered r l') (worldOf (r .block) c m')
   creates-control : {e : EndpointId} {s : SlotId} {release : GuestRelease} {i : InBlock} {c : ControlBlock} {m : Memory} {r : ControlCreated}
       → ControlCreates e s release r → Gives (createControl e s release) (worldOf i c m) (controlCreated r) (worldOf i (r .block) m)
   submits-control : {l l' k k' : List ℕ} {t : TransferTrb} {i : InBlock} {c : ControlBlock} {m : Memory} {r : ControlSubmitted}
@@ -130,6 +135,8 @@ pub data SameCall : Call → Call → Type 0 where
   completing-tds : {l bytes bytes' : List ℕ} {k : ℕ} {ts : List TransferTrb} {j : ℕ} {ds : List TdResult} → SameLength bytes bytes'
       → SameCall (completeTds l k ts j ds bytes) (completeTds l k ts j ds bytes')
   delivering : {l bytes bytes' : List ℕ} {s : InTrbProcessingResult} → SameLength bytes bytes' → SameCall (deliver l s bytes) (deliver l s bytes')
+  delivering-tds : {l bytes bytes' : List ℕ} {k : ℕ} {ts : List TransferTrb} {j : ℕ} {ds : List TdResult} → SameLength bytes bytes'
+      → SameCall (deliverTds l k ts j ds bytes) (deliverTds l k ts j ds bytes')
   creating-control : {e : EndpointId} {s : SlotId} {release : GuestRelease} → SameCall (createControl e s release) (createControl e s release)
   submitting-control : {l k k' : List ℕ} {t : TransferTrb} → SameLength k k' → SameCall (submitControl l k t) (submitControl l k' t)
   completing-control : {l bytes bytes' : List ℕ} {s : ControlRequestProcessingResult} → SameLength bytes bytes' → SameCall (completeControl l s bytes) (completeControl l s bytes')

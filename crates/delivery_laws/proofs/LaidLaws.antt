@@ -23,7 +23,7 @@ use Rattle.account.specs.Guest.{range, numbered, standsFor, isWrite}
 use Rattle.account.specs.Guest as guest
 use Rattle.carry_out.specs.Writes.{movesBytes, writeInRange, writesInRange, moved, laidAt, afterRecord, written}
 use Rattle.carry_out.proofs.WriteLaws.{writesInRange-cons, regionsOf-afterRecord}
-use Rattle.delivery.specs.Laid.{laidByte, laid}
+use Rattle.delivery_laws.specs.Laid.{laidByte, laid}
 
 -- ---- One region
 
@@ -95,7 +95,7 @@ module _ (bytes : List ℕ) (m : Memory) where
 
 -- ---- The heart
 
-laid-append : (bytes : List ℕ) (m : Memory) (ps qs : List (ℕ × ℕ)) → laid bytes m (ps ++ qs) ≡ laid bytes (laid bytes m ps) qs
+pub laid-append : (bytes : List ℕ) (m : Memory) (ps qs : List (ℕ × ℕ)) → laid bytes m (ps ++ qs) ≡ laid bytes (laid bytes m ps) qs
 laid-append bytes m [] qs = refl
 laid-append bytes m (p ∷ ps) qs = laid-append bytes (laidByte bytes m p) ps qs
 

@@ -29,12 +29,12 @@ use Rattle.in_td.specs.declared.InTd.{InTd}
 use Rattle.account.specs.Guest.{normalOf, normalLength, isWrite, any}
 use Rattle.account.proofs.StepLaws.{normal-or-other, normalCount-other, Fails, fails-last, any-when, leftFrom, fullEvent, fullRecords, failedEvent, shortDue, shortWrite, shortEvent}
 use Rattle.account.proofs.TdLog.{logFrom, log-none, OtherLog, other-log, full-log, failed-log, ShortLog, short-log}
-use Rattle.delivery.specs.Ranges.{writeInside, writesInside}
+use Rattle.delivery_laws.specs.Ranges.{writeInside, writesInside}
 
 -- ---- Writes in range
 
 module _ (n : ℕ) (regions : Regions) where
-  writesInRange-append : (xs ys : List Record) → writesInRange n regions (xs ++ ys) ≡ (writesInRange n regions xs && writesInRange n regions ys)
+  pub writesInRange-append : (xs ys : List Record) → writesInRange n regions (xs ++ ys) ≡ (writesInRange n regions xs && writesInRange n regions ys)
   writesInRange-append [] ys = refl
   writesInRange-append (x ∷ xs) ys =
       rw (writesInRange-append xs ys) (sym (and-assoc (writeInRange n regions x) (writesInRange n regions xs) (writesInRange n regions ys)))

@@ -27,8 +27,8 @@ use Rattle.in_td.specs.Td.{handleNormal, processTrb, processTd, inTd}
 use Rattle.in_td.specs.declared.InMode.{InMode}
 use Rattle.in_td.specs.declared.InMode.the-variants.{AsPorted, Strict}
 use Rattle.account.specs.Guest.{range, numbered}
-use Rattle.delivery.specs.Laid.{laidByte, laid}
-use Rattle.delivery.specs.Delivered.{firstPlaces, upToEvent}
+use Rattle.delivery_laws.specs.Laid.{laidByte, laid}
+use Rattle.delivery_laws.specs.Delivered.{firstPlaces, upToEvent}
 
 -- ---- The test
 

@@ -1,18 +1,13 @@
 -- Every TD that came in by submissions has each Normal's range in one of the regions: question 6 lets no other in, and every other change of the places drops
 -- the TRBs held or keeps them. Assumes nothing.
-use Prim.Native.Nat.{ℕ, zero, suc, _+_, _*_}
+use Prim.Native.Nat.{ℕ, _*_}
 use mathlib.Core.Path.{_≡_, refl, _∙_}
-use mathlib.Core.Bool.{Bool, true, false, not, cond}
+use mathlib.Core.Bool.{Bool, true, false, cond}
 use mathlib.Core.List.{List, [], _∷_}
-use native.Mathlib.Numerals.{add-one}
-use native.Mathlib.Omega.{arith}
-use lib.Dec.{eqb, leb}
-use lib.ListN.{length, take, set}
-use borrow.Author.Tests.{ne-eqb}
+use lib.ListN.{length, take}
 use Rattle.trb.specs.Answers.{refusalOf}
-use Rattle.trb.specs.Limits.{recordLength, maxHeld, maxTransferLength, minLog}
-use Rattle.trb.specs.Questions.{firstNo, afterQuestions, askedIf, agree}
-use Rattle.trb.specs.Trbs.{transferLength, immediateOf}
+use Rattle.trb.specs.Limits.{recordLength}
+use Rattle.trb.specs.Questions.{afterQuestions, agree}
 use Rattle.trb.specs.declared.Answer.the-variants.{Accepted, Refused}
 use Rattle.trb.specs.declared.EndpointId.{EndpointId}
 use Rattle.trb.specs.declared.InTrbProcessingResult.{InTrbProcessingResult}
@@ -20,28 +15,24 @@ use Rattle.trb.specs.declared.SlotId.{SlotId}
 use Rattle.trb.specs.declared.TdBasedNormalSubmissionState.{TdBasedNormalSubmissionState}
 use Rattle.trb.specs.declared.TdBasedNormalSubmissionState.the-variants.{SubmissionDue}
 use Rattle.trb.specs.declared.TransferTrb.{TransferTrb}
-use Rattle.trb.proofs.QuestionLaws.{yes-first, yes-behind}
-use Rattle.trb.proofs.TestLaws.{and-left, and-right}
 use Rattle.log.specs.Calls.{Out}
 use Rattle.walks.specs.All.{all}
-use Rattle.held.specs.Sound.{supported}
-use Rattle.held.specs.declared.EndpointKind.the-variants.{In}
 use Rattle.guest_memory.specs.declared.Regions.{Regions}
 use Rattle.guest_memory.specs.Regions.{shareAnAddress}
 use Rattle.guest_memory.specs.Places.{Memory, regionsOf}
 use Rattle.carry_out.specs.Writes.{writesInRange, written}
 use Rattle.in_td.specs.declared.InMode.{InMode}
 use Rattle.in_block.specs.Blocks.{freshBlock, heldOf, stored, emptied}
-use Rattle.in_block.specs.Facts.{submissionDue, awaitsDevice, heldTest, soundBlock, factsOf}
+use Rattle.in_block.specs.Facts.{awaitsDevice, heldTest, factsOf}
 use Rattle.in_block.specs.Outcomes.{outcomeOf, stateAfter, endingOf}
-use Rattle.in_block.specs.declared.BlockFacts.{BlockFacts}
 use Rattle.in_block.specs.declared.Ending.{Ending}
 use Rattle.in_block.specs.declared.Ending.the-variants.{KeepCollecting, Transfer, ReportUnsupported}
 use Rattle.in_block.specs.declared.InBlock.{InBlock}
 use Rattle.in_block.specs.declared.Outcome.{Outcome}
 use Rattle.in_block.specs.declared.Outcome.the-variants.{Drop, Collect, CompleteLocally, Request}
 use Rattle.in_request.specs.Requests.{inGuestMemory}
-use Rattle.in_questions.specs.Questions.{trbQuestions, submissionQuestions, isGiven, completionQuestions}
+use Rattle.in_questions.specs.Questions.{submissionQuestions, isGiven, completionQuestions}
+use Rattle.in_questions.proofs.PassedLaws.{passed-window, passed-trb}
 use Rattle.in_endpoint.specs.Completion as completing
 use Rattle.in_endpoint.specs.Creation.{creationQuestions, creation}
 use Rattle.in_endpoint.specs.Submission as submitting
@@ -49,29 +40,12 @@ use Rattle.in_endpoint.specs.declared.Completed.{Completed}
 use Rattle.in_endpoint.specs.declared.Created.{Created}
 use Rattle.in_endpoint.specs.declared.Submitted.{Submitted}
 use Rattle.in_endpoint.proofs.SubmissionLaws.{holds, supported-held}
-use Rattle.delivery.specs.Ranges.{InRegions}
+use Rattle.made_blocks.proofs.CallLaws.{by-questions, all-stored}
+use Rattle.delivery_laws.specs.Ranges.{InRegions}
 use Rattle.delivery.specs.Completing.{completed, deliveryQuestions, delivery, DeliveredWhole}
-use Rattle.delivery.specs.Calls.{InCall, submit, complete, deliver, cancel, after, afterAll, made}
-use Rattle.delivery.proofs.InsideLaws.{inRegions-writesInside}
+use Rattle.made_delivery.specs.Calls.{InCall, submit, complete, deliver, cancel, after, afterAll, made}
+use Rattle.delivery_laws.proofs.InsideLaws.{inRegions-writesInside}
 use Rattle.delivery.proofs.CompletionLaws.{inside-ended, no-torn-frame}
-
--- what holds after every no, and where every answer is yes, holds of the call
-by-questions : {A : Type 0} (P : A → Type 0) (qs : List (Bool × ℕ)) (refused : ℕ → A) (accepted : A)
-    → ((n : ℕ) → P (refused n)) → (firstNo qs ≡ 0 → P accepted) → P (afterQuestions qs refused accepted)
-by-questions P qs refused accepted after-no after-yes = by (firstNo qs) refl
-  where
-    by : (n : ℕ) → firstNo qs ≡ n → P (cond (eqb n 0) accepted (refused n))
-    by zero none = after-yes none
-    by (suc n) first = rw (ne-eqb (suc n) 0 (λ z. omega arith)) (after-no (suc n))
-
--- the places xs, of which the first n are held, with one TRB more
-all-set : (ok : TransferTrb → Bool) (xs : List TransferTrb) (n : ℕ) (t : TransferTrb) → all ok (take n xs) ≡ true → ok t ≡ true
-    → all ok (take (suc n) (set xs n t)) ≡ true
-unfolding all
-all-set ok [] n t h own = refl
-all-set ok (x ∷ xs) zero t h own = rw own
-all-set ok (x ∷ xs) (suc n) t h own =
-    rw (and-left (ok x) (all ok (take n xs)) h) (all-set ok xs n t (and-right (ok x) (all ok (take n xs)) h) own)
 
 module _ (regions : Regions) where
   -- what every call keeps
@@ -83,7 +57,7 @@ module _ (regions : Regions) where
   kept-emptied b state = refl
 
   kept-stored : (b : InBlock) (t : TransferTrb) → Kept b → inGuestMemory (t .variant) regions ≡ true → Kept (stored b t)
-  kept-stored b t k inside = rw add-one (all-set (λ (u : TransferTrb). inGuestMemory (u .variant) regions) (b .trbs) (b .held) t k inside)
+  kept-stored b t k inside = all-stored (λ (u : TransferTrb). inGuestMemory (u .variant) regions) (b .trbs) (b .held) t k inside
 
   kept-fresh : (e : EndpointId) (s : SlotId) (mode : InMode) → Kept (freshBlock e s mode)
   unfolding all
@@ -95,37 +69,6 @@ module _ (regions : Regions) where
       by-questions (λ (r : Created). Kept (r .block)) (creationQuestions e s)
       (λ n. record { answer = Refused (refusalOf n); block = freshBlock (record { 0 = 0 }) (record { 0 = 0 }) mode }) (record { answer = Accepted; block = freshBlock e s mode })
       (λ n. kept-fresh (record { 0 = 0 }) (record { 0 = 0 }) mode) (λ none. kept-fresh e s mode)
-
-  -- ---- Question 6
-
-  module _ (l : ℕ) (f : BlockFacts) (t : TransferTrb) where
-    -- the questions that are left, number by number
-    abbrev from-window : List (Bool × ℕ)
-    from-window = (askedIf (supported In (t .variant)) (inGuestMemory (t .variant) regions), 6) ∷ []
-
-    abbrev from-held : List (Bool × ℕ)
-    from-held = (askedIf (supported In (t .variant)) (leb (f .held + 1) maxHeld), 5) ∷ from-window
-
-    abbrev from-flag : List (Bool × ℕ)
-    from-flag = (askedIf (supported In (t .variant)) (not (immediateOf (t .variant))), 21) ∷ from-held
-
-    abbrev from-turn : List (Bool × ℕ)
-    from-turn = (submissionDue (f .state), 3) ∷ trbQuestions (f .held) (t .variant) regions
-
-    abbrev from-regions : List (Bool × ℕ)
-    from-regions = (not (shareAnAddress regions), 13) ∷ (soundBlock f, 2) ∷ from-turn
-
-    passed-window : firstNo (submissionQuestions l f t regions) ≡ 0 → supported In (t .variant) ≡ true → inGuestMemory (t .variant) regions ≡ true
-    unfolding submissionQuestions
-    passed-window none kind =
-        let apart = yes-behind (leb minLog l) 0 from-regions none in
-        let block = yes-behind (not (shareAnAddress regions)) 12 ((soundBlock f, 2) ∷ from-turn) apart in
-        let turn = yes-behind (soundBlock f) 1 from-turn block in
-        let trb = yes-behind (submissionDue (f .state)) 2 (trbQuestions (f .held) (t .variant) regions) turn in
-        let flag = yes-behind (leb (transferLength (t .variant)) maxTransferLength) 3 from-flag trb in
-        let held = yes-behind (askedIf (supported In (t .variant)) (not (immediateOf (t .variant)))) 20 from-held flag in
-        let window = yes-behind (askedIf (supported In (t .variant)) (leb (f .held + 1) maxHeld)) 4 from-window held in
-        rw kind at (yes-first (askedIf (supported In (t .variant)) (inGuestMemory (t .variant) regions)) 5 [] window)
 
   -- ---- Each call
 
@@ -142,7 +85,7 @@ module _ (regions : Regions) where
         let o : Outcome = outcomeOf (heldTest (heldOf b)) t in
         by-questions (λ (r : Out Submitted). Kept (r .state .block)) (submissionQuestions l (factsOf b) t regions) (submitting.refused b) (submitting.submittedAs o b t)
         (λ n. k)
-        (λ none. kept-submitted o t (λ h. passed-window l (factsOf b) t none (supported-held (heldTest (heldOf b)) t o refl h)))
+        (λ none. kept-submitted o t (λ h. passed-window (b .held) (t .variant) regions (passed-trb l (factsOf b) t regions none) (supported-held (heldTest (heldOf b)) t o refl h)))
 
     kept-ended : (x : Ending) → Kept (completing.completedAs x b .state .block)
     unfolding completing.transferred

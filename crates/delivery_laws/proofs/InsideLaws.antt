@@ -23,8 +23,8 @@ use Rattle.carry_out.proofs.WriteLaws.{writesInRange-cons}
 use Rattle.account.specs.Guest.{normalOf, normalLength, range, numbered, standsFor, isWrite}
 use Rattle.account.specs.Guest as guest
 use Rattle.in_request.specs.Requests.{inGuestMemory}
-use Rattle.delivery.specs.Laid.{allInside}
-use Rattle.delivery.specs.Ranges.{InRegions, writeInside, writesInside}
+use Rattle.delivery_laws.specs.Laid.{allInside}
+use Rattle.delivery_laws.specs.Ranges.{InRegions, writeInside, writesInside}
 
 -- ---- A part of a range
 

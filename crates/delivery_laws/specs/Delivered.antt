@@ -12,7 +12,7 @@ use Rattle.guest_memory.specs.Places.{Memory, regionsOf}
 use Rattle.carry_out.specs.Writes.{recordsOf}
 use Rattle.carry_out.specs.CarryOut.{Carried}
 use Rattle.account.specs.Guest.{requested, places, countBefore, numbered}
-use Rattle.delivery.specs.Laid.{laid, byteAt, isAmong, NoneTwice}
+use Rattle.delivery_laws.specs.Laid.{laid, byteAt, isAmong, NoneTwice}
 
 -- the places of the device's first min(n, S) bytes
 abbrev pub firstPlaces : ℕ → List TransferTrb → List ℕ

@@ -1,12 +1,12 @@
 -- No torn frame. The account says which bytes the writes before the event stand for, and that none comes later; the heart says that the writes, carried out,
 -- lay these bytes. So guest memory at the event is the frame, and stays so to the end of the log. Assumes nothing.
-use Prim.Native.Nat.{ℕ, zero, suc, _+_, _*_, min}
+use Prim.Native.Nat.{ℕ, zero, suc, _+_, _*_, _<_, min}
 use mathlib.Core.Bool.{true, false}
 use mathlib.Core.Path.{_≡_, refl, sym, ap, _∙_, subst}
 use mathlib.Core.List.{List, [], _∷_, _++_}
 use native.Mathlib.Nat.{zero-add}
 use native.Mathlib.Omega.{arith}
-use lib.ListN.{length, take, take-append-drop}
+use lib.ListN.{length, take, getD, take-append-drop}
 use lib.Seq.{getD-take, length-take-le, take-all, take-append-add}
 use Rattle.trb.specs.Limits.{recordLength}
 use Rattle.trb.specs.Questions.{firstNo}
@@ -20,17 +20,17 @@ use Rattle.log.specs.declared.Record.{Record}
 use Rattle.log_check.specs.WellFormed.{kindKnown, kindsKnown}
 use Rattle.guest_memory.specs.Regions.{shareAnAddress}
 use Rattle.guest_memory.specs.Places.{Memory, regionsOf}
-use Rattle.carry_out.specs.Writes.{movesBytes, writeInRange, writesInRange, afterRecord, written}
+use Rattle.carry_out.specs.Writes.{movesBytes, writesInRange, afterRecord, written}
 use Rattle.carry_out.specs.CarryOut.{Carried}
-use Rattle.carry_out.proofs.WriteLaws.{regionsOf-written, written-append}
+use Rattle.carry_out.proofs.WriteLaws.{writesInRange-cons, regionsOf-written, written-append}
 use Rattle.carry_out.proofs.CarryOutLaws.{wellFormed-encodeAll, recordsOf-encodeAll, answerOf-encodeAll, memoryAfter-encodeAll}
 use Rattle.account.specs.Guest.{requested, places, isWrite, any, countBefore, before, later, numbered, Account}
 use Rattle.account.proofs.GuestLaws.{length-places}
-use Rattle.delivery.specs.Laid.{laid, allInside}
-use Rattle.delivery.specs.Delivered.{firstPlaces, Delivered}
-use Rattle.delivery.proofs.LaidLaws.{written-laid}
-use Rattle.delivery.proofs.ReadLaws.{byteAt-unnamed, byteAt-named}
-use Rattle.delivery.proofs.InsideLaws.{allInside-bytes}
+use Rattle.delivery_laws.specs.Laid.{laid, byteAt, allInside, NoneTwice}
+use Rattle.delivery_laws.specs.Delivered.{firstPlaces, Delivered}
+use Rattle.delivery_laws.proofs.LaidLaws.{written-laid}
+use Rattle.delivery_laws.proofs.ReadLaws.{byteAt-unnamed, byteAt-named}
+use Rattle.delivery_laws.proofs.InsideLaws.{allInside-bytes}
 
 -- ---- The log up to a record
 
@@ -66,9 +66,9 @@ module _ (bytes : List ℕ) where
       rw (afterRecord-other m r (or-false-left (isWrite r) (any isWrite rs) e)) (written-none m rs (or-false-right (isWrite r) (any isWrite rs) e))
 
   -- guest memory at the event is guest memory after the whole log, whether the regions share an address or not
-  pub written-before : (m : Memory) (n : ℕ) (ts : List TransferTrb) (rs : List Record) → Account n ts rs → written bytes m (before rs) ≡ written bytes m rs
-  written-before m n ts rs h =
-      sym (written-none (written bytes m (before rs)) (later rs) (h .noneLater))
+  pub written-before : (m : Memory) (rs : List Record) → any isWrite (later rs) ≡ false → written bytes m (before rs) ≡ written bytes m rs
+  written-before m rs none =
+      sym (written-none (written bytes m (before rs)) (later rs) none)
       ∙ sym (written-append bytes m (before rs) (later rs))
       ∙ ap (written bytes m) (take-append-drop (countBefore rs) rs)
 
@@ -83,6 +83,29 @@ module _ (bytes : List ℕ) where
     after = sym (memoryAfter-encodeAll rs fits bytes m);
   }
 
+  -- a log whose writes lie in range, up to any record
+  module _ (m : Memory) (apart : shareAnAddress (regionsOf m) ≡ false) where
+    inside-take : (k : ℕ) (rs : List Record) → writesInRange (length bytes) (regionsOf m) rs ≡ true → writesInRange (length bytes) (regionsOf m) (take k rs) ≡ true
+    inside-take zero rs e = refl
+    inside-take (suc k) [] e = refl
+    inside-take (suc k) (r ∷ rs) e =
+        let both = writesInRange-cons (length bytes) (regionsOf m) r rs e in
+        rw (both .0) (inside-take k rs (both .1))
+
+    pub carried-first : (k : ℕ) (rs : List Record) → AllFit rs → kindsKnown rs ≡ true → writesInRange (length bytes) (regionsOf m) rs ≡ true
+        → Carried (take (recordLength * k) (encodeAll rs)) bytes m Accepted (written bytes m (take k rs))
+    carried-first k rs fits known inside =
+        rw (take-encodeAll k rs) (carried-encodeAll m (take k rs) (fit-take k rs fits) (kinds-take k rs known) apart (inside-take k rs inside))
+
+  -- ---- What the guest reads of a frame
+
+  -- of the bytes from number `start` on, laid at the first min(n, S) places: where no address is named twice, byte i is at place i
+  pub frame-each : (m : Memory) (start n : ℕ) (ts : List TransferTrb) → allInside (regionsOf m) (numbered start (firstPlaces n ts)) ≡ true → NoneTwice (firstPlaces n ts)
+      → (i : ℕ) → i < min n (requested ts) → byteAt (laid bytes m (numbered start (firstPlaces n ts))) (getD (places ts) i 0) ≡ getD bytes (start + i) 0 ∷ []
+  frame-each m start n ts inside once i less =
+      let count : length (firstPlaces n ts) ≡ min n (requested ts) = length-take-le (min n (requested ts)) (places ts) (omega (arith, length-places ts)) in
+      rw (← getD-take (min n (requested ts)) (places ts) i 0 less) (byteAt-named bytes m start (firstPlaces n ts) once inside i (omega arith))
+
   -- ---- The theorem
 
   module _ (m : Memory) (ts : List TransferTrb) (rs : List Record) (h : Account (length bytes) ts rs) (apart : shareAnAddress (regionsOf m) ≡ false)
@@ -91,33 +114,22 @@ module _ (bytes : List ℕ) where
     frameBytes = numbered 0 (firstPlaces (length bytes) ts)
 
     inside-before : writesInRange (length bytes) (regionsOf m) (before rs) ≡ true
-    inside-before = in-take (countBefore rs) rs inside
-      where
-        in-take : (k : ℕ) (ss : List Record) → writesInRange (length bytes) (regionsOf m) ss ≡ true → writesInRange (length bytes) (regionsOf m) (take k ss) ≡ true
-        in-take zero ss e = refl
-        in-take (suc k) [] e = refl
-        in-take (suc k) (s ∷ ss) e =
-            rw (and-left (writeInRange (length bytes) (regionsOf m) s) (writesInRange (length bytes) (regionsOf m) ss) e)
-            (in-take k ss (and-right (writeInRange (length bytes) (regionsOf m) s) (writesInRange (length bytes) (regionsOf m) ss) e))
+    inside-before = inside-take m apart (countBefore rs) rs inside
 
     frame : written bytes m rs ≡ laid bytes m frameBytes
-    frame = sym (written-before m (length bytes) ts rs h) ∙ written-laid bytes m (before rs) apart inside-before ∙ ap (laid bytes m) (h .placed)
+    frame = sym (written-before m rs (h .noneLater)) ∙ written-laid bytes m (before rs) apart inside-before ∙ ap (laid bytes m) (h .placed)
 
     places-inside : allInside (regionsOf m) frameBytes ≡ true
     places-inside = subst (λ (ps : List (ℕ × ℕ)). allInside (regionsOf m) ps ≡ true) (h .placed) (allInside-bytes (regionsOf m) (length bytes) (before rs) inside-before)
 
     pub delivered : AllFit rs → kindsKnown rs ≡ true → Delivered bytes m ts (encodeAll rs) (written bytes m rs)
     delivered fits known = record {
-      atEvent = rw (recordsOf-encodeAll rs fits, take-encodeAll (countBefore rs) rs)
-          (subst (Carried (encodeAll (before rs)) bytes m Accepted) (written-before m (length bytes) ts rs h)
-          (carried-encodeAll m (before rs) (fit-take (countBefore rs) rs fits) (kinds-take (countBefore rs) rs known) apart inside-before));
+      atEvent = rw (recordsOf-encodeAll rs fits)
+          (subst (Carried (take (recordLength * countBefore rs) (encodeAll rs)) bytes m Accepted) (written-before m rs (h .noneLater))
+          (carried-first m apart (countBefore rs) rs fits known inside));
       atEnd = carried-encodeAll m rs fits known apart inside;
       frame = frame;
-      each = λ once i less.
-          let count : length (firstPlaces (length bytes) ts) ≡ min (length bytes) (requested ts) =
-          length-take-le (min (length bytes) (requested ts)) (places ts) (omega (arith, length-places ts)) in
-          rw (frame, ← getD-take (min (length bytes) (requested ts)) (places ts) i 0 less)
-          (byteAt-named bytes m 0 (firstPlaces (length bytes) ts) once places-inside i (omega arith) ∙ rw zero-add);
+      each = λ once i less. rw frame (frame-each m 0 (length bytes) ts places-inside once i less ∙ rw zero-add);
       others = λ a unnamed. rw frame (byteAt-unnamed bytes m 0 (firstPlaces (length bytes) ts) a unnamed);
       regions = regionsOf-written bytes m rs;
     }

@@ -8,10 +8,10 @@ use Rattle.trb.specs.declared.Answer.the-variants.{Accepted}
 use Rattle.trb.specs.declared.TransferTrb.{TransferTrb}
 use Rattle.guest_memory.specs.Places.{Memory}
 use Rattle.carry_out.specs.CarryOut.{memoryAfter}
-use Rattle.delivery.specs.Delivered.{upToEvent, Delivered}
-use Rattle.delivery.specs.Claims.{sameBytes, frameOf, isWhole}
+use Rattle.delivery_laws.specs.Delivered.{upToEvent, Delivered}
+use Rattle.delivery_laws.specs.Claims.{sameBytes, frameOf, isWhole}
 
-sameBytes-refl : (xs : List ℕ) → sameBytes xs xs ≡ true
+pub sameBytes-refl : (xs : List ℕ) → sameBytes xs xs ≡ true
 unfolding sameBytes
 sameBytes-refl [] = refl
 sameBytes-refl (x ∷ xs) = rw (eq-eqb x x refl) (sameBytes-refl xs)

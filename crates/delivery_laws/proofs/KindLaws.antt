@@ -21,7 +21,7 @@ use Rattle.in_td.specs.Td.{normals, goesOn, isDone, endingNormal, normalIn, han
 use Rattle.in_td.specs.declared.InTd.{InTd}
 use Rattle.in_td.specs.declared.TdProcessed.{TdProcessed}
 
-kinds-append : (xs ys : List Record) → kindsKnown xs ≡ true → kindsKnown ys ≡ true → kindsKnown (xs ++ ys) ≡ true
+pub kinds-append : (xs ys : List Record) → kindsKnown xs ≡ true → kindsKnown ys ≡ true → kindsKnown (xs ++ ys) ≡ true
 kinds-append [] ys h k = k
 kinds-append (x ∷ xs) ys h k = by (kindKnown (x .kind)) (kindsKnown xs) h (λ rest. kinds-append xs ys rest k)
   where
@@ -29,7 +29,7 @@ kinds-append (x ∷ xs) ys h k = by (kindKnown (x .kind)) (kindsKnown xs) h (λ 
     by true b e more = more e
     by false b e more = e
 
-kinds-when : (due : Bool) (r : Record) → kindKnown (r .kind) ≡ true → kindsKnown (when due r) ≡ true
+pub kinds-when : (due : Bool) (r : Record) → kindKnown (r .kind) ≡ true → kindsKnown (when due r) ≡ true
 kinds-when true r e = rw e
 kinds-when false r e = refl
 

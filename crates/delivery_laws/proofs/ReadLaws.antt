@@ -21,7 +21,7 @@ use Rattle.guest_memory.specs.Places.{placeOf, isInside, Memory, regionsOf, byt
 use Rattle.guest_memory.proofs.PlaceLaws.{placed-low, placed-high}
 use Rattle.account.specs.Guest.{numbered}
 use Rattle.carry_out.specs.Writes.{laidAt}
-use Rattle.delivery.specs.Laid.{laidByte, laid, byteAt, isAmong, allInside, NoneTwice}
+use Rattle.delivery_laws.specs.Laid.{laidByte, laid, byteAt, isAmong, allInside, NoneTwice}
 
 -- ---- One byte of a region
 
@@ -106,6 +106,10 @@ module _ (bytes : List ℕ) (m : Memory) (p : ℕ × ℕ) where
 -- ---- The device's bytes from number k on, at these addresses
 
 module _ (bytes : List ℕ) where
+  pub regionsOf-laid : (m : Memory) (ps : List (ℕ × ℕ)) → regionsOf (laid bytes m ps) ≡ regionsOf m
+  regionsOf-laid m [] = refl
+  regionsOf-laid m (p ∷ ps) = regionsOf-laid (laidByte bytes m p) ps ∙ regionsOf-laidByte bytes m p
+
   -- an address that is not named
   pub byteAt-unnamed : (m : Memory) (k : ℕ) (xs : List ℕ) (a : ℕ) → isAmong a xs ≡ false → byteAt (laid bytes m (numbered k xs)) a ≡ byteAt m a
   byteAt-unnamed m k [] a none = refl

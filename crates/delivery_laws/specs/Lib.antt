@@ -1,0 +1,4 @@
+pub mod Laid
+pub mod Ranges
+pub mod Delivered
+pub mod Claims

@@ -1,0 +1,1 @@
+// Definitions and laws alone: no torn frame, of a block that only calls made.

@@ -1,0 +1,5 @@
+pub mod PlaceLaws
+pub mod TdLaws
+pub mod RowLaws
+pub mod CallLaws
+pub mod ClaimLaws
