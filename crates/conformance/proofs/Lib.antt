@@ -8,7 +8,6 @@ pub mod ControlTheorems
 pub mod PhaseTheorems
 pub mod RequestTheorems
 pub mod PassedTheorems
-pub mod IdTheorems
 pub mod ChainTheorems
 pub mod CallTheorems
 pub mod ControlOutTheorems

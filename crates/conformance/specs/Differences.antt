@@ -14,10 +14,12 @@ use Rattle.log.specs.Records.{requestKind}
 use Rattle.log.specs.declared.Record.{Record}
 use Rattle.control_block.specs.declared.GuestRelease.the-variants.{Release4, Release5}
 use Rattle.standard.specs.Control.{Kind, ControlTransfer, dataStage, statusStage, setupStage, transferred, dataFailed, statusFailed, controlEvents, immediateAllowed}
-use Rattle.standard.specs.Usb.{Setup, setupBytes}
-use Rattle.standard.specs.Xhci.{normal, eventData, noOp, transferEvent, ownResidual, succeeded, stalled, unanswered, ended, events, delivery, isTd}
+use Rattle.standard.specs.Usb.{Setup, setupBytes, stages}
+use Rattle.standard.specs.Usb as usb
+use Rattle.standard.specs.Xhci.{normal, eventData, noOp, transferEvent, ownResidual, succeeded, stalled, unanswered, ended, events, delivery, deliveries, bufferAllowed, isTd}
 use Rattle.conformance.specs.Phases.{OfKind}
 use Rattle.conformance.specs.Runs.{seen, standardSeen, inCall, inRunIn, inRun, inNumber, inMadeUp, ControlCall, controlCall, ControlRan, controlRunFor, controlRun, normalTrb, eventDataTrb, noOpTrb, setupStageTrb, dataStageTrb, statusStageTrb, unrecognizedTrb}
+use Rattle.conformance.specs.TranslateControl.{outcomeOf}
 use Rattle.conformance.specs.Translate.{runsOn, halts, haltsAt, told}
 
 -- USB 2.0, 9.4.3: GET_DESCRIPTOR with wLength 64
@@ -27,6 +29,14 @@ getDescriptor = record { bmRequestType = 0x80; bRequest = 6; wValue = 0x0100; wI
 -- USB 2.0, 9.3: a class request with its data from the host
 abbrev setReport : Setup
 setReport = record { bmRequestType = 0x21; bRequest = 9; wValue = 0x0200; wIndex = 0; wLength = 12 }
+
+-- GET_DESCRIPTOR with wLength 0
+abbrev getNothing : Setup
+getNothing = record { bmRequestType = 0x80; bRequest = 6; wValue = 0x0100; wIndex = 0; wLength = 0 }
+
+-- a Setup Stage TRB of zeros
+abbrev noRequest : Setup
+noRequest = record { bmRequestType = 0; bRequest = 0; wValue = 0; wIndex = 0; wLength = 0 }
 
 -- the lengths that a log asks the device for
 abbrev requestLengths : List Record → List ℕ
@@ -94,7 +104,7 @@ immediate-in-standard = refl
 -- ---- 11: a chained Normal of 8 bytes with IOC, then a Setup
 
 pub dropped-normal-engine :
-    inRun (inCall (normalTrb 0x1000 0x8000 8 true true false false) NoneGiven 0 ∷ inCall (setupStageTrb 0x1010 getDescriptor false) NoneGiven 0 ∷ [])
+    inRun (inCall (normalTrb 0x1000 0x8000 8 true true false false) NoneGiven 0 ∷ inCall (setupStageTrb 0x1010 noRequest false) NoneGiven 0 ∷ [])
     ≡ record { events = transferEvent 5 false 0x1010 0 ∷ []; writes = []; halt = halts }
 unfolding inRun
 dropped-normal-engine = refl
@@ -121,8 +131,8 @@ disconnect-standard = refl
 pub final-code-engine :
     told (controlRun (
     controlCall (setupStageTrb 0x1000 getDescriptor false) device.NoneGiven 0
-    ∷ controlCall (dataStageTrb 0x1010 0x8000 18 false false false false) device.NoneGiven 0
-    ∷ controlCall (statusStageTrb 0x1020 true false) device.NoneGiven 0
+    ∷ controlCall (dataStageTrb 0x1010 0x8000 18 false false false false true) device.NoneGiven 0
+    ∷ controlCall (statusStageTrb 0x1020 true false false) device.NoneGiven 0
     ∷ controlCall (eventDataTrb 0x1030 0xABCD false true) device.SuccessfulControlIn 8
     ∷ []
     ) .records) ≡ transferEvent 13 true 0xABCD 0 ∷ []
@@ -144,8 +154,8 @@ final-code-standard = refl
 abbrev stalledCalls : List ControlCall
 stalledCalls =
     controlCall (setupStageTrb 0x1000 getDescriptor true) device.NoneGiven 0
-    ∷ controlCall (dataStageTrb 0x1010 0x8000 18 false false false false) device.NoneGiven 0
-    ∷ controlCall (statusStageTrb 0x1020 false false) device.Stall 0
+    ∷ controlCall (dataStageTrb 0x1010 0x8000 18 false false false false true) device.NoneGiven 0
+    ∷ controlCall (statusStageTrb 0x1020 false false false) device.Stall 0
     ∷ []
 
 pub control-stall-engine : told (controlRunFor Release4 stalledCalls .records) ≡ transferEvent 6 false 0x1000 0 ∷ []
@@ -170,7 +180,7 @@ status-stall-standard = refl
 pub no-data-stall-engine :
     told (controlRunFor Release5 (
     controlCall (setupStageTrb 0x1000 getDescriptor false) device.NoneGiven 0
-    ∷ controlCall (statusStageTrb 0x1010 false false) device.Stall 0
+    ∷ controlCall (statusStageTrb 0x1010 false false false) device.Stall 0
     ∷ []
     ) .records) ≡ transferEvent 6 false 0x1010 0 ∷ []
 unfolding controlRunFor
@@ -195,8 +205,8 @@ no-op-standard = refl
 pub length-asked-engine :
     requestLengths (controlRun (
     controlCall (setupStageTrb 0x1000 getDescriptor false) device.NoneGiven 0
-    ∷ controlCall (dataStageTrb 0x1010 0x8000 18 false false false false) device.NoneGiven 0
-    ∷ controlCall (statusStageTrb 0x1020 false false) device.SuccessfulControlIn 18
+    ∷ controlCall (dataStageTrb 0x1010 0x8000 18 false false false false true) device.NoneGiven 0
+    ∷ controlCall (statusStageTrb 0x1020 false false false) device.SuccessfulControlIn 18
     ∷ []
     ) .records) ≡ 18 ∷ []
 unfolding controlRun
@@ -212,7 +222,7 @@ abbrev restarted : ControlRan
 restarted =
     controlRun (
     controlCall (setupStageTrb 0x1000 getDescriptor false) device.NoneGiven 0
-    ∷ controlCall (dataStageTrb 0x1010 0x8000 18 false true false false) device.NoneGiven 0
+    ∷ controlCall (dataStageTrb 0x1010 0x8000 18 false true false false true) device.NoneGiven 0
     ∷ controlCall (setupStageTrb 0x1020 getDescriptor false) device.NoneGiven 0
     ∷ []
     )
@@ -232,9 +242,9 @@ abbrev immediateOut : ControlRan
 immediateOut =
     controlRun (
     controlCall (setupStageTrb 0x1000 setReport false) device.NoneGiven 0
-    ∷ controlCall (dataStageTrb 0x1010 0x1122334455667788 12 true false false true) device.NoneGiven 0
+    ∷ controlCall (dataStageTrb 0x1010 0x1122334455667788 12 true false false true false) device.NoneGiven 0
     ∷ controlCall (eventDataTrb 0x1020 0xABCD false true) device.NoneGiven 0
-    ∷ controlCall (statusStageTrb 0x1030 false false) device.SuccessfulControlOut 0
+    ∷ controlCall (statusStageTrb 0x1030 false false false) device.SuccessfulControlOut 0
     ∷ []
     )
 
@@ -255,9 +265,9 @@ abbrev unrecognizedBetween : ControlRan
 unrecognizedBetween =
     controlRun (
     controlCall (setupStageTrb 0x1000 getDescriptor false) device.NoneGiven 0
-    ∷ controlCall (dataStageTrb 0x1010 0x8000 18 false false false false) device.NoneGiven 0
+    ∷ controlCall (dataStageTrb 0x1010 0x8000 18 false false false false true) device.NoneGiven 0
     ∷ controlCall (unrecognizedTrb 0x1020) device.NoneGiven 0
-    ∷ controlCall (statusStageTrb 0x1030 false false) device.SuccessfulControlIn 18
+    ∷ controlCall (statusStageTrb 0x1030 false false false) device.SuccessfulControlIn 18
     ∷ []
     )
 
@@ -278,7 +288,7 @@ unrecognized-standard k = elim [ ]
 pub chained-end-engine :
     requestLengths (controlRun (
     controlCall (setupStageTrb 0x1000 getDescriptor false) device.NoneGiven 0
-    ∷ controlCall (statusStageTrb 0x1010 true false) device.NoneGiven 0
+    ∷ controlCall (statusStageTrb 0x1010 true false false) device.NoneGiven 0
     ∷ controlCall (eventDataTrb 0x1020 0xABCD true true) device.SuccessfulControlIn 0
     ∷ []
     ) .records) ≡ 0 ∷ []
@@ -294,7 +304,7 @@ chained-end-standard = refl
 pub dropped-chain-engine :
     told (controlRun (
     controlCall (setupStageTrb 0x1000 getDescriptor false) device.NoneGiven 0
-    ∷ controlCall (dataStageTrb 0x1010 0x8000 18 true false false false) device.NoneGiven 0
+    ∷ controlCall (dataStageTrb 0x1010 0x8000 18 true false false false true) device.NoneGiven 0
     ∷ controlCall (eventDataTrb 0x1020 0xABCD true true) device.NoneGiven 0
     ∷ controlCall (setupStageTrb 0x1030 getDescriptor false) device.NoneGiven 0
     ∷ []
@@ -305,3 +315,113 @@ dropped-chain-engine = refl
 -- the event of that TRB, were it to run with 18 bytes
 pub dropped-chain-standard : events ownResidual ended 18 (dataStage 0x1010 0x8000 18 false false ∷ eventData 0x1020 0xABCD true ∷ []) ≡ transferEvent 1 true 0xABCD 18 ∷ []
 dropped-chain-standard = refl
+
+-- ---- 18: Setup, Data with DIR out, Status with DIR in, of a request from the device; 18 bytes come
+
+abbrev turnedRound : ControlRan
+turnedRound =
+    controlRun (
+    controlCall (setupStageTrb 0x1000 getDescriptor false) device.NoneGiven 0
+    ∷ controlCall (dataStageTrb 0x1010 0x8000 18 false false false false false) device.NoneGiven 0
+    ∷ controlCall (statusStageTrb 0x1020 false false true) device.SuccessfulControlIn 18
+    ∷ []
+    )
+
+pub direction-engine : seen (turnedRound .records) (turnedRound .halt) ≡ record { events = []; writes = delivery 0x8000 18 0 ∷ []; halt = runsOn }
+unfolding controlRun
+direction-engine = refl
+
+-- the data stage comes from the device, the status stage goes to it
+pub direction-standard : stages getDescriptor ≡ usb.setupStage ∷ usb.dataStage true ∷ usb.statusStage false ∷ []
+direction-standard = refl
+
+-- ---- 19: wLength 0, with a Data IN of 18; and wLength 64, with none
+
+pub no-length-engine :
+    requestLengths (controlRun (
+    controlCall (setupStageTrb 0x1000 getNothing false) device.NoneGiven 0
+    ∷ controlCall (dataStageTrb 0x1010 0x8000 18 false false false false true) device.NoneGiven 0
+    ∷ controlCall (statusStageTrb 0x1020 false false false) device.SuccessfulControlIn 18
+    ∷ []
+    ) .records) ≡ 18 ∷ []
+unfolding controlRun
+no-length-engine = refl
+
+pub no-length-standard : stages getNothing ≡ usb.setupStage ∷ usb.statusStage true ∷ []
+no-length-standard = refl
+
+pub no-data-engine :
+    requestLengths (controlRun (
+    controlCall (setupStageTrb 0x1000 getDescriptor false) device.NoneGiven 0
+    ∷ controlCall (statusStageTrb 0x1010 false false true) device.SuccessfulControlIn 0
+    ∷ []
+    ) .records) ≡ 0 ∷ []
+unfolding controlRun
+no-data-engine = refl
+
+pub no-data-standard : stages getDescriptor ≡ usb.setupStage ∷ usb.dataStage true ∷ usb.statusStage false ∷ []
+no-data-standard = refl
+
+-- ---- 20: Setup, Data IN of 8 with IOC, Status; 9 bytes come
+
+abbrev overfilled : ControlRan
+overfilled =
+    controlRun (
+    controlCall (setupStageTrb 0x1000 getDescriptor false) device.NoneGiven 0
+    ∷ controlCall (dataStageTrb 0x1010 0x8000 8 false true false false true) device.NoneGiven 0
+    ∷ controlCall (statusStageTrb 0x1020 false false false) device.SuccessfulControlIn 9
+    ∷ []
+    )
+
+pub control-babble-engine : seen (overfilled .records) (overfilled .halt)
+    ≡ record { events = transferEvent 1 false 0x1010 0 ∷ []; writes = delivery 0x8000 8 0 ∷ []; halt = runsOn }
+unfolding controlRun
+control-babble-engine = refl
+
+abbrev eightBytes : ControlTransfer
+eightBytes = record { setupTrb = setupStage 0x1000 false; dataTrbs = dataStage 0x1010 0x8000 8 true false ∷ []; statusTrbs = statusStage 0x1020 false ∷ [] }
+
+pub control-babble-standard : controlEvents ownResidual eightBytes (outcomeOf 9 eightBytes) ≡ transferEvent 3 false 0x1010 0 ∷ []
+control-babble-standard = refl
+
+-- ---- 21: Setup, Data IN of 18, Status; 8 bytes come, then Stall
+
+abbrev stalledAfterSome : ControlRan
+stalledAfterSome =
+    controlRun (
+    controlCall (setupStageTrb 0x1000 getDescriptor false) device.NoneGiven 0
+    ∷ controlCall (dataStageTrb 0x1010 0x8000 18 false false false false true) device.NoneGiven 0
+    ∷ controlCall (statusStageTrb 0x1020 false false false) device.Stall 8
+    ∷ []
+    )
+
+pub stall-after-some-engine : seen (stalledAfterSome .records) (stalledAfterSome .halt) ≡ record { events = transferEvent 6 false 0x1000 0 ∷ []; writes = []; halt = halts }
+unfolding controlRun
+stall-after-some-engine = refl
+
+pub stall-after-some-standard :
+    controlEvents ownResidual
+    (record { setupTrb = setupStage 0x1000 false; dataTrbs = dataStage 0x1010 0x8000 18 false false ∷ []; statusTrbs = statusStage 0x1020 false ∷ [] })
+    (dataFailed 6 8) ≡ transferEvent 6 false 0x1010 10 ∷ []
+stall-after-some-standard = refl
+
+-- and the buffer gets them
+pub stall-after-some-delivered : deliveries 8 (dataStage 0x1010 0x8000 18 false false ∷ []) ≡ delivery 0x8000 8 0 ∷ []
+stall-after-some-delivered = refl
+
+-- ---- 22: a Normal of 65,537 bytes; and one of 16 that crosses a 64 KiB boundary
+
+pub long-buffer-engine : inNumber (normalTrb 0x1000 0x8000 65537 false true false false) ≡ 0
+unfolding inNumber
+long-buffer-engine = refl
+
+pub long-buffer-standard : bufferAllowed 0x8000 65537 ≡ false
+long-buffer-standard = refl
+
+pub crossing-buffer-engine : inRun (inCall (normalTrb 0x1000 0xfff8 16 false true false false) (Given status.Success) 16 ∷ [])
+    ≡ record { events = transferEvent 1 false 0x1000 0 ∷ []; writes = delivery 0xfff8 16 0 ∷ []; halt = runsOn }
+unfolding inRun
+crossing-buffer-engine = refl
+
+pub crossing-buffer-standard : bufferAllowed 0xfff8 16 ≡ false
+crossing-buffer-standard = refl

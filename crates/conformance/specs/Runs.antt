@@ -1,10 +1,9 @@
 -- Calls on a fresh endpoint, run on the engine's definitions, and what the public texts say of the same TRBs, in the same words.
--- Endpoint 3, slot 2; guest memory of 32 bytes at 0x8000. Assumes nothing.
+-- Endpoint 3, slot 2; guest memory as a script has it at its start, 0x40000 bytes at 0x8000. Assumes nothing.
 use Prim.Native.Nat.{ℕ}
-use mathlib.Core.Bool.{Bool, true, false}
+use mathlib.Core.Bool.{Bool, false}
 use mathlib.Core.List.{List, [], _∷_, _++_}
 use mathlib.Core.Option.{Option, none, some}
-use lib.ListN.{replicate}
 use Rattle.trb.specs.Answers.{numberOf, refusalOf}
 use Rattle.trb.specs.Limits.{minLog, maxCollected}
 use Rattle.trb.specs.Questions.{firstNo}
@@ -28,7 +27,8 @@ use Rattle.in_td.specs.Td.{handleNormal, processTrb}
 use Rattle.in_td.specs.declared.InMode.{InMode}
 use Rattle.in_td.specs.declared.InMode.the-variants.{AsPorted}
 use Rattle.guest_memory.specs.Regions as regions
-use Rattle.guest_memory.specs.Places.{inRegion, placeOf, rangeInside, Memory, memoryOf, regionsOf, bytesAt}
+use Rattle.guest_memory.specs.declared.Regions.{Regions}
+use Rattle.guest_memory.specs.Places.{inRegion, placeOf, rangeInside, Memory, memoryOf, bytesAt}
 use Rattle.held.specs.Places.{cleared}
 use Rattle.held.specs.Sound.{soundTrb}
 use Rattle.td_part.specs.Parts.{putDma, realizeDma}
@@ -82,8 +82,12 @@ standardSeen r e n td = record { events = events r (outcome e n td) n td; writes
 -- ---- Guest memory
 
 -- one region; the other is empty
+abbrev window : Regions
+window = regions.guestRegions 0x8000 0x40000 0 0
+
+-- for immediate data, which is all that these calls collect, its bytes do not count
 abbrev memory : Memory
-memory = memoryOf 0x8000 (replicate 32 7) 0 []
+memory = memoryOf 0x8000 [] 0 []
 
 -- ---- IN
 
@@ -94,7 +98,7 @@ pub data InCall : Type 0 where
 unfoldable pub inFrom : InBlock → List Record → Halt → List InCall → Seen
 inFrom b rs h [] = seen rs h
 inFrom b rs h (inCall t r n ∷ calls) =
-    let o = submissionIn minLog b t (regionsOf memory) in
+    let o = submissionIn minLog b t window in
     let p = completionIn minLog (o .state .block) r n in
     inFrom (p .state .block) (rs ++ (o .records ++ p .records)) (haltAnswered (p .state .answer)) calls
 
@@ -110,7 +114,7 @@ inRun calls = inRunIn AsPorted calls
 -- what one submission to a fresh block answers, by its number
 unfoldable pub inNumber : TransferTrb → ℕ
 unfolding submissionIn submissionQuestionsIn outcomeOf firstNo refusalOf idsInRange soundIn all rangeInside placeOf inRegion regions.shareAnAddress regions.sharesAt regions.holds
-inNumber t = numberOf (submissionIn minLog (freshBlock (record { 0 = 3 }) (record { 0 = 2 }) AsPorted) t (regionsOf memory) .state .answer)
+inNumber t = numberOf (submissionIn minLog (freshBlock (record { 0 = 3 }) (record { 0 = 2 }) AsPorted) t window .state .answer)
 
 -- the completion of a made-up block that holds this TRB alone and awaits the device
 unfoldable pub inMadeUp : TransferTrb → InTrbProcessingResult → (n : ℕ) → Seen
@@ -134,7 +138,7 @@ pub record ControlRan : Type 0 where
 unfoldable pub controlFrom : ControlRan → List ControlCall → ControlRan
 controlFrom ran [] = ran
 controlFrom ran (controlCall t r n ∷ calls) =
-    let o = submissionControl minLog maxCollected (ran .block) t (regionsOf memory) in
+    let o = submissionControl minLog maxCollected (ran .block) t window in
     let p = completionControl minLog (o .state .block) r n in
     controlFrom (record {
       block = p .state .block;
@@ -154,10 +158,10 @@ unfoldable pub controlRun : List ControlCall → ControlRan
 unfolding controlRunFor
 controlRun calls = controlRunFor Release4 calls
 
--- ---- TRBs: address, then what the kind has; cycle bit on
+-- ---- TRBs: address, then what the kind has; cycle bit off
 
 abbrev at : (address : ℕ) → TransferTrbVariant → TransferTrb
-at a v = record { variant = v; addr = a; «cycle_bit» = true }
+at a v = record { variant = v; addr = a; «cycle_bit» = false }
 
 abbrev pub normalTrb : (address pointer length : ℕ) (chain ioc isp immediate : Bool) → TransferTrb
 normalTrb a p l chain ioc isp immediate =
@@ -179,8 +183,8 @@ noOpTrb a chain ioc = at a (NoOp (record { chain = chain; «interrupt_on_complet
 abbrev pub setupStageTrb : (address : ℕ) → Setup → (ioc : Bool) → TransferTrb
 setupStageTrb a p ioc = at a (SetupStage (setupTrb p ioc))
 
-abbrev pub dataStageTrb : (address pointer length : ℕ) (chain ioc isp immediate : Bool) → TransferTrb
-dataStageTrb a p l chain ioc isp immediate =
+abbrev pub dataStageTrb : (address pointer length : ℕ) (chain ioc isp immediate direction : Bool) → TransferTrb
+dataStageTrb a p l chain ioc isp immediate direction =
     at a (DataStage (record {
       «data_pointer» = p;
       «transfer_length» = l;
@@ -188,11 +192,11 @@ dataStageTrb a p l chain ioc isp immediate =
       «interrupt_on_completion» = ioc;
       «interrupt_on_short» = isp;
       «immediate_data» = immediate;
-      direction = true;
+      direction = direction;
     }))
 
-abbrev pub statusStageTrb : (address : ℕ) (chain ioc : Bool) → TransferTrb
-statusStageTrb a chain ioc = at a (StatusStage (record { chain = chain; «interrupt_on_completion» = ioc; direction = false }))
+abbrev pub statusStageTrb : (address : ℕ) (chain ioc direction : Bool) → TransferTrb
+statusStageTrb a chain ioc direction = at a (StatusStage (record { chain = chain; «interrupt_on_completion» = ioc; direction = direction }))
 
 abbrev pub unrecognizedTrb : (address : ℕ) → TransferTrb
 unrecognizedTrb a = at a Unrecognized

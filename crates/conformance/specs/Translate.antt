@@ -5,10 +5,8 @@ use mathlib.Core.Bool.{Bool, true, false, cond, _&&_}
 use mathlib.Core.List.{List, [], _∷_, _++_}
 use mathlib.Core.Option.{Option, none, some}
 use lib.Dec.{eqb, leb}
-use Rattle.trb.specs.declared.EndpointId.{EndpointId}
 use Rattle.trb.specs.declared.InTrbProcessingStatus.{InTrbProcessingStatus}
 use Rattle.trb.specs.declared.InTrbProcessingStatus.the-variants as status
-use Rattle.trb.specs.declared.SlotId.{SlotId}
 use Rattle.trb.specs.declared.TransferTrb.{TransferTrb}
 use Rattle.trb.specs.declared.TransferTrbVariant.{TransferTrbVariant}
 use Rattle.trb.specs.declared.TransferTrbVariant.the-variants.{SetupStage, DataStage, StatusStage, Normal, EventData, NoOp, Isoch, Unrecognized}
@@ -53,11 +51,6 @@ told (r ∷ rs) = cond (eqb (r .kind) eventKind) (eventOf r ∷ told rs) (told r
 abbrev pub wrote : List Record → List Delivery
 wrote [] = []
 wrote (r ∷ rs) = cond (eqb (r .kind) writeKind) (deliverIf (r .length) (delivery (r .address) (r .length) (r .start)) ++ wrote rs) (wrote rs)
-
--- xHCI 1.2, 6.4.2.1: every record has these ids, its endpoint's own
-abbrev pub AllOf : EndpointId → SlotId → List Record → Type 0
-AllOf e s [] = Unit {0}
-AllOf e s (r ∷ rs) = (r .«endpoint_id» ≡ e) × (r .«slot_id» ≡ s) × AllOf e s rs
 
 -- ---- Status and result
 

@@ -1,3 +1,4 @@
+pub mod Texts
 pub mod In
 pub mod Control
 pub mod Bench

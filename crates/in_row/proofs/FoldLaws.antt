@@ -88,6 +88,12 @@ takes-front regions h t [] some k on f = absurd (not-suc-le-zero some)
 takes-front regions h t ([] ∷ tds) some k on f = absurd (f .0)
 takes-front regions h t ((u ∷ us) ∷ tds) some k on f = ((k, (on, f .0)), f .1)
 
+-- a TRB of a supported kind that no question refuses
+pub takes-one : (regions : Regions) (h : ℕ) (t : TransferTrb) (ts : List TransferTrb) → PassedTrb regions h t ts → supportedIn t ≡ true → Takes regions h t
+takes-one regions h t ts y kind =
+    let place : leb (h + 1) maxHeld ≡ true = rw kind at (y .place) in
+    record { kind = kind; own = y .own; short = y .short; place = omega (arith, leb-true (h + 1) maxHeld place) }
+
 takes-each : (regions : Regions) (h : ℕ) (ts : List TransferTrb) → firstNo (eachTrb regions h ts) ≡ 0 → all supportedIn ts ≡ true → endsTd ts ≡ true → EachTakes regions h (tdsOf ts)
 unfolding tdsOf all
 takes-each regions h [] none kinds whole = tt
@@ -100,11 +106,8 @@ takes-each regions h (t ∷ ts) none kinds whole =
     kind : supportedIn t ≡ true
     kind = and-left (supportedIn t) (all supportedIn ts) kinds
 
-    place : leb (h + 1) maxHeld ≡ true
-    place = rw kind at (y .place)
-
     own : Takes regions h t
-    own = record { kind = kind; own = y .own; short = y .short; place = omega (arith, leb-true (h + 1) maxHeld place) }
+    own = takes-one regions h t ts y kind
 
     by-chain : (b : Bool) → chainOf (t .variant) ≡ b → EachTakes regions (cond b (h + 1) 0) (tdsOf ts) → EachTakes regions h (cond b (inFront t (tdsOf ts)) ((t ∷ []) ∷ tdsOf ts))
     by-chain true on f = takes-front regions h t (tdsOf ts) (some-tds ts (goes-on t ts whole on)) own on f

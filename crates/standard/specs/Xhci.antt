@@ -17,6 +17,10 @@ pub data Trb : Type 0 where
   eventData : (address value : ℕ) (ioc : Bool) → Trb
   noOp : (address : ℕ) (ioc : Bool) → Trb
 
+-- xHCI 1.2, 6.4.1: a buffer is of at most 64 KiB, and does not cross a 64 KiB boundary.
+abbrev pub bufferAllowed : (buffer length : ℕ) → Bool
+bufferAllowed buffer length = leb length 65536 && leb (buffer % 65536 + length) 65536
+
 -- xHCI 1.2, 4.9.1: the TRBs of a TD are tied by their Chain bits, on in all but the last.
 abbrev pub isTd : (chain : List Bool) → Bool
 isTd [] = false

@@ -28,21 +28,22 @@ use Rattle.in_td.specs.Td.{normals, goesOn, endingNormal, isDone, normalIn, han
 use Rattle.in_td.specs.declared.InMode.{InMode}
 use Rattle.in_td.specs.declared.TdProcessed.{TdProcessed}
 use Rattle.in_td.specs.Td as td
-use Rattle.control_chain.specs.Chain.{edtlaZeroed, realizeDataStage, realizeNormal, realizeTrb, realizeChain, never, inputTd}
+use Rattle.control_chain.specs.Chain.{edtlaZeroed, moveOut, moveData, realizeDataStage, realizeNormal, realizeTrb, realizeChain, never}
+use Rattle.control_chain.specs.Endings.{transferTd}
 use Rattle.control_chain.specs.Chain as chain
-use Rattle.conformance.specs.Translate.{AllOf}
+use Rattle.record_ids.specs.Ids.{AllOf}
 
 module _ (e : EndpointId) (s : SlotId) where
-  all-append : (rs ss : List Record) → AllOf e s rs → AllOf e s ss → AllOf e s (rs ++ ss)
+  pub all-append : (rs ss : List Record) → AllOf e s rs → AllOf e s ss → AllOf e s (rs ++ ss)
   all-append [] ss h k = k
   all-append (r ∷ rs) ss h k = (h .0, h .1, all-append rs ss (h .2) k)
 
-  event-ids : (due : Bool) (a l : ℕ) (code : CompletionCode) (flag : Bool) → AllOf e s (when due (transferEvent a l code flag e s))
+  pub event-ids : (due : Bool) (a l : ℕ) (code : CompletionCode) (flag : Bool) → AllOf e s (when due (transferEvent a l code flag e s))
   event-ids true a l code flag = (refl, refl, tt)
   event-ids false a l code flag = tt
 
   -- of any walk whose steps log such records
-  walk-ids : {S T : Type 0} (step : S → T → Out S) (stopped : S → Bool) → ((p : S) (t : T) → AllOf e s (step p t .records))
+  pub walk-ids : {S T : Type 0} (step : S → T → Out S) (stopped : S → Bool) → ((p : S) (t : T) → AllOf e s (step p t .records))
       → (p : S) (ts : List T) → AllOf e s (walk step stopped p ts .records)
   walk-ids step stopped h p ts = walk-records step stopped (λ p. Unit {0}) (AllOf e s) tt all-append (λ p t g. (h p t, tt)) p ts tt
 
@@ -91,17 +92,25 @@ module _ (e : EndpointId) (s : SlotId) where
     processTd-ids mode st ts =
         walk-ids (processTrb (inTd e s mode st n)) ended (λ p t. trb-ids mode st p (t .variant) (t .addr) (t .«cycle_bit»)) (unprocessed (normals ts)) ts
 
-    -- ---- Control IN
+    -- ---- Control, IN and OUT
 
-    module _ (w : TdProgress) where
-      chain-normal-ids : (state : TdProcessingState) (t : NormalTrb) (a : ℕ) → AllOf e s (chain.normalIn state (inputTd e s n) w t a .records)
+    module _ (input : Bool) (w : TdProgress) where
+      data-ids : (v : TdProgress) (d : TrbDmaInfo) → AllOf e s (moveData (transferTd e s input n) v d .records)
+      unfolding moveOut
+      data-ids v d = by-direction input
+        where
+          by-direction : (b : Bool) → AllOf e s (cond b (realizeDma info v d) (moveOut info v d) .records)
+          by-direction true = realize-ids v d
+          by-direction false = event-ids (d .«interrupt_on_completion») (d .addr) 0 Success false
+
+      chain-normal-ids : (state : TdProcessingState) (t : NormalTrb) (a : ℕ) → AllOf e s (chain.normalIn state (transferTd e s input n) w t a .records)
       chain-normal-ids (ShortTransfer missing) t a = event-ids (t .«interrupt_on_completion») a missing ShortPacket false
-      chain-normal-ids Default t a = realize-ids w (ofNormal t a)
+      chain-normal-ids Default t a = data-ids w (ofNormal t a)
 
-      chain-trb-ids : (v : TransferTrbVariant) (a : ℕ) → AllOf e s (chain.trbIn v (inputTd e s n) w a .records)
+      chain-trb-ids : (v : TransferTrbVariant) (a : ℕ) → AllOf e s (chain.trbIn v (transferTd e s input n) w a .records)
       unfolding realizeNormal realizeDataStage
       chain-trb-ids (SetupStage t) a = event-ids (t .«interrupt_on_completion») a 0 Success false
-      chain-trb-ids (DataStage t) a = realize-ids (edtlaZeroed w) (ofDataStage t a)
+      chain-trb-ids (DataStage t) a = data-ids (edtlaZeroed w) (ofDataStage t a)
       chain-trb-ids (StatusStage t) a = event-ids (t .«interrupt_on_completion») a 0 Success false
       chain-trb-ids (Normal t) a = chain-normal-ids (w .state) t a
       chain-trb-ids (EventData t) a = event-ids (t .«interrupt_on_completion») (t .«event_data») (w .edtla) (codeAfter (w .state)) true
@@ -109,6 +118,6 @@ module _ (e : EndpointId) (s : SlotId) where
       chain-trb-ids Isoch a = tt
       chain-trb-ids Unrecognized a = tt
 
-    pub realizeChain-ids : (ts : List TransferTrb) → AllOf e s (realizeChain (inputTd e s n) ts .records)
+    pub realizeChain-ids : (input : Bool) (ts : List TransferTrb) → AllOf e s (realizeChain (transferTd e s input n) ts .records)
     unfolding realizeTrb
-    realizeChain-ids ts = walk-ids (realizeTrb (inputTd e s n)) never (λ w t. chain-trb-ids w (t .variant) (t .addr)) atStart ts
+    realizeChain-ids input ts = walk-ids (realizeTrb (transferTd e s input n)) never (λ w t. chain-trb-ids input w (t .variant) (t .addr)) atStart ts

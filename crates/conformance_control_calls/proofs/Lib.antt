@@ -1,0 +1,3 @@
+pub mod RequestLaws
+mod CollectLaws
+pub mod Theorems

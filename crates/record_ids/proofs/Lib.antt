@@ -1,0 +1,2 @@
+mod WalkIds
+pub mod CallIds

@@ -1,0 +1,1 @@
+// Definitions and laws alone: every record of every call has its endpoint's ids.
