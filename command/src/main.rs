@@ -46,6 +46,15 @@ const COMMANDS: &[Command] = &[
         run: logs::print,
     },
     Command {
+        name: "read",
+        usage: "[FILE]",
+        does: "prints a capture that the product wrote, a line to a record",
+        has_output: false,
+        least_files: 0,
+        most_files: 1,
+        run: captures::read,
+    },
+    Command {
         name: "convert",
         usage: "[-o FILE] [FILE]",
         does: "converts a capture from link type 189 to 220, or from 220 to 189",

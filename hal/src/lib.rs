@@ -24,6 +24,7 @@ extern crate std;
 pub mod capture;
 mod exported;
 pub mod log;
+pub mod record;
 mod refusal;
 
 pub use refusal::Refusal;

@@ -163,10 +163,35 @@ pub enum Call {
     /// What the next TD of that row is given.
     AppendResult { status: Status, length: u32 },
     CompleteRow { length: u64 },
+    /// The time of what follows, in captures; the Rust looks at its own clock.
+    Time { seconds: u32, microseconds: u32 },
+    /// What captures say of the endpoint.
+    Captured(Captured),
+}
+
+/// `is_interrupt`, else bulk, is of IN endpoints alone.
+#[derive(Debug, Clone, Copy, PartialEq, Eq)]
+pub struct Captured {
+    pub bus: u16,
+    pub device: u8,
+    pub is_interrupt: bool,
 }
 
 impl Call {
-    /// `w`, `b`, `h`, `p`, `q` and `e` print nothing.
+    /// `w`, `b`, `t`, `m` and creations may stand before an endpoint.
+    pub const fn is_on_endpoint(&self) -> bool {
+        !matches!(
+            self,
+            Self::Window { .. }
+                | Self::Buffers { .. }
+                | Self::Time { .. }
+                | Self::Captured(_)
+                | Self::CreateIn { .. }
+                | Self::CreateControl { .. }
+        )
+    }
+
+    /// `w`, `b`, `h`, `p`, `q`, `e`, `t` and `m` print nothing.
     pub const fn is_answered(&self) -> bool {
         !matches!(
             self,
@@ -177,6 +202,8 @@ impl Call {
                 | Self::MakeUpControl { .. }
                 | Self::AppendTrb(_)
                 | Self::AppendResult { .. }
+                | Self::Time { .. }
+                | Self::Captured(_)
         )
     }
 }
@@ -206,6 +233,10 @@ impl Display for Call {
             Self::AppendTrb(trb) => write!(f, "q {trb}"),
             Self::AppendResult { status, length } => write!(f, "e {:x} {length:x}", *status as u8),
             Self::CompleteRow { length } => write!(f, "r {length:x}"),
+            Self::Time { seconds, microseconds } => write!(f, "t {seconds:x} {microseconds:x}"),
+            Self::Captured(Captured { bus, device, is_interrupt }) => {
+                write!(f, "m {bus:x} {device:x} {}", if *is_interrupt { 1 } else { 3 })
+            }
         }
     }
 }
@@ -216,6 +247,7 @@ pub const FIRST_REGION: Region = Region { base: 0x8000, length: 0x40000 };
 pub const MAX_LOG: u64 = MIN_ROW_LOG;
 pub const MAX_COLLECT: u64 = 0x10000;
 pub const MAX_DATA: u64 = MAX_WINDOW;
+pub const FIRST_CAPTURED: Captured = Captured { bus: 1, device: 1, is_interrupt: false };
 
 /// A number in lower-case hex with no leading zeros, at most `limit`.
 fn number(field: &str, limit: u64) -> Option<u64> {
@@ -315,6 +347,15 @@ pub fn parse(line: &str) -> Option<Call> {
             length: number(length, u32::MAX.into())? as u32,
         },
         ["r", length] => Call::CompleteRow { length: number(length, MAX_DATA)? },
+        ["t", seconds, microseconds] => Call::Time {
+            seconds: number(seconds, u32::MAX.into())? as u32,
+            microseconds: number(microseconds, u32::MAX.into())? as u32,
+        },
+        ["m", bus, device, transfer_type @ ("1" | "3")] => Call::Captured(Captured {
+            bus: number(bus, 0xffff)? as u16,
+            device: number(device, 0xff)? as u8,
+            is_interrupt: transfer_type == "1",
+        }),
         _ => return None,
     };
     Some(call)

@@ -3,7 +3,7 @@
 use std::{
     io::{self, Write},
     path::PathBuf,
-    process::{Command, Stdio},
+    process::{Command, Output, Stdio},
     thread,
 };
 
@@ -36,7 +36,8 @@ pub struct Product {
 }
 
 impl Product {
-    fn answers(&self, script: &str) -> io::Result<String> {
+    /// What the program makes of a script.
+    pub fn output(&self, script: &str) -> io::Result<Output> {
         let mut child = Command::new(&self.program).stdin(Stdio::piped()).stdout(Stdio::piped()).spawn()?;
         let mut input = child.stdin.take().expect("standard input is piped");
         let script = script.as_bytes().to_vec();
@@ -44,6 +45,11 @@ impl Product {
         let writer = thread::spawn(move || input.write_all(&script));
         let output = child.wait_with_output()?;
         let _ = writer.join().expect("the writer does not panic");
+        Ok(output)
+    }
+
+    fn answers(&self, script: &str) -> io::Result<String> {
+        let output = self.output(script)?;
         let mut answers = String::from_utf8_lossy(&output.stdout).into_owned();
         if let (None, false) = (output.status.code(), output.status.success()) {
             answers.push_str(&format!("ended by {}\n", output.status));

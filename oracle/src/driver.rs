@@ -3,7 +3,7 @@
 use std::sync::Arc;
 
 use crate::{
-    call::{parse, Call, Kind, Region, Status, Trb, FIRST_REGION, MAX_LOG},
+    call::{parse, Call, Captured, Kind, Region, Status, Trb, FIRST_CAPTURED, FIRST_REGION, MAX_LOG},
     device::xhci::{
         interrupter::EventSender,
         real_endpoint_handle::{ControlRequestProcessingResult, InTrbProcessingResult, InTrbProcessingStatus},
@@ -68,14 +68,17 @@ pub fn run(script: &[u8]) -> Run {
     run
 }
 
-struct Driver {
+pub(crate) struct Driver {
     effects: EffectLog,
     memory: Arc<GuestMemory>,
     connections: Connections,
     device: ScriptedDevice,
     buffers: Buffers,
+    captured: Captured,
     endpoint: Option<Endpoint>,
     row: Row,
+    /// In a row, a TD fails with any status but Success: document 02's strict mode, as far as it decides which TDs are started.
+    pub(crate) is_strict: bool,
 }
 
 const FIRST_BUFFERS: Buffers = Buffers { log: MAX_LOG, collect: 0xffff };
@@ -119,7 +122,7 @@ fn append<T>(to: &mut Vec<T>, one: T) -> Result<(), Stop> {
 }
 
 impl Driver {
-    fn new() -> Self {
+    pub(crate) fn new() -> Self {
         let effects = EffectLog::default();
         let memory = Arc::new(GuestMemory::new(FIRST_REGION, Region::NONE, effects.clone()));
         let device = ScriptedDevice::new(effects.clone());
@@ -133,8 +136,10 @@ impl Driver {
             memory,
             device,
             buffers: FIRST_BUFFERS,
+            captured: FIRST_CAPTURED,
             endpoint: None,
             row: Row::default(),
+            is_strict: false,
         }
     }
 
@@ -143,10 +148,17 @@ impl Driver {
     }
 
     /// Makes the call; its answer, if it is one that prints.
-    fn call(&mut self, call: Call) -> Result<Option<String>, Stop> {
+    pub(crate) fn call(&mut self, call: Call) -> Result<Option<String>, Stop> {
         match call {
             Call::Window { low, high } => self.memory.fill_anew(low, high.unwrap_or(Region::NONE)),
             Call::Buffers { log, collect } => self.buffers = Buffers { log, collect },
+            Call::Time { .. } => {}
+            Call::Captured(captured) => {
+                self.captured = captured;
+                if let Some(endpoint) = &mut self.endpoint {
+                    endpoint.capture_as(captured);
+                }
+            }
             Call::Hold(trb) => self.hold(&trb)?,
             Call::MakeUpIn { state } => match self.endpoint()? {
                 Endpoint::In(endpoint) => endpoint.make_up(state),
@@ -162,7 +174,7 @@ impl Driver {
             Call::CreateIn { endpoint, slot, .. } => {
                 asked(questions::of_creation(endpoint, slot))?;
                 self.row = Row::default();
-                self.endpoint = Some(Endpoint::new_in(endpoint, slot, self.connections.clone()));
+                self.endpoint = Some(Endpoint::new_in(endpoint, slot, self.captured, self.connections.clone()));
                 return self.answer_quietly().map(Some);
             }
             Call::CreateControl { release: Some(5), .. } => {
@@ -171,7 +183,7 @@ impl Driver {
             Call::CreateControl { endpoint, slot, .. } => {
                 asked(questions::of_creation(endpoint, slot))?;
                 self.row = Row::default();
-                self.endpoint = Some(Endpoint::new_control(endpoint, slot, self.connections.clone()));
+                self.endpoint = Some(Endpoint::new_control(endpoint, slot, self.captured, self.connections.clone()));
                 return self.answer_quietly().map(Some);
             }
             Call::Cancel => {
@@ -272,7 +284,7 @@ impl Driver {
             effects.extend(own_effects);
             start += own.len();
             result = fields;
-            if !result.is_ok() {
+            if !result.is_ok() || (self.is_strict && *status != Status::Success) {
                 break;
             }
             finished += 1;

@@ -8,7 +8,7 @@ use std::{
 };
 
 use crate::{
-    call::Trb,
+    call::{Captured, Trb},
     device::{
         bus::BusDeviceRef,
         pcap::EndpointPcapMeta,
@@ -59,23 +59,41 @@ pub struct Connections {
     pub events: EventSender,
 }
 
-/// The bus number of captures, which are switched off.
-const CAPTURE_BUS: u16 = 1;
+fn in_meta(endpoint: u8, captured: Captured) -> EndpointPcapMeta {
+    let Captured { bus, device, is_interrupt } = captured;
+    match is_interrupt {
+        true => EndpointPcapMeta::interrupt(bus, device, endpoint),
+        false => EndpointPcapMeta::bulk(bus, device, endpoint),
+    }
+}
+
+fn control_meta(endpoint: u8, captured: Captured) -> EndpointPcapMeta {
+    EndpointPcapMeta::control(captured.bus, captured.device, endpoint)
+}
 
 impl Endpoint {
-    pub fn new_in(endpoint: u8, slot: u8, to: Connections) -> Self {
-        let meta = EndpointPcapMeta::bulk(CAPTURE_BUS, slot, endpoint);
+    pub fn new_in(endpoint: u8, slot: u8, captured: Captured, to: Connections) -> Self {
+        let meta = in_meta(endpoint, captured);
         Self::In(In {
             handle: TdBasedInEndpointHandle::new(slot, endpoint, meta, to.device, to.memory, to.events),
             submission_due: true,
         })
     }
 
-    pub fn new_control(endpoint: u8, slot: u8, to: Connections) -> Self {
-        let meta = EndpointPcapMeta::control(CAPTURE_BUS, slot, endpoint);
+    pub fn new_control(endpoint: u8, slot: u8, captured: Captured, to: Connections) -> Self {
+        let meta = control_meta(endpoint, captured);
         Self::Control(Control {
             handle: ControlEndpointHandle::new(slot, endpoint, meta, to.device, to.memory, to.events),
         })
+    }
+
+    /// What the Rust's captures say of the endpoint from here on.
+    pub fn capture_as(&mut self, captured: Captured) {
+        let (endpoint, _) = self.ids();
+        match self {
+            Self::In(In { handle, .. }) => handle.capture_as(in_meta(endpoint, captured)),
+            Self::Control(Control { handle }) => handle.capture_as(control_meta(endpoint, captured)),
+        }
     }
 
     pub fn submit(&mut self, trb: &Trb) {

@@ -2,7 +2,7 @@
 
 use crate::{
     call::{
-        parse, Call, Kind, Region, Status, Trb, CHAIN, CYCLE, DIRECTION, IMMEDIATE_DATA, INTERRUPT_ON_COMPLETION, INTERRUPT_ON_SHORT,
+        parse, Call, Captured, Kind, Region, Status, Trb, CHAIN, CYCLE, DIRECTION, IMMEDIATE_DATA, INTERRUPT_ON_COMPLETION, INTERRUPT_ON_SHORT,
         MAX_COLLECT, MAX_DATA, MAX_WINDOW,
     },
     model::{Due, Model, Phase, Script, PHASES},
@@ -487,4 +487,30 @@ pub fn raw_script(seed: u64, count: usize) -> String {
         _ => format!("{line}\n"),
     };
     script(seed, count).lines().map(&mut raw).collect()
+}
+
+const MICROSECONDS: [u32; 5] = [0, 1, 500_000, 999_998, 999_999];
+
+/// The same script, or a script of rows, with times and with what captures say of the endpoint, before any of its lines.
+pub fn captured_script(seed: u64, count: usize) -> String {
+    let mut random = Random::new(seed ^ 0x0063_6170);
+    let any_script = if random.percent(25) { row_script(seed, count.div_ceil(8)) } else { script(seed, count) };
+    let mut text = String::new();
+    for line in any_script.lines() {
+        if random.percent(10) {
+            let microseconds = random.pick(&MICROSECONDS);
+            let seconds = random.number() as u32;
+            text.push_str(&format!("{}\n", Call::Time { seconds, microseconds }));
+        }
+        if random.percent(3) {
+            let any = random.number();
+            let bus = random.pick(&[0, 1, 255, 256, u16::MAX, any as u16]);
+            let device = random.pick(&[0, 1, 127, 255, (any >> 16) as u8]);
+            let captured = Captured { bus, device, is_interrupt: random.percent(50) };
+            text.push_str(&format!("{}\n", Call::Captured(captured)));
+        }
+        text.push_str(line);
+        text.push('\n');
+    }
+    text
 }

@@ -1,6 +1,7 @@
 //! The control and IN endpoints of usbvfiod, unchanged, behind a driver for call scripts.
 
 pub mod call;
+pub mod captured;
 pub mod compare;
 #[allow(dead_code, unused_imports, clippy::all)]
 pub mod device;

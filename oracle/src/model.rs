@@ -196,6 +196,7 @@ impl Script {
             Call::CreateIn { .. } => self.model = Some(Model::new_in()),
             Call::CreateControl { .. } => self.model = Some(Model::new_control()),
             Call::AppendTrb(_) | Call::AppendResult { .. } | Call::CompleteRow { .. } => {}
+            Call::Time { .. } | Call::Captured(_) => {}
             _ => self.on_endpoint(call),
         }
     }

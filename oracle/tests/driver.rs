@@ -67,6 +67,19 @@ fn bad_lines() {
         "e 4 0",
         "e 0 100000000",
         "r 140001",
+        "t 0",
+        "t 100000000 0",
+        "t 0 100000000",
+        "t 0 0 0",
+        "t 00 0",
+        "m 1 1",
+        "m 10000 1 3",
+        "m 1 100 3",
+        "m 1 1 0",
+        "m 1 1 2",
+        "m 1 1 4",
+        "m 1 1 03",
+        "m 1 1 3 0",
         "x\r",
         "d 0",
         "l",
@@ -164,6 +177,7 @@ fn accepted_at_the_limits() {
         "i 3 2\nh 1 0 10 8000 8\np 2\nd 0 8\n",
         "i 3 2\nb 0 0\nx\n",
         "i 3 2\nb 8000 0\ns 8 0 0 0 0\n",
+        "t ffffffff ffffffff\nm ffff ff 1\nm 0 0 3\ni 3 2\nt 0 f423f\nm 1 1 1\nc 3 2\nm 2 2 3\n",
     ];
     for script in cases {
         assert_eq!(stop(script), None, "{script:?}");

@@ -27,7 +27,8 @@ use Rattle.td_part.specs.Parts.{edtlaAfter}
 use Rattle.in_td.specs.Td.{normals, failsAtLast, processTd, inTd}
 use Rattle.in_td.specs.declared.InMode.{InMode}
 use Rattle.in_td.specs.declared.InTd.{InTd}
-use Rattle.account.specs.Guest.{normalOf, normalLength, requested, through, isHeld, range, normalRange, places, Apart, Distinct, IspIfNormal, IspOnNormals, NormalWithIoc, LastNormalWithIoc, isWrite, isEvent, isUnsuccessful, any, relied, sumFor, residualIn, account, namesHeld, countBefore, before, numbered, standsFor, bytes, Account}
+use Rattle.in_td.specs.Normals.{normalOf, normalLength, requested}
+use Rattle.account.specs.Guest.{through, isHeld, range, normalRange, places, Apart, Distinct, IspIfNormal, IspOnNormals, NormalWithIoc, LastNormalWithIoc, isWrite, isEvent, isUnsuccessful, any, relied, sumFor, residualIn, account, namesHeld, countBefore, before, numbered, standsFor, bytes, Account}
 use Rattle.account.proofs.GuestLaws.{length-range, take-append-range, getD-range, length-normalRange, length-places, take-places-min, apart-isHeld, length-numbered, getD-numbered, numbered-take, bytes-append, any-append, bytes-none, any-at, first-at, beforeFirst-at, beforeLast-at, first-none}
 use Rattle.account.proofs.StepLaws.{normal-or-other, normalCount-other, leftFrom, fullWrite, fullEvent, fullRecords, failedEvent, Fails, fails-last, isUnsuccessful-failed, quiet-full, bytes-full, missing, shortWrite, shortEvent, shortDue-isp, isUnsuccessful-shortCode}
 use Rattle.account.proofs.TdLog.{logFrom, log-none, OtherLog, other-log, full-log, failed-log, ShortLog, short-log}

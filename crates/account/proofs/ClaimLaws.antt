@@ -9,7 +9,8 @@ use lib.ListN.{take}
 use Rattle.trb.specs.declared.TransferTrb.{TransferTrb}
 use Rattle.trb.proofs.TestLaws.{and-left, and-right}
 use Rattle.log.specs.declared.Record.{Record}
-use Rattle.account.specs.Guest.{requested, places, isWrite, isEvent, any, relied, sumFor, residualIn, account, namesHeld, before, later, numbered, bytes, Account}
+use Rattle.in_td.specs.Normals.{requested}
+use Rattle.account.specs.Guest.{places, isWrite, isEvent, any, relied, sumFor, residualIn, account, namesHeld, before, later, numbered, bytes, Account}
 use Rattle.account.specs.Claims.{same, accounts}
 
 same-refl : (xs : List (ℕ × ℕ)) → same xs xs ≡ true

@@ -14,7 +14,8 @@ use Rattle.trb.specs.declared.NormalTrb.{NormalTrb}
 use Rattle.trb.specs.declared.TransferTrb.{TransferTrb}
 use Rattle.trb.proofs.TestLaws.{or-false-left, or-false-right, le-or-lt}
 use Rattle.log.specs.declared.Record.{Record}
-use Rattle.account.specs.Guest.{normalOf, lengthOf, normalLength, requested, isHeld, range, rangeOf, normalRange, places, Apart, isWrite, any, first, beforeFirst, beforeLast, numbered, standsFor, bytes, writeLengths}
+use Rattle.in_td.specs.Normals.{normalOf, lengthOf, normalLength, requested}
+use Rattle.account.specs.Guest.{isHeld, range, rangeOf, normalRange, places, Apart, isWrite, any, first, beforeFirst, beforeLast, numbered, standsFor, bytes, writeLengths}
 
 -- ---- Places
 

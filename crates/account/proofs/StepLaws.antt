@@ -31,7 +31,8 @@ use Rattle.in_td.specs.declared.InMode.{InMode}
 use Rattle.in_td.specs.declared.InMode.the-variants.{AsPorted, Strict}
 use Rattle.in_td.specs.declared.InTd.{InTd}
 use Rattle.in_td.specs.declared.TdProcessed.{TdProcessed}
-use Rattle.account.specs.Guest.{normalOf, requested, range, isWrite, isUnsuccessful, any, numbered, bytes}
+use Rattle.in_td.specs.Normals.{normalOf, requested}
+use Rattle.account.specs.Guest.{range, isWrite, isUnsuccessful, any, numbered, bytes}
 use Rattle.account.specs.Strict.{failureCode, failureResult}
 use Rattle.account.proofs.GuestLaws.{bytes-none}
 

@@ -31,7 +31,8 @@ use Rattle.in_td.specs.Td.{isNormal, normals, failsAtLast, normalIn, handleNorm
 use Rattle.in_td.specs.declared.InMode.the-variants.{AsPorted, Strict}
 use Rattle.in_td.specs.declared.InTd.{InTd}
 use Rattle.in_td.specs.declared.TdProcessed.{TdProcessed}
-use Rattle.account.specs.Guest.{normalOf, requested, isWrite, any}
+use Rattle.in_td.specs.Normals.{normalOf, requested}
+use Rattle.account.specs.Guest.{isWrite, any}
 use Rattle.account.specs.Strict.{failureCode, failureResult, lastOf, lastNormal, throughLastWrite, toldBy, failedAt, strictly}
 use Rattle.account.proofs.GuestLaws.{any-append}
 use Rattle.account.proofs.StepLaws.{normal-or-other, normalCount-other, requested-none, reached, any-when, Passed, passed-step, leftFrom, fullEvent, fullRecords, Fails, fails-last, full-step, missing, Shortened, short-step, Later, later-step}

@@ -19,7 +19,8 @@ use Rattle.in_td.specs.Td.{processTrb, ended}
 use Rattle.in_td.specs.declared.InTd.{InTd}
 use Rattle.in_td.specs.declared.TdProcessed.{TdProcessed}
 use Rattle.in_td.proofs.TdLaws.{tdWalker}
-use Rattle.account.specs.Guest.{normalOf, isWrite, isUnsuccessful, any}
+use Rattle.in_td.specs.Normals.{normalOf}
+use Rattle.account.specs.Guest.{isWrite, isUnsuccessful, any}
 use Rattle.account.specs.Strict.{failureResult}
 use Rattle.account.proofs.GuestLaws.{any-append}
 use Rattle.account.proofs.StepLaws.{reached, Passed, passed-step, leftFrom, fullWrite, fullRecords, failedEvent, Fails, Failed, full-step, failed-step, missing, shortDue, shortWrite, shortEvent, Shortened, short-step, Later, later-step}

@@ -24,7 +24,8 @@ use Rattle.td_part.specs.Parts.{edtlaAfter}
 use Rattle.in_td.specs.Td.{normals, failsAtLast, processTd, inTd}
 use Rattle.in_td.specs.declared.InMode.{InMode}
 use Rattle.in_td.specs.declared.InTd.{InTd}
-use Rattle.account.specs.Guest.{normalOf, requested, range, normalRange, places, isWrite, any, numbered, standsFor, bytes, writeLengths}
+use Rattle.in_td.specs.Normals.{normalOf, requested}
+use Rattle.account.specs.Guest.{range, normalRange, places, isWrite, any, numbered, standsFor, bytes, writeLengths}
 use Rattle.account.proofs.GuestLaws.{length-range, take-append-range, length-normalRange, length-places, take-places-min, length-numbered, numbered-take, bytes-append, bytes-none, any-append}
 use Rattle.account.proofs.StepLaws.{normal-or-other, normalCount-other, requested-none, Fails, fails-last, any-when, leftFrom, fullRecords, bytes-full, shortDue, shortEvent}
 use Rattle.account.proofs.TdLog.{logFrom, log-none, OtherLog, other-log, full-log, failed-log, ShortLog, short-log}

@@ -21,7 +21,8 @@ use Rattle.walks.specs.Walk.{walk}
 use Rattle.in_td.specs.Td.{handleNormal, processTrb, processTd, inTd}
 use Rattle.in_td.specs.declared.InMode.{InMode}
 use Rattle.in_td.specs.declared.InMode.the-variants.{AsPorted, Strict}
-use Rattle.account.specs.Guest.{requested, places, isWrite, isEvent, any, relied, sumFor, residualIn, account, namesHeld, before, later, numbered, bytes}
+use Rattle.in_td.specs.Normals.{requested}
+use Rattle.account.specs.Guest.{places, isWrite, isEvent, any, relied, sumFor, residualIn, account, namesHeld, before, later, numbered, bytes}
 
 -- ---- The test
 

@@ -20,7 +20,8 @@ use Rattle.log.specs.declared.Record.{Record}
 use Rattle.in_td.specs.Td.{isNormal, processTd, inTd}
 use Rattle.in_td.specs.declared.InMode.the-variants.{AsPorted}
 use Rattle.in_td.specs.declared.TdProcessed.{TdProcessed}
-use Rattle.account.specs.Guest.{requested, isWrite, beforeLast}
+use Rattle.in_td.specs.Normals.{requested}
+use Rattle.account.specs.Guest.{isWrite, beforeLast}
 
 -- a status other than Success
 abbrev pub isFailure : InTrbProcessingStatus → Bool

@@ -156,26 +156,26 @@ fn text_buffer() -> [u8; TEXT]
     [0u8; TEXT]
 }
 
-fn log_buffer() -> [u8; call_script::MAX_LENT_LOG]
+pub fn log_buffer() -> [u8; call_script::MAX_LENT_LOG]
     ensures { λ r. ⌜ length r ≡ maxLentLog ⌝ }
 {
     [0u8; call_script::MAX_LENT_LOG]
 }
 
-fn collect_buffer() -> [u8; call_script::MAX_LENT_COLLECT]
+pub fn collect_buffer() -> [u8; call_script::MAX_LENT_COLLECT]
     ensures { λ r. ⌜ length r ≡ maxLentCollect ⌝ }
 {
     [0u8; call_script::MAX_LENT_COLLECT]
 }
 
 // Either region may have all of guest memory.
-fn region_buffer() -> [u8; call_script::MAX_WINDOW]
+pub fn region_buffer() -> [u8; call_script::MAX_WINDOW]
     ensures { λ r. ⌜ length r ≡ maxWindow ⌝ }
 {
     [0u8; call_script::MAX_WINDOW]
 }
 
-fn data_buffer() -> [u8; call_script::MAX_SCRIPT_DATA]
+pub fn data_buffer() -> [u8; call_script::MAX_SCRIPT_DATA]
     ensures { λ r. ⌜ length r ≡ maxScriptData ⌝ }
 {
     [0u8; call_script::MAX_SCRIPT_DATA]

@@ -54,7 +54,7 @@ pub struct Survey {
 }
 
 // Do the bytes start with a whole record? `extra` is the number of bytes that its usbmon header has beyond 48.
-fn whole_record(rest: &[u8], extra: usize, most: u32) -> bool
+pub fn whole_record(rest: &[u8], extra: usize, most: u32) -> bool
     requires { ⌜ extra ≤ 16 ⌝ }
     ensures { λ r. ⌜ r ≡ wholeRecord extra most (now (rest .entry)) ⌝ }
 {

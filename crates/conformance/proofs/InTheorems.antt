@@ -24,7 +24,7 @@ use Rattle.in_td.specs.declared.InMode.{InMode}
 use Rattle.in_td.specs.declared.InMode.the-variants.{AsPorted, Strict}
 use Rattle.in_td.specs.declared.TdProcessed.{TdProcessed}
 use Rattle.standard.specs.Xhci.{Trb, Outcome, ended, outcome, asked, repeatedResidual, events, deliveries, haltedAt, success, usbTransactionError, trbError, stallError, shortPacket}
-use Rattle.account.specs.Guest.{normalOf, lengthOf, requested}
+use Rattle.in_td.specs.Normals.{normalOf, lengthOf, requested}
 use Rattle.account.specs.Strict.{isFailure, Told, toldBy}
 use Rattle.account.proofs.StrictLaws.{lastNormal-none, told-strictly}
 use Rattle.conformance.specs.Translate.{trbIn, tdOf, told, wrote, endingOf, outcomeIn, Agreed, HasNormal, haltOf, haltIn}

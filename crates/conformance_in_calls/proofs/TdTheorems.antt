@@ -38,7 +38,7 @@ use Rattle.in_block.specs.Blocks.{inBlock, freshBlock}
 use Rattle.in_block.specs.Facts.{soundBlock}
 use Rattle.in_block.specs.declared.InBlock.{InBlock}
 use Rattle.in_endpoint.specs.Submission.{requestOf}
-use Rattle.account.specs.Guest.{requested}
+use Rattle.in_td.specs.Normals.{requested}
 use Rattle.row_walk.specs.Rows.{RowTd, hasNormal, completed, ownLog}
 use Rattle.row_questions.specs.Questions.{eachTrb, isSuccess, supportedIn}
 use Rattle.row_questions.proofs.QuestionLaws.{PassedTrb, passed-trb}

@@ -18,42 +18,50 @@ ghost use Prim.Native.Nat.{_+_, _≤_};
 ghost use lib.ListN.{length};
 ghost use Rattle.trb.specs.Limits.{minRowLog};
 ghost use Rattle.state_text.specs.Widths.{maxState, maxAnswer};
+ghost use Rattle.guest_memory.specs.Places.{memoryOf};
+ghost use Rattle.call_answer.specs.Called.{badSaid, silentSaid};
+ghost use Rattle.control_calls.specs.Calls.{standing, createCall, collectAfter, submitCall, completeCall, cancelCall, holdCall, madeUp, resultOf, controlCall, collectBehind, Stated, silentRan, Says, Runs, RunsWith};
 
-// What a call leaves: the block, the index behind the answer, and whether the line was good.
+// What a call leaves: the block, the index behind the answer, how many records it logged, and whether the line was good.
 pub struct ControlRan {
     pub block: ControlBlock,
     pub end: usize,
+    pub records: usize,
     pub good: bool,
 }
 
 fn bad(block: ControlBlock, at: usize) -> ControlRan
-    ensures { λ r. ⌜ r .end ≡ at ⌝ }
+    ensures { λ r. ⌜ r ≡ silentRan (badSaid block) at ⌝ }
 {
     ControlRan {
         block: block,
         end: at,
+        records: 0,
         good: false,
     }
 }
 
 // A call that prints nothing.
 fn silent(block: ControlBlock, at: usize) -> ControlRan
-    ensures { λ r. ⌜ r .end ≡ at ⌝ }
+    ensures { λ r. ⌜ r ≡ silentRan (silentSaid block) at ⌝ }
 {
     ControlRan {
         block: block,
         end: at,
+        records: 0,
         good: true,
     }
 }
 
 // What the block is at; `collect` is the whole collect buffer.
-fn standing(block: ControlBlock, collect: &[u8]) -> ControlStanding {
+fn standing(block: ControlBlock, collect: &[u8]) -> ControlStanding
+    ensures { λ r. ⌜ r ≡ standing block (now (collect .entry)) ⌝ }
+{
     let phase = block.phase;
     let state = block.state;
     let request = block.request;
-    let in_reach = call_script::least(collect.len(), trb::MAX_COLLECTED);
-    let collected = call_script::least(block.collected, in_reach);
+    let named = call_script::least(block.collected, trb::MAX_COLLECTED);
+    let collected = call_script::least(named, collect.len());
     ControlStanding {
         phase: phase,
         state: state,
@@ -65,15 +73,22 @@ fn standing(block: ControlBlock, collect: &[u8]) -> ControlStanding {
     }
 }
 
-// Writes the state line.
-fn answered(text: &mut [u8], at: usize, block: ControlBlock, collect: &[u8]) -> ControlRan
+// Writes the state line, behind the answer of a call that logged so many records.
+fn answered(
+    text: &mut [u8],
+    at: usize,
+    block: ControlBlock,
+    collect: &[u8],
+    records: usize,
+) -> ControlRan
     requires { ⌜ at + maxState ≤ length (now text) ⌝ }
-    ensures { λ r. ⌜ r .end ≤ at + maxState ⌝ }
+    ensures { λ r. ⌜ Stated block (now (collect .entry)) records (now (text .entry)) at r (now (text .exit)) ⌝ }
 {
     let end = state_text::put_control_line(text, at, standing(block, collect));
     ControlRan {
         block: block,
         end: end,
+        records: records,
         good: true,
     }
 }
@@ -87,13 +102,13 @@ pub fn create(
     collect: &[u8],
 ) -> ControlRan
     requires { ⌜ at + maxAnswer ≤ length (now text) ⌝ }
-    ensures { λ r. ⌜ r .end ≤ at + maxAnswer ⌝ }
+    ensures { λ r. ⌜ Says (createCall «endpoint_id» «slot_id» release (now (collect .entry))) (now (text .entry)) at r (now (text .exit)) ⌝ }
 {
     let created = control_endpoint::create(endpoint_id, slot_id, release);
     let answer = created.answer;
     let block = created.block;
     let next = call_answer::put_answer(text, at, answer, 0, &[]);
-    answered(text, next, block, collect)
+    answered(text, next, block, collect, 0)
 }
 
 // Of the collect buffer, the first `lent` bytes are lent.
@@ -112,7 +127,7 @@ fn submit<'a>(
 ) -> ControlRan
     requires { ⌜ at + maxAnswer ≤ length (now text) ⌝ }
     requires { ⌜ length (now log) ≤ minRowLog ⌝ }
-    ensures { λ r. ⌜ r .end ≤ at + maxAnswer ⌝ }
+    ensures { λ r. ⌜ RunsWith (submitCall block t lent (now (collect .entry)) (now (log .entry)) (memoryOf «low_base» (now (low .entry)) «high_base» (now (high .entry)))) (collectAfter block t lent (now (collect .entry)) (now (log .entry)) (memoryOf «low_base» (now (low .entry)) «high_base» (now (high .entry)))) (now (text .entry)) at r (now (text .exit)) (now (log .exit)) (now (collect .exit)) (memoryOf «low_base» (now (low .entry)) «high_base» (now (high .entry))) ⌝ }
 {
     let end = call_script::least(lent, collect.len());
     let submitted = control_endpoint::submit_trb(
@@ -128,7 +143,7 @@ fn submit<'a>(
     let answer = submitted.answer;
     let after = submitted.block;
     let next = call_answer::put_answer(text, at, answer, submitted.records, log);
-    answered(text, next, after, collect)
+    answered(text, next, after, collect, submitted.records)
 }
 
 fn complete(
@@ -146,7 +161,7 @@ fn complete(
 ) -> ControlRan
     requires { ⌜ at + maxAnswer ≤ length (now text) ⌝ }
     requires { ⌜ length (now log) ≤ minRowLog ⌝ }
-    ensures { λ r. ⌜ r .end ≤ at + maxAnswer ⌝ }
+    ensures { λ r. ⌜ Runs (completeCall block result (now («data» .entry)) (now (collect .entry)) (now (log .entry)) (memoryOf «low_base» (now (low .entry)) «high_base» (now (high .entry)))) (now (text .entry)) at r (now (text .exit)) (now (log .exit)) (memoryOf «low_base» (now (low .exit)) «high_base» (now (high .exit))) ⌝ }
 {
     let completed = control_endpoint::next_completion(log, block, result, data);
     let answer = completed.answer;
@@ -163,11 +178,13 @@ fn complete(
         high_base,
         high,
     );
-    answered(text, next, after, collect)
+    answered(text, next, after, collect, completed.records)
 }
 
 // A device result of a script as a control endpoint takes it.
-fn result_of(status: DeviceStatus) -> ControlRequestProcessingResult {
+pub fn result_of(status: DeviceStatus) -> ControlRequestProcessingResult
+    ensures { λ r. ⌜ r ≡ resultOf status ⌝ }
+{
     match status {
         DeviceStatus::Success => ControlRequestProcessingResult::SuccessfulControlIn,
         DeviceStatus::Stall => ControlRequestProcessingResult::Stall,
@@ -179,15 +196,15 @@ fn result_of(status: DeviceStatus) -> ControlRequestProcessingResult {
 
 fn cancel(text: &mut [u8], at: usize, block: ControlBlock, collect: &[u8]) -> ControlRan
     requires { ⌜ at + maxAnswer ≤ length (now text) ⌝ }
-    ensures { λ r. ⌜ r .end ≤ at + maxAnswer ⌝ }
+    ensures { λ r. ⌜ Says (cancelCall block (now (collect .entry))) (now (text .entry)) at r (now (text .exit)) ⌝ }
 {
     let after = control_endpoint::cancel(block);
     let next = call_answer::put_answer(text, at, Answer::Accepted, 0, &[]);
-    answered(text, next, after, collect)
+    answered(text, next, after, collect, 0)
 }
 
 fn hold(at: usize, block: ControlBlock, t: TransferTrb) -> ControlRan
-    ensures { λ r. ⌜ r .end ≡ at ⌝ }
+    ensures { λ r. ⌜ r ≡ silentRan (holdCall block t) at ⌝ }
 {
     if trb::MAX_HELD <= block.held {
         return bad(block, at);
@@ -205,7 +222,7 @@ fn make_up(
     direction: bool,
     length: u32,
 ) -> ControlRan
-    ensures { λ r. ⌜ r .end ≡ at ⌝ }
+    ensures { λ r. ⌜ r ≡ silentRan (silentSaid (madeUp block phase state direction length)) at ⌝ }
 {
     let named = block.request;
     let request = UsbRequest {
@@ -243,7 +260,7 @@ pub fn run(
 ) -> ControlRan
     requires { ⌜ at + maxAnswer ≤ length (now text) ⌝ }
     requires { ⌜ length (now log) ≤ minRowLog ⌝ }
-    ensures { λ r. ⌜ r .end ≤ at + maxAnswer ⌝ }
+    ensures { λ r. ⌜ RunsWith (controlCall block call (now («data» .entry)) lent (now (collect .entry)) (now (log .entry)) (memoryOf «low_base» (now (low .entry)) «high_base» (now (high .entry)))) (collectBehind block call lent (now (collect .entry)) (now (log .entry)) (memoryOf «low_base» (now (low .entry)) «high_base» (now (high .entry)))) (now (text .entry)) at r (now (text .exit)) (now (log .exit)) (now (collect .exit)) (memoryOf «low_base» (now (low .exit)) «high_base» (now (high .exit))) ⌝ }
 {
     match call {
         Call::Window(_, _, _, _) => bad(block, at),
@@ -309,6 +326,8 @@ pub fn run(
         Call::AppendTrb(_) => bad(block, at),
         Call::AppendResult(_, _) => bad(block, at),
         Call::CompleteRow(_) => bad(block, at),
+        Call::Time(_, _) => bad(block, at),
+        Call::Captured(_, _, _) => bad(block, at),
         Call::Bad => bad(block, at),
     }
 }

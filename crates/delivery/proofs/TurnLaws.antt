@@ -14,7 +14,7 @@ use Rattle.trb.specs.declared.TransferTrb.{TransferTrb}
 use Rattle.guest_memory.specs.declared.Regions.{Regions}
 use Rattle.guest_memory.specs.Places.{rangeInside}
 use Rattle.held.specs.Places.{pastEnd}
-use Rattle.account.specs.Guest.{normalOf, lengthOf}
+use Rattle.in_td.specs.Normals.{normalOf, lengthOf}
 use Rattle.delivery_laws.specs.Ranges.{pointerOf, writeInside, writesInside}
 
 module _ (regions : Regions) where

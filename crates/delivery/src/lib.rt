@@ -20,7 +20,7 @@ ghost use Rattle.trb.specs.Limits.{recordLength};
 ghost use Rattle.trb.specs.Questions.{firstNo};
 ghost use Rattle.guest_memory.specs.Places.{memoryOf};
 ghost use Rattle.carry_out.specs.CarryOut.{Carried};
-ghost use Rattle.account.specs.Guest.{normalOf, lengthOf};
+ghost use Rattle.in_td.specs.Normals.{normalOf, lengthOf};
 ghost use Rattle.in_block.specs.Facts.{heldTest, awaitsDevice};
 ghost use Rattle.delivery_laws.specs.Ranges.{pointerOf, writesInside};
 ghost use Rattle.delivery.specs.Completing.{deliveryQuestions, Delivers};

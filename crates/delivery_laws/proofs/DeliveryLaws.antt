@@ -24,7 +24,8 @@ use Rattle.carry_out.specs.Writes.{movesBytes, writesInRange, afterRecord, writ
 use Rattle.carry_out.specs.CarryOut.{Carried}
 use Rattle.carry_out.proofs.WriteLaws.{writesInRange-cons, regionsOf-written, written-append}
 use Rattle.carry_out.proofs.CarryOutLaws.{wellFormed-encodeAll, recordsOf-encodeAll, answerOf-encodeAll, memoryAfter-encodeAll}
-use Rattle.account.specs.Guest.{requested, places, isWrite, any, countBefore, before, later, numbered, Account}
+use Rattle.in_td.specs.Normals.{requested}
+use Rattle.account.specs.Guest.{places, isWrite, any, countBefore, before, later, numbered, Account}
 use Rattle.account.proofs.GuestLaws.{length-places}
 use Rattle.delivery_laws.specs.Laid.{laid, byteAt, allInside, NoneTwice}
 use Rattle.delivery_laws.specs.Delivered.{firstPlaces, Delivered}

@@ -20,7 +20,8 @@ use Rattle.guest_memory.specs.Places.{inRegion, placeOf, isInside, rangeInside}
 use Rattle.guest_memory.proofs.PlaceLaws.{inRegion-in, placeOf-low, placeOf-high, placed-low, placed-high}
 use Rattle.carry_out.specs.Writes.{movesBytes, writeInRange, writesInRange}
 use Rattle.carry_out.proofs.WriteLaws.{writesInRange-cons}
-use Rattle.account.specs.Guest.{normalOf, normalLength, range, numbered, standsFor, isWrite}
+use Rattle.in_td.specs.Normals.{normalOf, normalLength}
+use Rattle.account.specs.Guest.{range, numbered, standsFor, isWrite}
 use Rattle.account.specs.Guest as guest
 use Rattle.in_request.specs.Requests.{inGuestMemory}
 use Rattle.delivery_laws.specs.Laid.{allInside}

@@ -26,7 +26,8 @@ use Rattle.td_part.specs.Parts.{edtlaAfter}
 use Rattle.in_td.specs.Td.{normals, failsAtLast, processTd, inTd}
 use Rattle.in_td.specs.declared.InMode.{InMode}
 use Rattle.in_td.specs.declared.InTd.{InTd}
-use Rattle.account.specs.Guest.{normalOf, normalLength, isWrite, any}
+use Rattle.in_td.specs.Normals.{normalOf, normalLength}
+use Rattle.account.specs.Guest.{isWrite, any}
 use Rattle.account.proofs.StepLaws.{normal-or-other, normalCount-other, Fails, fails-last, any-when, leftFrom, fullEvent, fullRecords, failedEvent, shortDue, shortWrite, shortEvent}
 use Rattle.account.proofs.TdLog.{logFrom, log-none, OtherLog, other-log, full-log, failed-log, ShortLog, short-log}
 use Rattle.delivery_laws.specs.Ranges.{writeInside, writesInside}

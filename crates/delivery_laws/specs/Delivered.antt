@@ -11,7 +11,8 @@ use Rattle.trb.specs.declared.TransferTrb.{TransferTrb}
 use Rattle.guest_memory.specs.Places.{Memory, regionsOf}
 use Rattle.carry_out.specs.Writes.{recordsOf}
 use Rattle.carry_out.specs.CarryOut.{Carried}
-use Rattle.account.specs.Guest.{requested, places, countBefore, numbered}
+use Rattle.in_td.specs.Normals.{requested}
+use Rattle.account.specs.Guest.{places, countBefore, numbered}
 use Rattle.delivery_laws.specs.Laid.{laid, byteAt, isAmong, NoneTwice}
 
 -- the places of the device's first min(n, S) bytes

@@ -9,7 +9,7 @@ use Rattle.trb.specs.declared.TransferTrb.{TransferTrb}
 use Rattle.walks.specs.All.{all}
 use Rattle.guest_memory.specs.declared.Regions.{Regions}
 use Rattle.guest_memory.specs.Places.{rangeInside}
-use Rattle.account.specs.Guest.{normalOf, normalLength}
+use Rattle.in_td.specs.Normals.{normalOf, normalLength}
 use Rattle.in_request.specs.Requests.{inGuestMemory}
 
 -- every Normal's range lies in one of the regions, as question 6 asks of each TRB that is submitted

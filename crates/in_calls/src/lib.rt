@@ -16,45 +16,53 @@ ghost use Prim.Native.Nat.{_+_, _≤_};
 ghost use lib.ListN.{length};
 ghost use Rattle.trb.specs.Limits.{minRowLog};
 ghost use Rattle.state_text.specs.Widths.{maxState, maxAnswer};
+ghost use Rattle.guest_memory.specs.Places.{memoryOf};
+ghost use Rattle.in_block.specs.Blocks.{withState};
+ghost use Rattle.call_answer.specs.Called.{badSaid, silentSaid};
+ghost use Rattle.in_calls.specs.Calls.{createCall, submitCall, completeCall, rowCall, cancelCall, holdCall, resultOf, resultCall, inCall, Stated, silentRan, Says, Runs};
 
-// What a call leaves: the block, the index behind the answer, and whether the line was good.
+// What a call leaves: the block, the index behind the answer, how many records it logged, and whether the line was good.
 pub struct InRan {
     pub block: InBlock,
     pub end: usize,
+    pub records: usize,
     pub good: bool,
 }
 
 fn bad(block: InBlock, at: usize) -> InRan
-    ensures { λ r. ⌜ r .end ≡ at ⌝ }
+    ensures { λ r. ⌜ r ≡ silentRan (badSaid block) at ⌝ }
 {
     InRan {
         block: block,
         end: at,
+        records: 0,
         good: false,
     }
 }
 
 // A call that prints nothing.
 fn silent(block: InBlock, at: usize) -> InRan
-    ensures { λ r. ⌜ r .end ≡ at ⌝ }
+    ensures { λ r. ⌜ r ≡ silentRan (silentSaid block) at ⌝ }
 {
     InRan {
         block: block,
         end: at,
+        records: 0,
         good: true,
     }
 }
 
-// Writes the state line.
-fn answered(text: &mut [u8], at: usize, block: InBlock) -> InRan
+// Writes the state line, behind the answer of a call that logged so many records.
+fn answered(text: &mut [u8], at: usize, block: InBlock, records: usize) -> InRan
     requires { ⌜ at + maxState ≤ length (now text) ⌝ }
-    ensures { λ r. ⌜ r .end ≤ at + maxState ⌝ }
+    ensures { λ r. ⌜ Stated block records (now (text .entry)) at r (now (text .exit)) ⌝ }
 {
     let state = block.state;
     let end = state_text::put_in_line(text, at, state, call_text::count(block.held));
     InRan {
         block: block,
         end: end,
+        records: records,
         good: true,
     }
 }
@@ -67,13 +75,13 @@ pub fn create(
     mode: InMode,
 ) -> InRan
     requires { ⌜ at + maxAnswer ≤ length (now text) ⌝ }
-    ensures { λ r. ⌜ r .end ≤ at + maxAnswer ⌝ }
+    ensures { λ r. ⌜ Says (createCall «endpoint_id» «slot_id» mode) (now (text .entry)) at r (now (text .exit)) ⌝ }
 {
     let created = in_endpoint::create(endpoint_id, slot_id, mode);
     let answer = created.answer;
     let block = created.block;
     let next = call_answer::put_answer(text, at, answer, 0, &[]);
-    answered(text, next, block)
+    answered(text, next, block, 0)
 }
 
 fn submit(
@@ -89,13 +97,13 @@ fn submit(
 ) -> InRan
     requires { ⌜ at + maxAnswer ≤ length (now text) ⌝ }
     requires { ⌜ length (now log) ≤ minRowLog ⌝ }
-    ensures { λ r. ⌜ r .end ≤ at + maxAnswer ⌝ }
+    ensures { λ r. ⌜ Runs (submitCall block t (now (log .entry)) (memoryOf «low_base» (now (low .entry)) «high_base» (now (high .entry)))) (now (text .entry)) at r (now (text .exit)) (now (log .exit)) (memoryOf «low_base» (now (low .entry)) «high_base» (now (high .entry))) ⌝ }
 {
     let submitted = in_endpoint::submit_trb(log, block, t, low_base, low, high_base, high);
     let answer = submitted.answer;
     let after = submitted.block;
     let next = call_answer::put_answer(text, at, answer, submitted.records, log);
-    answered(text, next, after)
+    answered(text, next, after, submitted.records)
 }
 
 fn complete(
@@ -112,7 +120,7 @@ fn complete(
 ) -> InRan
     requires { ⌜ at + maxAnswer ≤ length (now text) ⌝ }
     requires { ⌜ length (now log) ≤ minRowLog ⌝ }
-    ensures { λ r. ⌜ r .end ≤ at + maxAnswer ⌝ }
+    ensures { λ r. ⌜ Runs (completeCall block result (now («data» .entry)) (now (log .entry)) (memoryOf «low_base» (now (low .entry)) «high_base» (now (high .entry)))) (now (text .entry)) at r (now (text .exit)) (now (log .exit)) (memoryOf «low_base» (now (low .exit)) «high_base» (now (high .exit))) ⌝ }
 {
     let completed = in_endpoint::next_completion(log, block, result, data);
     let answer = completed.answer;
@@ -129,11 +137,13 @@ fn complete(
         high_base,
         high,
     );
-    answered(text, next, after)
+    answered(text, next, after, completed.records)
 }
 
 // A device result of a script as an IN endpoint takes it; SuccessfulControlOut is none.
-fn result_of(status: DeviceStatus) -> InTrbProcessingResult {
+pub fn result_of(status: DeviceStatus) -> InTrbProcessingResult
+    ensures { λ r. ⌜ r ≡ resultOf status ⌝ }
+{
     match status {
         DeviceStatus::Success => InTrbProcessingResult::Given(InTrbProcessingStatus::Success),
         DeviceStatus::Stall => InTrbProcessingResult::Given(InTrbProcessingStatus::Stall),
@@ -159,7 +169,7 @@ fn complete_with_result(
 ) -> InRan
     requires { ⌜ at + maxAnswer ≤ length (now text) ⌝ }
     requires { ⌜ length (now log) ≤ minRowLog ⌝ }
-    ensures { λ r. ⌜ r .end ≤ at + maxAnswer ⌝ }
+    ensures { λ r. ⌜ Runs (resultCall block (resultOf status) (now («data» .entry)) (now (log .entry)) (memoryOf «low_base» (now (low .entry)) «high_base» (now (high .entry)))) (now (text .entry)) at r (now (text .exit)) (now (log .exit)) (memoryOf «low_base» (now (low .exit)) «high_base» (now (high .exit))) ⌝ }
 {
     let result = result_of(status);
     match result {
@@ -181,15 +191,15 @@ fn complete_with_result(
 
 fn cancel(text: &mut [u8], at: usize, block: InBlock) -> InRan
     requires { ⌜ at + maxAnswer ≤ length (now text) ⌝ }
-    ensures { λ r. ⌜ r .end ≤ at + maxAnswer ⌝ }
+    ensures { λ r. ⌜ Says (cancelCall block) (now (text .entry)) at r (now (text .exit)) ⌝ }
 {
     let after = in_endpoint::cancel(block);
     let next = call_answer::put_answer(text, at, Answer::Accepted, 0, &[]);
-    answered(text, next, after)
+    answered(text, next, after, 0)
 }
 
 fn hold(at: usize, block: InBlock, t: TransferTrb) -> InRan
-    ensures { λ r. ⌜ r .end ≡ at ⌝ }
+    ensures { λ r. ⌜ r ≡ silentRan (holdCall block t) at ⌝ }
 {
     if trb::MAX_HELD <= block.held {
         return bad(block, at);
@@ -199,7 +209,7 @@ fn hold(at: usize, block: InBlock, t: TransferTrb) -> InRan
 }
 
 fn make_up(at: usize, block: InBlock, state: TdBasedNormalSubmissionState) -> InRan
-    ensures { λ r. ⌜ r .end ≡ at ⌝ }
+    ensures { λ r. ⌜ r ≡ silentRan (silentSaid (withState block state)) at ⌝ }
 {
     let after = in_block::with_state(block, state);
     silent(after, at)
@@ -223,7 +233,7 @@ pub fn complete_row(
 ) -> InRan
     requires { ⌜ at + maxAnswer ≤ length (now text) ⌝ }
     requires { ⌜ length (now log) ≤ minRowLog ⌝ }
-    ensures { λ r. ⌜ r .end ≤ at + maxAnswer ⌝ }
+    ensures { λ r. ⌜ Runs (rowCall block row count results tds (now («data» .entry)) (now (log .entry)) (memoryOf «low_base» (now (low .entry)) «high_base» (now (high .entry)))) (now (text .entry)) at r (now (text .exit)) (now (log .exit)) (memoryOf «low_base» (now (low .exit)) «high_base» (now (high .exit))) ⌝ }
 {
     let completed = in_row::complete_tds(
         log,
@@ -253,7 +263,7 @@ pub fn complete_row(
         high_base,
         high,
     );
-    answered(text, next, after)
+    answered(text, next, after, completed.records)
 }
 
 // Makes a call on the endpoint. `data` is the device's data, of which the call says how much is given.
@@ -271,7 +281,7 @@ pub fn run(
 ) -> InRan
     requires { ⌜ at + maxAnswer ≤ length (now text) ⌝ }
     requires { ⌜ length (now log) ≤ minRowLog ⌝ }
-    ensures { λ r. ⌜ r .end ≤ at + maxAnswer ⌝ }
+    ensures { λ r. ⌜ Runs (inCall block call (now («data» .entry)) (now (log .entry)) (memoryOf «low_base» (now (low .entry)) «high_base» (now (high .entry)))) (now (text .entry)) at r (now (text .exit)) (now (log .exit)) (memoryOf «low_base» (now (low .exit)) «high_base» (now (high .exit))) ⌝ }
 {
     match call {
         Call::Window(_, _, _, _) => bad(block, at),
@@ -316,6 +326,8 @@ pub fn run(
         Call::AppendTrb(_) => bad(block, at),
         Call::AppendResult(_, _) => bad(block, at),
         Call::CompleteRow(_) => bad(block, at),
+        Call::Time(_, _) => bad(block, at),
+        Call::Captured(_, _, _) => bad(block, at),
         Call::Bad => bad(block, at),
     }
 }

@@ -14,7 +14,7 @@ use Rattle.trb.specs.declared.TransferTrb.{TransferTrb}
 use Rattle.held.specs.Places.{pastEnd}
 use Rattle.held.specs.Sound.{supported}
 use Rattle.held.specs.declared.EndpointKind.the-variants.{In}
-use Rattle.account.specs.Guest.{normalOf, lengthOf, requested}
+use Rattle.in_td.specs.Normals.{normalOf, lengthOf, requested}
 use Rattle.in_block.specs.Blocks.{heldOf, stored}
 use Rattle.in_block.specs.Facts.{trbTest, factsOf, soundBlock}
 use Rattle.in_block.specs.Outcomes.{endedTd, outcomeOf}

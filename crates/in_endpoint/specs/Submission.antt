@@ -13,7 +13,7 @@ use Rattle.log.specs.Calls.{Out, silent, Meets}
 use Rattle.log.specs.Records.{inRequest}
 use Rattle.log.specs.declared.Record.{Record}
 use Rattle.guest_memory.specs.declared.Regions.{Regions}
-use Rattle.account.specs.Guest.{requested}
+use Rattle.in_td.specs.Normals.{requested}
 use Rattle.in_block.specs.Blocks.{heldOf, withState, stored, emptied}
 use Rattle.in_block.specs.Facts.{heldTest, factsOf}
 use Rattle.in_block.specs.Outcomes.{outcomeOf, stateAfter}

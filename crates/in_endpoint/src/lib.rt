@@ -22,7 +22,7 @@ ghost use lib.ListN.{length, take};
 ghost use Rattle.trb.specs.Limits.{maxHeld, minLog};
 ghost use Rattle.log.specs.Calls.{Put};
 ghost use Rattle.guest_memory.specs.Regions.{guestRegions};
-ghost use Rattle.account.specs.Guest.{requested};
+ghost use Rattle.in_td.specs.Normals.{requested};
 ghost use Rattle.in_endpoint.specs.Creation.{Creates, cancelled};
 ghost use Rattle.in_endpoint.specs.Submission.{requestOf, Submits};
 ghost use Rattle.in_endpoint.specs.Completion.{unsupportedEvent, answerTo, Completes};
@@ -171,7 +171,7 @@ pub fn submit_trb(
 // ---- Completion
 
 // Reports the TRB at `addr`, which was of an unsupported kind.
-fn report_unsupported(log: &mut [u8], addr: u64, endpoint_id: EndpointId, slot_id: SlotId)
+pub fn report_unsupported(log: &mut [u8], addr: u64, endpoint_id: EndpointId, slot_id: SlotId)
     requires { ⌜ minLog ≤ length (now log) ⌝ }
     ensures { λ _. ⌜ Put (now (log .entry)) 0 (unsupportedEvent addr «endpoint_id» «slot_id» ∷ []) (now (log .exit)) ⌝ }
 {

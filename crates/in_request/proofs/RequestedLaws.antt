@@ -19,7 +19,7 @@ use Rattle.trb.proofs.TestLaws.{and-left, and-right}
 use Rattle.held.specs.Sound.{supported, soundTrb, heldSound}
 use Rattle.held.specs.declared.EndpointKind.the-variants.{In}
 use Rattle.walks.specs.All.{all}
-use Rattle.account.specs.Guest.{normalOf, lengthOf, requested}
+use Rattle.in_td.specs.Normals.{normalOf, lengthOf, requested}
 
 -- after i TRBs of ts, with their sum
 abbrev pub Summed : List TransferTrb → ℕ → ℕ → Type 0

@@ -6,7 +6,7 @@ ghost use mathlib.Core.Path.{_≡_};
 ghost use Prim.Native.Nat.{_<_, _≤_, _^_};
 ghost use lib.ListN.{take};
 ghost use Rattle.trb.specs.Limits.{maxHeld};
-ghost use Rattle.account.specs.Guest.{normalOf, lengthOf, requested};
+ghost use Rattle.in_td.specs.Normals.{normalOf, lengthOf, requested};
 ghost use Rattle.in_request.specs.Requests.{inGuestMemory};
 
 // Question 6, of a TRB that an IN endpoint holds.

@@ -1,1 +1,2 @@
 pub mod Td
+pub mod Normals

@@ -22,7 +22,8 @@ use Rattle.in_td.specs.declared.InMode.the-variants.{AsPorted}
 use Rattle.in_td.specs.declared.InTd.{InTd}
 use Rattle.in_td.specs.declared.TdProcessed.{TdProcessed}
 use Rattle.in_td.specs.Td.{normals, trbIn, processTrb, processTd, inTd}
-use Rattle.account.specs.Guest.{normalOf, requested, any}
+use Rattle.in_td.specs.Normals.{normalOf, requested}
+use Rattle.account.specs.Guest.{any}
 use Rattle.account.proofs.GuestLaws.{any-append}
 use Rattle.account.proofs.StepLaws.{normal-or-other, reached, Passed, passed-step, any-when, fullEvent, fullRecords, full-step}
 use Rattle.account.proofs.TdLog.{walkFrom}

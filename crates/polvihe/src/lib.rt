@@ -1,8 +1,16 @@
 // What C and Rust call: the product's functions over numbers and lent bytes, exported in one static library. Each asks its
 // questions first, and answers with the number of the first no.
+use capture_record::CaptureEvent;
+use capture_record::InPipe;
+use capture_record::TransferError;
+use capture_record::UsbDevice;
 use log_compact::CompactAnswer;
+use trb::EndpointId;
+use trb::InTrbProcessingStatus;
 use trb::Refusal;
+use trb::UsbRequest;
 ghost use mathlib.Core.Path.{_≡_};
+ghost use mathlib.Core.List.{[]};
 ghost use lib.ListN.{length};
 ghost use Rattle.trb.specs.Questions.{firstNo};
 ghost use Rattle.trb.specs.Refusals.{refusalNumber};
@@ -10,7 +18,10 @@ ghost use Rattle.log_text.specs.Widths.{maxLine};
 ghost use Rattle.capture_file.specs.Answers.{captureLength};
 ghost use Rattle.capture_convert.specs.Converting.{lengthAnswer, convertQuestions, outputAfter};
 ghost use Rattle.capture_merge.specs.Merging as merging;
+ghost use Rattle.capture_writer.specs.Writing.{callOf, Writes, WritesHead};
+ghost use Rattle.capture_reader.specs.Reading.{ReadsCapture, readAt};
 ghost use Rattle.polvihe.specs.Stored.{checkQuestions, Compacts, Prints};
+ghost use Rattle.polvihe.specs.Captured.{writtenBy, deviceOf, pipeOf, statusOf, errorOf, requestOf, countBy, recordBy};
 
 // What a call answers: the number of the question that said no, or 0, and how many records or bytes it made.
 #[repr(C)]
@@ -115,4 +126,379 @@ pub extern "C" fn polvihe_merge(first: &[u8], second: &[u8], output: &mut [u8]) 
     ensures { λ r. ⌜ (r ≡ firstNo (merging.mergeQuestions (now (first .entry)) (now (second .entry)) (length (now (output .entry))))) × (now (output .exit) ≡ merging.outputAfter (now (first .entry)) (now (second .entry)) (now (output .entry))) ⌝ }
 {
     capture_file::answer_number(capture_merge::merge(first, second, output))
+}
+
+// ---- Captures written: each call writes over the output's start and counts the bytes. The number: 0, or 24, 14 with the output as it was.
+
+// The record of an event of this device at this time.
+fn write_event(
+    output: &mut [u8],
+    bus_number: u16,
+    device_address: u8,
+    seconds: u32,
+    microseconds: u32,
+    event: CaptureEvent,
+    payload: &[u8],
+) -> Answered
+    ensures { λ r. ⌜ Writes (callOf (deviceOf «bus_number» «device_address») seconds microseconds event (now (payload .entry))) (now (output .entry)) (writtenBy r) (now (output .exit)) ⌝ }
+{
+    let device = UsbDevice {
+        bus_number: bus_number,
+        device_address: device_address,
+    };
+    let written = capture_writer::write_record(
+        output,
+        device,
+        seconds,
+        microseconds,
+        event,
+        payload,
+    );
+    Answered {
+        number: written.number as u32,
+        count: written.length,
+    }
+}
+
+// 1 Stall, 3 Disconnect, 0 Success; 2 and any other number TransactionError.
+fn in_status(number: u8) -> InTrbProcessingStatus
+    ensures { λ r. ⌜ r ≡ statusOf number ⌝ }
+{
+    if number == 0 {
+        return InTrbProcessingStatus::Success;
+    }
+    if number == 1 {
+        return InTrbProcessingStatus::Stall;
+    }
+    if number == 3 {
+        return InTrbProcessingStatus::Disconnect;
+    }
+    InTrbProcessingStatus::TransactionError
+}
+
+// Numbered as `in_status` has it.
+fn transfer_error(number: u8) -> TransferError
+    ensures { λ r. ⌜ r ≡ errorOf number ⌝ }
+{
+    if number == 1 {
+        return TransferError::Stall;
+    }
+    if number == 3 {
+        return TransferError::Disconnect;
+    }
+    TransferError::TransactionError
+}
+
+fn in_pipe(endpoint_id: u8, interrupt: bool) -> InPipe
+    ensures { λ r. ⌜ r ≡ pipeOf «endpoint_id» interrupt ⌝ }
+{
+    let id = EndpointId(endpoint_id);
+    InPipe {
+        endpoint_id: id,
+        interrupt: interrupt,
+    }
+}
+
+// The file header: 24 is not asked.
+#[no_mangle]
+pub extern "C" fn polvihe_write_file_header(output: &mut [u8]) -> Answered
+    ensures { λ r. ⌜ WritesHead (now (output .entry)) (writtenBy r) (now (output .exit)) ⌝ }
+{
+    let written = capture_writer::write_file_header(output);
+    Answered {
+        number: written.number as u32,
+        count: written.length,
+    }
+}
+
+// A request of so many bytes on an IN endpoint, of interrupt transfers or else of bulk ones.
+#[no_mangle]
+pub extern "C" fn polvihe_write_in_submission(
+    output: &mut [u8],
+    bus_number: u16,
+    device_address: u8,
+    seconds: u32,
+    microseconds: u32,
+    endpoint_id: u8,
+    interrupt: bool,
+    id: u64,
+    length: u32,
+) -> Answered
+    ensures { λ r. ⌜ Writes (callOf (deviceOf «bus_number» «device_address») seconds microseconds (CaptureEvent.InSubmission (pipeOf «endpoint_id» interrupt) id length) []) (now (output .entry)) (writtenBy r) (now (output .exit)) ⌝ }
+{
+    let event = CaptureEvent::InSubmission(in_pipe(endpoint_id, interrupt), id, length);
+    write_event(
+        output,
+        bus_number,
+        device_address,
+        seconds,
+        microseconds,
+        event,
+        &[],
+    )
+}
+
+// Its completion with a device result, numbered as `in_status` has it, and the device's data.
+#[no_mangle]
+pub extern "C" fn polvihe_write_in_completion(
+    output: &mut [u8],
+    bus_number: u16,
+    device_address: u8,
+    seconds: u32,
+    microseconds: u32,
+    endpoint_id: u8,
+    interrupt: bool,
+    id: u64,
+    status: u8,
+    data: &[u8],
+) -> Answered
+    ensures { λ r. ⌜ Writes (callOf (deviceOf «bus_number» «device_address») seconds microseconds (CaptureEvent.InCompletion (pipeOf «endpoint_id» interrupt) id (statusOf status)) (now («data» .entry))) (now (output .entry)) (writtenBy r) (now (output .exit)) ⌝ }
+{
+    let event = CaptureEvent::InCompletion(in_pipe(endpoint_id, interrupt), id, in_status(status));
+    write_event(
+        output,
+        bus_number,
+        device_address,
+        seconds,
+        microseconds,
+        event,
+        data,
+    )
+}
+
+// A control request, with the bytes that were collected where it is OUT.
+#[no_mangle]
+pub extern "C" fn polvihe_write_control_submission(
+    output: &mut [u8],
+    bus_number: u16,
+    device_address: u8,
+    seconds: u32,
+    microseconds: u32,
+    id: u64,
+    request_type: u8,
+    request: u8,
+    value: u16,
+    index: u16,
+    length: u32,
+    collected: &[u8],
+) -> Answered
+    ensures { λ r. ⌜ Writes (callOf (deviceOf «bus_number» «device_address») seconds microseconds (CaptureEvent.ControlSubmission (requestOf id «request_type» request value index length)) (now (collected .entry))) (now (output .entry)) (writtenBy r) (now (output .exit)) ⌝ }
+{
+    let usb_request = UsbRequest {
+        address: id,
+        request_type: request_type,
+        request: request,
+        value: value,
+        index: index,
+        length: length,
+    };
+    let event = CaptureEvent::ControlSubmission(usb_request);
+    write_event(
+        output,
+        bus_number,
+        device_address,
+        seconds,
+        microseconds,
+        event,
+        collected,
+    )
+}
+
+// The completion of a control IN request, with the device's data.
+#[no_mangle]
+pub extern "C" fn polvihe_write_control_completion_in(
+    output: &mut [u8],
+    bus_number: u16,
+    device_address: u8,
+    seconds: u32,
+    microseconds: u32,
+    id: u64,
+    data: &[u8],
+) -> Answered
+    ensures { λ r. ⌜ Writes (callOf (deviceOf «bus_number» «device_address») seconds microseconds (CaptureEvent.ControlCompletionIn id) (now («data» .entry))) (now (output .entry)) (writtenBy r) (now (output .exit)) ⌝ }
+{
+    let event = CaptureEvent::ControlCompletionIn(id);
+    write_event(
+        output,
+        bus_number,
+        device_address,
+        seconds,
+        microseconds,
+        event,
+        data,
+    )
+}
+
+// The completion of a control OUT request of this length.
+#[no_mangle]
+pub extern "C" fn polvihe_write_control_completion_out(
+    output: &mut [u8],
+    bus_number: u16,
+    device_address: u8,
+    seconds: u32,
+    microseconds: u32,
+    id: u64,
+    length: u32,
+) -> Answered
+    ensures { λ r. ⌜ Writes (callOf (deviceOf «bus_number» «device_address») seconds microseconds (CaptureEvent.ControlCompletionOut id length) []) (now (output .entry)) (writtenBy r) (now (output .exit)) ⌝ }
+{
+    let event = CaptureEvent::ControlCompletionOut(id, length);
+    write_event(
+        output,
+        bus_number,
+        device_address,
+        seconds,
+        microseconds,
+        event,
+        &[],
+    )
+}
+
+// A control transfer that failed: is it IN, how it failed, its request, and how many bytes were collected.
+#[no_mangle]
+pub extern "C" fn polvihe_write_control_error(
+    output: &mut [u8],
+    bus_number: u16,
+    device_address: u8,
+    seconds: u32,
+    microseconds: u32,
+    direction: bool,
+    error: u8,
+    id: u64,
+    request_type: u8,
+    request: u8,
+    value: u16,
+    index: u16,
+    length: u32,
+    collected: u32,
+) -> Answered
+    ensures { λ r. ⌜ Writes (callOf (deviceOf «bus_number» «device_address») seconds microseconds (CaptureEvent.ControlError direction (errorOf error) (requestOf id «request_type» request value index length) collected) []) (now (output .entry)) (writtenBy r) (now (output .exit)) ⌝ }
+{
+    let usb_request = UsbRequest {
+        address: id,
+        request_type: request_type,
+        request: request,
+        value: value,
+        index: index,
+        length: length,
+    };
+    let event = CaptureEvent::ControlError(
+        direction,
+        transfer_error(error),
+        usb_request,
+        collected,
+    );
+    write_event(
+        output,
+        bus_number,
+        device_address,
+        seconds,
+        microseconds,
+        event,
+        &[],
+    )
+}
+
+// A control TRB that is reported as an error.
+#[no_mangle]
+pub extern "C" fn polvihe_write_trb_error(
+    output: &mut [u8],
+    bus_number: u16,
+    device_address: u8,
+    seconds: u32,
+    microseconds: u32,
+    id: u64,
+) -> Answered
+    ensures { λ r. ⌜ Writes (callOf (deviceOf «bus_number» «device_address») seconds microseconds (CaptureEvent.TrbError id) []) (now (output .entry)) (writtenBy r) (now (output .exit)) ⌝ }
+{
+    let event = CaptureEvent::TrbError(id);
+    write_event(
+        output,
+        bus_number,
+        device_address,
+        seconds,
+        microseconds,
+        event,
+        &[],
+    )
+}
+
+// ---- Captures read
+
+// Counts the records of a capture. The number: 0, or 22 where it is none that the calls above write.
+#[no_mangle]
+pub extern "C" fn polvihe_read_capture(input: &[u8]) -> Answered
+    ensures { λ r. ⌜ ReadsCapture (now (input .entry)) (countBy r) ⌝ }
+{
+    let read = capture_reader::read_capture(input);
+    Answered {
+        number: read.number as u32,
+        count: read.records,
+    }
+}
+
+// What a record gives: 0 or 22; its times; its header's fields, a status below 0 standing as 2^32 less its amount; where in the file its payload stands and how
+// long it is; where the next record starts.
+#[repr(C)]
+pub struct RecordRead {
+    pub number: u32,
+    pub seconds: u32,
+    pub microseconds: u32,
+    pub id: u64,
+    pub event_type: u8,
+    pub transfer_type: u8,
+    pub endpoint_address: u8,
+    pub device_address: u8,
+    pub bus_number: u16,
+    pub setup_flag: u8,
+    pub data_flag: u8,
+    pub header_seconds: u64,
+    pub header_microseconds: u32,
+    pub status: u32,
+    pub length: u32,
+    pub delivered: u32,
+    pub request_type: u8,
+    pub request: u8,
+    pub value: u16,
+    pub index: u16,
+    pub setup_length: u16,
+    pub payload_start: usize,
+    pub payload_length: usize,
+    pub next: usize,
+}
+
+// Reads the record that starts at byte `at` of a capture, from 24 on. The number: 0, or 22 where none that the calls above write starts there, all else being 0.
+#[no_mangle]
+pub extern "C" fn polvihe_read_record(input: &[u8], at: usize) -> RecordRead
+    ensures { λ r. ⌜ recordBy r ≡ readAt (now (input .entry)) at ⌝ }
+{
+    let read = capture_reader::read_record(input, at);
+    let header = read.header;
+    let setup = header.setup;
+    RecordRead {
+        number: read.number as u32,
+        seconds: read.seconds,
+        microseconds: read.microseconds,
+        id: header.id,
+        event_type: header.event_type,
+        transfer_type: header.transfer_type,
+        endpoint_address: header.endpoint_address,
+        device_address: header.device_address,
+        bus_number: header.bus_number,
+        setup_flag: header.setup_flag,
+        data_flag: header.data_flag,
+        header_seconds: header.seconds,
+        header_microseconds: header.microseconds,
+        status: header.status,
+        length: header.length,
+        delivered: header.delivered,
+        request_type: setup.request_type,
+        request: setup.request,
+        value: setup.value,
+        index: setup.index,
+        setup_length: setup.length,
+        payload_start: read.payload_start,
+        payload_length: read.payload_length,
+        next: read.next,
+    }
 }

@@ -63,15 +63,12 @@ fn flags(
 ) -> u64
     ensures { λ r. ⌜ r ≡ flagsNumber «cycle_bit» chain «interrupt_on_completion» «interrupt_on_short» «immediate_data» direction ⌝ }
 {
-    flag(cycle_bit, call_script::CYCLE)
-        + flag(chain, call_script::CHAIN)
-        + flag(
-            interrupt_on_completion,
-            call_script::INTERRUPT_ON_COMPLETION,
-        )
-        + flag(interrupt_on_short, call_script::INTERRUPT_ON_SHORT)
-        + flag(immediate_data, call_script::IMMEDIATE_DATA)
-        + flag(direction, call_script::DIRECTION)
+    flag(cycle_bit, script_trb::CYCLE)
+        + flag(chain, script_trb::CHAIN)
+        + flag(interrupt_on_completion, script_trb::INTERRUPT_ON_COMPLETION)
+        + flag(interrupt_on_short, script_trb::INTERRUPT_ON_SHORT)
+        + flag(immediate_data, script_trb::IMMEDIATE_DATA)
+        + flag(direction, script_trb::DIRECTION)
 }
 
 fn flags_of(variant: TransferTrbVariant, cycle_bit: bool) -> u64

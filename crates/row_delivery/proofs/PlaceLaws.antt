@@ -12,7 +12,8 @@ use lib.Seq.{getD-take, length-take-le}
 use Rattle.trb.proofs.TestLaws.{or-false-left, or-false-right}
 use Rattle.guest_memory.specs.declared.Regions.{Regions}
 use Rattle.guest_memory.specs.Places.{Memory, regionsOf}
-use Rattle.account.specs.Guest.{requested, places, numbered}
+use Rattle.in_td.specs.Normals.{requested}
+use Rattle.account.specs.Guest.{places, numbered}
 use Rattle.account.proofs.GuestLaws.{length-places}
 use Rattle.row_walk.specs.Rows.{RowTd}
 use Rattle.delivery_laws.specs.Laid.{byteAt, isAmong, allInside, NoneTwice}

@@ -10,7 +10,8 @@ use Rattle.log.specs.declared.Record.{Record}
 use Rattle.guest_memory.specs.Places.{Memory, regionsOf}
 use Rattle.carry_out.specs.Writes.{recordsOf}
 use Rattle.carry_out.specs.CarryOut.{Carried}
-use Rattle.account.specs.Guest.{requested, places, Distinct, IspOnNormals, LastNormalWithIoc, countBefore, numbered}
+use Rattle.in_td.specs.Normals.{requested}
+use Rattle.account.specs.Guest.{places, Distinct, IspOnNormals, LastNormalWithIoc, countBefore, numbered}
 use Rattle.row_walk.specs.Accounts.{joined}
 use Rattle.row_walk.specs.Rows.{RowTd}
 use Rattle.delivery_laws.specs.Laid.{laid, byteAt, isAmong, NoneTwice}

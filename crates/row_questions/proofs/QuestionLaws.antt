@@ -23,7 +23,7 @@ use Rattle.held.specs.declared.EndpointKind.the-variants.{In}
 use Rattle.guest_memory.specs.declared.Regions.{Regions}
 use Rattle.guest_memory.specs.Regions.{shareAnAddress}
 use Rattle.walks.specs.All.{all}
-use Rattle.account.specs.Guest.{requested}
+use Rattle.in_td.specs.Normals.{requested}
 use Rattle.in_block.specs.Facts.{soundBlock}
 use Rattle.in_block.specs.declared.BlockFacts.{BlockFacts}
 use Rattle.in_questions.specs.Questions.{trbQuestions}

@@ -20,7 +20,8 @@ use Rattle.walks.proofs.GoingLaws.{walk-stopped}
 use Rattle.in_td.specs.Td.{isError}
 use Rattle.in_td.specs.declared.InMode.{InMode}
 use Rattle.log.specs.declared.Record.{Record}
-use Rattle.account.specs.Guest.{requested, places, Account, isWrite, isEvent, isUnsuccessful, any, first, beforeFirst, beforeLast, relied, sumFor, residualIn, namesHeld, countBefore, before, later, numbered, range, standsFor, bytes}
+use Rattle.in_td.specs.Normals.{requested}
+use Rattle.account.specs.Guest.{places, Account, isWrite, isEvent, isUnsuccessful, any, first, beforeFirst, beforeLast, relied, sumFor, residualIn, namesHeld, countBefore, before, later, numbered, range, standsFor, bytes}
 use Rattle.account.proofs.Accounted.{accounted}
 use Rattle.account.proofs.GuestLaws.{bytes-append, bytes-none}
 use Rattle.account.proofs.StepLaws.{any-when}

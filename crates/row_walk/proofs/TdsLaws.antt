@@ -11,7 +11,7 @@ use lib.Seq.{drop-cons}
 use Rattle.trb.specs.Trbs.{chainOf}
 use Rattle.trb.specs.declared.TransferTrb.{TransferTrb}
 use Rattle.held.specs.Places.{pastEnd}
-use Rattle.account.specs.Guest.{normalLength, requested}
+use Rattle.in_td.specs.Normals.{normalLength, requested}
 use Rattle.in_td.specs.Td.{normals, normalCount}
 use Rattle.in_block.proofs.TestLaws.{normals-length}
 use Rattle.row_walk.specs.declared.TdAsk.{TdAsk}

@@ -11,7 +11,8 @@ use Rattle.trb.specs.declared.TrbProcessingResult.{TrbProcessingResult}
 use Rattle.log.specs.declared.Record.{Record}
 use Rattle.in_td.specs.Td.{isError}
 use Rattle.in_td.specs.declared.InMode.{InMode}
-use Rattle.account.specs.Guest.{requested, places, Distinct, IspOnNormals, LastNormalWithIoc, isWrite, isEvent, any, relied, sumFor, residualIn, account, namesHeld, before, later, numbered, bytes}
+use Rattle.in_td.specs.Normals.{requested}
+use Rattle.account.specs.Guest.{places, Distinct, IspOnNormals, LastNormalWithIoc, isWrite, isEvent, any, relied, sumFor, residualIn, account, namesHeld, before, later, numbered, bytes}
 use Rattle.row_walk.specs.Rows.{RowTd, movedBy, completed, ownLog}
 
 -- `Account` of a TD whose data starts at byte `start` of the joined data: the writes are the bytes from there on. (From 0 it is `Account`:

@@ -21,7 +21,8 @@ use Rattle.in_td.specs.Td.{normals, normalCount, goingOn, inTd, processTd, isEr
 use Rattle.in_td.specs.declared.InMode.{InMode}
 use Rattle.in_td.specs.declared.InTd.{InTd}
 use Rattle.in_td.specs.declared.TdProcessed.{TdProcessed}
-use Rattle.account.specs.Guest.{normalLength, requested, isWrite}
+use Rattle.in_td.specs.Normals.{normalLength, requested}
+use Rattle.account.specs.Guest.{isWrite}
 use Rattle.in_endpoint.specs.Submission.{requestOf}
 use Rattle.row_walk.specs.declared.RowProgress.{RowProgress}
 use Rattle.row_walk.specs.declared.TdAsk.{TdAsk}

@@ -18,7 +18,7 @@ ghost use lib.ListN.{length, take};
 ghost use Rattle.trb.specs.Limits.{recordLength, maxRow};
 ghost use Rattle.log.specs.Calls.{Meets, counted};
 ghost use Rattle.log.specs.Records.{inRequest, when};
-ghost use Rattle.account.specs.Guest.{normalLength};
+ghost use Rattle.in_td.specs.Normals.{normalLength};
 ghost use Rattle.in_td.specs.Td.{normalCount};
 ghost use Rattle.row_walk.specs.Rows.{nothingAsked, askedMore, unstarted, tdDone, processRow, from, tdFrom, Walkable};
 

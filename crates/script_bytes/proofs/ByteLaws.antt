@@ -1,15 +1,15 @@
 -- Laws of filling a buffer by a rule, and of the weighted sum. Assumes nothing.
-use Prim.Native.Nat.{ℕ, _+_, _*_, _%_, _<_, _≤_, _^_}
-use mathlib.Core.Path.{_≡_, refl, _∙_}
+use Prim.Native.Nat.{ℕ, zero, suc, _+_, _*_, _%_, _<_, _≤_, _^_}
+use mathlib.Core.Path.{_≡_, refl, sym, ap, _∙_}
 use mathlib.Core.List.{List}
 use native.Mathlib.Nat.{mul-le-mul, lt-of-le-of-lt, add-mul-mod-self-left}
 use native.Mathlib.Numerals.{add-one}
 use native.Mathlib.Omega.{arith}
 use lib.Dec.{lit<}
 use lib.ListN.{length, drop, getD, set, length-set}
-use lib.Seq.{getD-set-same, getD-set-other, drop-cons}
+use lib.Seq.{getD-set-same, getD-set-other, drop-cons, ext-getD}
 use borrow.Author.Count.{below-more}
-use Rattle.script_bytes.specs.Bytes.{weightedSum}
+use Rattle.script_bytes.specs.Bytes.{firstOf, weightedSum}
 
 -- of a loop that fills the buffer l₀ by a rule, and has come to index k of the buffer l: the bytes below k follow the rule
 pub record Filled (rule : ℕ → ℕ) (l₀ l : List ℕ) (k : ℕ) : Type 0 where
@@ -29,8 +29,21 @@ filled-more {rule} {l = l} {k = k} v f h e = record {
       (getD-set-same l k v 0 h ∙ e);
 }
 
-pub filled-all : {rule : ℕ → ℕ} {l₀ l : List ℕ} {k : ℕ} → Filled rule l₀ l k → length l ≤ k → (j : ℕ) → j < length l₀ → getD l j 0 ≡ rule j
-filled-all f h j m = f .below j (omega (arith, f .long))
+length-firstOf : (rule : ℕ → ℕ) (n : ℕ) → length (firstOf rule n) ≡ n
+unfolding firstOf
+length-firstOf rule zero = refl
+length-firstOf rule (suc n) = ap suc (length-firstOf (λ (k : ℕ). rule (suc k)) n)
+
+getD-firstOf : (rule : ℕ → ℕ) (n k : ℕ) → k < n → getD (firstOf rule n) k 0 ≡ rule k
+unfolding firstOf
+getD-firstOf rule zero k h = absurd (omega arith)
+getD-firstOf rule (suc n) zero h = refl
+getD-firstOf rule (suc n) (suc k) h = getD-firstOf (λ (j : ℕ). rule (suc j)) n k (omega arith)
+
+pub filled-all : {rule : ℕ → ℕ} {l₀ l : List ℕ} {k : ℕ} → Filled rule l₀ l k → length l ≤ k → l ≡ firstOf rule (length l₀)
+filled-all {rule} {l₀ = l₀} {l = l} f h =
+    ext-getD 0 l (firstOf rule (length l₀)) (f .long ∙ sym (length-firstOf rule (length l₀)))
+    (λ (j : ℕ) m. f .below j (omega (arith, f .long)) ∙ sym (getD-firstOf rule (length l₀) j (omega (arith, f .long))))
 
 -- whole multiples of 256 do not matter modulo 256
 pub mod-multiple : (x y q : ℕ) → y ≡ x + 256 * q → x % 256 ≡ y % 256

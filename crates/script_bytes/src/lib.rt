@@ -1,9 +1,9 @@
 // The bytes that a call script leaves unsaid: those of guest memory and those of the device; and the sum over the bytes collected.
 ghost use mathlib.Core.Path.{_≡_};
-ghost use Prim.Native.Nat.{ℕ, _≤_, _<_};
-ghost use lib.ListN.{length, getD};
+ghost use Prim.Native.Nat.{_≤_, _<_};
+ghost use lib.ListN.{length};
 ghost use Rattle.trb.specs.Limits.{maxCollected};
-ghost use Rattle.script_bytes.specs.Bytes.{guestByte, deviceByte, weightedSum};
+ghost use Rattle.script_bytes.specs.Bytes.{guestByte, deviceByte, guestBytes, deviceBytes, weightedSum};
 
 // The byte at guest address base + k.
 fn guest_byte(base: u64, k: usize) -> u8
@@ -14,7 +14,7 @@ fn guest_byte(base: u64, k: usize) -> u8
 
 // Fills guest memory, whose first byte is at guest address `base`.
 pub fn fill_guest(window: &mut [u8], base: u64)
-    ensures { λ _. ⌜ ((k : ℕ) → k < length (now (window .entry)) → getD (now (window .exit)) k 0 ≡ guestByte base k) ⌝ }
+    ensures { λ _. ⌜ now (window .exit) ≡ guestBytes base (length (now (window .entry))) ⌝ }
 {
     let mut k = 0;
     while k < window.len() {
@@ -32,7 +32,7 @@ fn device_byte(k: usize) -> u8
 
 // Fills a buffer with the device's bytes.
 pub fn fill_device(device: &mut [u8])
-    ensures { λ _. ⌜ ((k : ℕ) → k < length (now (device .entry)) → getD (now (device .exit)) k 0 ≡ deviceByte k) ⌝ }
+    ensures { λ _. ⌜ now (device .exit) ≡ deviceBytes (length (now (device .entry))) ⌝ }
 {
     let mut k = 0;
     while k < device.len() {

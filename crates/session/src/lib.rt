@@ -6,6 +6,7 @@ use control_calls::ControlRan;
 use in_block::InBlock;
 use in_calls::InRan;
 use in_td::InMode;
+use lent_calls::Lent;
 use row_walk::TdResult;
 use trb::EndpointId;
 use trb::InTrbProcessingStatus;
@@ -78,10 +79,11 @@ pub fn new_session() -> Session {
     }
 }
 
-// What a line leaves: the session, the index behind the answer, and whether the line was good.
+// What a line leaves: the session, the index behind the answer, how many records were logged, and whether the line was good.
 pub struct Ran {
     pub session: Session,
     pub end: usize,
+    pub records: usize,
     pub good: bool,
 }
 
@@ -91,7 +93,20 @@ fn bad(session: Session, at: usize) -> Ran
     Ran {
         session: session,
         end: at,
+        records: 0,
         good: false,
+    }
+}
+
+// A good line that prints nothing.
+fn silent(session: Session, at: usize) -> Ran
+    ensures { λ r. ⌜ r .end ≡ at ⌝ }
+{
+    Ran {
+        session: session,
+        end: at,
+        records: 0,
+        good: true,
     }
 }
 
@@ -120,6 +135,7 @@ fn after_in(session: Session, ran: InRan) -> Ran
     Ran {
         session: next,
         end: ran.end,
+        records: ran.records,
         good: ran.good,
     }
 }
@@ -149,6 +165,7 @@ fn after_control(session: Session, ran: ControlRan) -> Ran
     Ran {
         session: next,
         end: ran.end,
+        records: ran.records,
         good: ran.good,
     }
 }
@@ -179,11 +196,7 @@ fn move_window(
     next.low_length = low_end;
     next.high_base = high_base;
     next.high_length = high_end;
-    Ran {
-        session: next,
-        end: at,
-        good: true,
-    }
+    silent(next, at)
 }
 
 fn lend_buffers(session: Session, at: usize, log_length: usize, collect_length: usize) -> Ran
@@ -192,11 +205,7 @@ fn lend_buffers(session: Session, at: usize, log_length: usize, collect_length: 
     let mut next = session;
     next.log_length = log_length;
     next.collect_length = collect_length;
-    Ran {
-        session: next,
-        end: at,
-        good: true,
-    }
+    silent(next, at)
 }
 
 // ---- The row that is being written down
@@ -222,11 +231,7 @@ fn append_trb(session: Session, at: usize, t: TransferTrb) -> Ran
         next.row[place] = t;
     }
     next.row_count = place + 1;
-    Ran {
-        session: next,
-        end: at,
-        good: true,
-    }
+    silent(next, at)
 }
 
 // Its next TD is given this.
@@ -242,11 +247,7 @@ fn append_result(session: Session, at: usize, given: TdResult) -> Ran
         next.results[place] = given;
     }
     next.result_count = place + 1;
-    Ran {
-        session: next,
-        end: at,
-        good: true,
-    }
+    silent(next, at)
 }
 
 fn is_in(endpoint: Endpoint) -> bool {
@@ -258,6 +259,17 @@ fn is_in(endpoint: Endpoint) -> bool {
 }
 
 // ---- Calls
+
+fn lent_of(session: Session) -> Lent {
+    Lent {
+        log: session.log_length,
+        collect: session.collect_length,
+        low_base: session.low_base,
+        low: session.low_length,
+        high_base: session.high_base,
+        high: session.high_length,
+    }
+}
 
 // The row call: the row written down is empty afterwards, whatever the answer.
 fn run_row(
@@ -277,24 +289,20 @@ fn run_row(
     let block = session.in_block;
     let row = session.row;
     let results = session.results;
-    let log_end = call_script::least(session.log_length, log.len());
-    let low_end = call_script::least(session.low_length, low.len());
-    let high_end = call_script::least(session.high_length, high.len());
-    let given = call_script::least(bytes, data.len());
-    let ran = in_calls::complete_row(
+    let ran = lent_calls::run_row(
         text,
         at,
-        &mut log[..log_end],
+        lent_of(session),
         block,
         row,
         session.row_count,
         results,
         session.result_count,
-        &data[..given],
-        session.low_base,
-        &mut low[..low_end],
-        session.high_base,
-        &mut high[..high_end],
+        bytes,
+        log,
+        data,
+        low,
+        high,
     );
     after_in(without_row(session), ran)
 }
@@ -314,20 +322,16 @@ fn run_in(
     ensures { λ r. ⌜ r .end ≤ at + maxAnswer ⌝ }
 {
     let block = session.in_block;
-    let log_end = call_script::least(session.log_length, log.len());
-    let low_end = call_script::least(session.low_length, low.len());
-    let high_end = call_script::least(session.high_length, high.len());
-    let ran = in_calls::run(
+    let ran = lent_calls::run_in(
         text,
         at,
-        &mut log[..log_end],
+        lent_of(session),
         block,
         call,
+        log,
         data,
-        session.low_base,
-        &mut low[..low_end],
-        session.high_base,
-        &mut high[..high_end],
+        low,
+        high,
     );
     after_in(session, ran)
 }
@@ -348,22 +352,17 @@ fn run_control(
     ensures { λ r. ⌜ r .end ≤ at + maxAnswer ⌝ }
 {
     let block = session.control_block;
-    let log_end = call_script::least(session.log_length, log.len());
-    let low_end = call_script::least(session.low_length, low.len());
-    let high_end = call_script::least(session.high_length, high.len());
-    let ran = control_calls::run(
+    let ran = lent_calls::run_control(
         text,
         at,
-        &mut log[..log_end],
-        collect,
-        session.collect_length,
+        lent_of(session),
         block,
         call,
+        log,
+        collect,
         data,
-        session.low_base,
-        &mut low[..low_end],
-        session.high_base,
-        &mut high[..high_end],
+        low,
+        high,
     );
     after_control(session, ran)
 }
@@ -463,6 +462,12 @@ pub fn run_call(
     }
     if let Call::CreateControl(endpoint_id, slot_id, release) = call {
         return create_control(text, at, session, endpoint_id, slot_id, release, collect);
+    }
+    if let Call::Time(_, _) = call {
+        return silent(session, at);
+    }
+    if let Call::Captured(_, _, _) = call {
+        return silent(session, at);
     }
     let endpoint = session.endpoint;
     if !is_in(endpoint) {

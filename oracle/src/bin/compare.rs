@@ -16,6 +16,7 @@ const USAGE: &str = "\
 compare FIRST LAST COUNT       for each seed from FIRST to LAST, COUNT calls
 compare raw FIRST LAST COUNT   the same with each TRB raw
 compare rows FIRST LAST COUNT  the same, of rows of TDs
+compare captured FIRST LAST COUNT  calls or rows, with times and what captures say of the endpoint
 compare NAME [FIRST LAST]      exhaustive-control, exhaustive-in or wrap, all parts or those from FIRST to LAST
 compare FILE.calls ..          call scripts
 The product's program is named by REPLAY.
@@ -101,6 +102,12 @@ fn main() -> io::Result<()> {
             for seed in number(first)..=number(last) {
                 let script = generate::row_script(seed, number(count) as usize);
                 comparison.take(&format!("rows seed {seed}"), &script)?;
+            }
+        }
+        ["captured", first, last, count] => {
+            for seed in number(first)..=number(last) {
+                let script = generate::captured_script(seed, number(count) as usize);
+                comparison.take(&format!("captured seed {seed}"), &script)?;
             }
         }
         ref files => {

@@ -8,6 +8,7 @@ const USAGE: &str = "\
 generate SEED COUNT                 a random script of COUNT calls
 generate raw SEED COUNT             the same with each TRB raw
 generate rows SEED COUNT            rows of TDs, COUNT calls
+generate captured SEED COUNT        COUNT calls, or rows, with times and what captures say of the endpoint
 generate exhaustive-control [PART]  all control chains of up to five TRBs
 generate exhaustive-in [PART]       all IN TDs of up to three TRBs
 generate wrap                       the request length past 2^32 by Unrecognized TRBs
@@ -34,6 +35,9 @@ fn main() -> io::Result<()> {
         }
         ["rows", seed, count] => {
             out.write_all(generate::row_script(number(seed), number(count) as usize).as_bytes())
+        }
+        ["captured", seed, count] => {
+            out.write_all(generate::captured_script(number(seed), number(count) as usize).as_bytes())
         }
         [name] => {
             let family = family_named(name);

@@ -1,7 +1,10 @@
--- `control_calls::run` meets its contract: each call leaves its answer in the room that there is. Assumes nothing.
-use mathlib.Core.Path.{sym}
+-- `control_calls::run` meets its contract: each call is made by its function. Assumes nothing.
+use mathlib.Core.Path.{refl, sym}
+use native.Mathlib.Omega.{arith}
 use lib.Seq.{length-take-le}
 use borrow.Author.Needs.{needs}
+use Rattle.control_calls.specs.Calls.{controlCall, collectBehind}
+use Rattle.control_calls.proofs.CallLaws.{says-silent, text-holdCall, take-least}
 use Rattle.control_calls.proofs.run.Statement.{statement}
 use Rattle.control_calls.proofs.run.Tie as tie
 
@@ -45,7 +48,7 @@ result-of-requires : tie.Need-result-of-requires
 result-of-requires c κs = search needs
 
 slice-aggregate-complete : tie.Need-slice-aggregate-complete
-slice-aggregate-complete c = sym (length-take-le _ _ (search needs))
+slice-aggregate-complete c = rw (c .before .before .before .before .before .least .ensures) (sym (length-take-le _ _ (omega arith)))
 
 complete-requires : tie.Need-complete-requires
 complete-requires c κs = search needs
@@ -57,7 +60,7 @@ least-requires-2 : tie.Need-least-requires-2
 least-requires-2 c κs = search needs
 
 slice-aggregate-complete-2 : tie.Need-slice-aggregate-complete-2
-slice-aggregate-complete-2 c = sym (length-take-le _ _ (search needs))
+slice-aggregate-complete-2 c = rw (c .before .before .before .before .least2 .ensures) (sym (length-take-le _ _ (omega arith)))
 
 complete-requires-2 : tie.Need-complete-requires-2
 complete-requires-2 c κs = search needs
@@ -110,17 +113,33 @@ enum-told-10 c = search needs
 bad-requires-9 : tie.Need-bad-requires-9
 bad-requires-9 c κs = search needs
 
+enum-told-11 : tie.Need-enum-told-11
+enum-told-11 c = search needs
+
+bad-requires-10 : tie.Need-bad-requires-10
+bad-requires-10 c κs = search needs
+
+enum-told-12 : tie.Need-enum-told-12
+enum-told-12 c = search needs
+
+bad-requires-11 : tie.Need-bad-requires-11
+bad-requires-11 c κs = search needs
+
 returns : tie.Need-returns
-returns c = search needs
+unfolding controlCall collectBehind
+returns c = rw (c .before .enum-told .given .1) (record { runs = record { says = says-silent _ _ _ _ refl (c .bad .ensures); log = refl; memory = refl }; collected = refl })
 
 returns-2 : tie.Need-returns-2
-returns-2 c = search needs
+unfolding controlCall collectBehind
+returns-2 c = rw (c .before .enum-told2 .given .1) (record { runs = record { says = says-silent _ _ _ _ refl (c .bad2 .ensures); log = refl; memory = refl }; collected = refl })
 
 returns-3 : tie.Need-returns-3
-returns-3 c = search needs
+unfolding controlCall collectBehind
+returns-3 c = rw (c .before .enum-told3 .given .1) (record { runs = record { says = says-silent _ _ _ _ refl (c .bad3 .ensures); log = refl; memory = refl }; collected = refl })
 
 returns-4 : tie.Need-returns-4
-returns-4 c = search needs
+unfolding controlCall collectBehind
+returns-4 c = rw (c .before .enum-told4 .given .1) (record { runs = record { says = says-silent _ _ _ _ refl (c .bad4 .ensures); log = refl; memory = refl }; collected = refl })
 
 same-length : tie.Need-same-length
 same-length c = search needs
@@ -138,7 +157,10 @@ same-length-5 : tie.Need-same-length-5
 same-length-5 c = search needs
 
 returns-5 : tie.Need-returns-5
-returns-5 c = search needs
+unfolding controlCall collectBehind
+returns-5 c =
+    let s = c .before .before .before .before .before .before in
+    rw (s .before .before .before .before .before .before .before .call .given .1) (s .submit .ensures)
 
 same-length-6 : tie.Need-same-length-6
 same-length-6 c = search needs
@@ -156,7 +178,11 @@ same-length-10 : tie.Need-same-length-10
 same-length-10 c = search needs
 
 returns-6 : tie.Need-returns-6
-returns-6 c = search needs
+unfolding controlCall collectBehind
+returns-6 c =
+    let r = c .before .before .before .before .before .before .before .before in
+    let l = r .before .before .before .before .before .before .before .before in
+    rw (l .before .before .call2 .given .1, ← r .before .before .before .before .result-of .ensures, ← take-least _ _ (l .least .ensures)) (record { runs = r .complete .ensures; collected = refl })
 
 same-length-11 : tie.Need-same-length-11
 same-length-11 c = search needs
@@ -174,7 +200,11 @@ same-length-15 : tie.Need-same-length-15
 same-length-15 c = search needs
 
 returns-7 : tie.Need-returns-7
-returns-7 c = search needs
+unfolding controlCall collectBehind
+returns-7 c =
+    let r = c .before .before .before .before .before .before .before .before in
+    let l = r .before .before .before .before .before .before .before in
+    rw (l .before .before .call3 .given .1, ← take-least _ _ (l .least2 .ensures)) (record { runs = r .complete2 .ensures; collected = refl })
 
 same-length-16 : tie.Need-same-length-16
 same-length-16 c = search needs
@@ -183,28 +213,44 @@ same-length-17 : tie.Need-same-length-17
 same-length-17 c = search needs
 
 returns-8 : tie.Need-returns-8
-returns-8 c = search needs
+unfolding controlCall collectBehind
+returns-8 c = rw (c .before .before .before .before .before .enum-told5 .given .1) (record { runs = record { says = c .before .before .cancel .ensures; log = refl; memory = refl }; collected = refl })
 
 returns-9 : tie.Need-returns-9
-returns-9 c = search needs
+unfolding controlCall collectBehind
+returns-9 c = rw (c .before .before .call4 .given .1) (record { runs = record { says = says-silent _ _ _ _ (text-holdCall _ _) (c .hold .ensures); log = refl; memory = refl }; collected = refl })
 
 returns-10 : tie.Need-returns-10
-returns-10 c = search needs
+unfolding controlCall collectBehind
+returns-10 c = rw (c .before .enum-told6 .given .1) (record { runs = record { says = says-silent _ _ _ _ refl (c .bad5 .ensures); log = refl; memory = refl }; collected = refl })
 
 returns-11 : tie.Need-returns-11
-returns-11 c = search needs
+unfolding controlCall collectBehind
+returns-11 c = rw (c .before .before .call5 .given .1) (record { runs = record { says = says-silent _ _ _ _ refl (c .make-up .ensures); log = refl; memory = refl }; collected = refl })
 
 returns-12 : tie.Need-returns-12
-returns-12 c = search needs
+unfolding controlCall collectBehind
+returns-12 c = rw (c .before .enum-told7 .given .1) (record { runs = record { says = says-silent _ _ _ _ refl (c .bad6 .ensures); log = refl; memory = refl }; collected = refl })
 
 returns-13 : tie.Need-returns-13
-returns-13 c = search needs
+unfolding controlCall collectBehind
+returns-13 c = rw (c .before .enum-told8 .given .1) (record { runs = record { says = says-silent _ _ _ _ refl (c .bad7 .ensures); log = refl; memory = refl }; collected = refl })
 
 returns-14 : tie.Need-returns-14
-returns-14 c = search needs
+unfolding controlCall collectBehind
+returns-14 c = rw (c .before .enum-told9 .given .1) (record { runs = record { says = says-silent _ _ _ _ refl (c .bad8 .ensures); log = refl; memory = refl }; collected = refl })
 
 returns-15 : tie.Need-returns-15
-returns-15 c = search needs
+unfolding controlCall collectBehind
+returns-15 c = rw (c .before .enum-told10 .given .1) (record { runs = record { says = says-silent _ _ _ _ refl (c .bad9 .ensures); log = refl; memory = refl }; collected = refl })
+
+returns-16 : tie.Need-returns-16
+unfolding controlCall collectBehind
+returns-16 c = rw (c .before .enum-told11 .given .1) (record { runs = record { says = says-silent _ _ _ _ refl (c .bad10 .ensures); log = refl; memory = refl }; collected = refl })
+
+returns-17 : tie.Need-returns-17
+unfolding controlCall collectBehind
+returns-17 c = rw (c .before .enum-told12 .given .1) (record { runs = record { says = says-silent _ _ _ _ refl (c .bad11 .ensures); log = refl; memory = refl }; collected = refl })
 
 pub run-spec : {M : Type 1} → statement M
 run-spec =
@@ -245,6 +291,10 @@ run-spec =
     bad-requires-8
     enum-told-10
     bad-requires-9
+    enum-told-11
+    bad-requires-10
+    enum-told-12
+    bad-requires-11
     returns
     returns-2
     returns-3
@@ -276,4 +326,6 @@ run-spec =
     returns-12
     returns-13
     returns-14
-    returns-15)
+    returns-15
+    returns-16
+    returns-17)

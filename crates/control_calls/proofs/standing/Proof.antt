@@ -1,9 +1,9 @@
--- `control_calls::standing` is safe: the sum is over bytes that the collect buffer has, 65,535 at most. Assumes nothing.
+-- `control_calls::standing` meets its contract: the sum is taken over as many bytes as were collected, or as there are. Assumes nothing.
 use mathlib.Core.Path.{sym}
 use native.Mathlib.Omega.{arith}
-use lib.ListN.{length-take}
 use lib.Seq.{length-take-le}
 use borrow.Author.Needs.{needs}
+use Rattle.control_calls.proofs.CallLaws.{take-least, length-take-most}
 use Rattle.control_calls.proofs.standing.Statement.{statement}
 use Rattle.control_calls.proofs.standing.Tie as tie
 
@@ -20,18 +20,17 @@ count-requires-2 : tie.Need-count-requires-2
 count-requires-2 c κs = search needs
 
 slice-aggregate-weighted-sum : tie.Need-slice-aggregate-weighted-sum
-slice-aggregate-weighted-sum c =
-    let o = c .before .before .before in
-    sym (length-take-le _ _ (omega (arith, o .least2 .ensures .1, o .before .least .ensures .0)))
+slice-aggregate-weighted-sum c = rw (c .before .before .before .least2 .ensures) (sym (length-take-le _ _ (omega arith)))
 
 weighted-sum-requires : tie.Need-weighted-sum-requires
-weighted-sum-requires c κs =
-    let o = c .before .before .before in
-    let l = o .before .before .before .before .args .collect .now in
-    omega (arith, o .least2 .ensures .1, o .before .least .ensures .1, length-take (o .least2 .result) l)
+weighted-sum-requires c κs = length-take-most (c .before .before .before .least2 .result) _ (omega (arith, c .before .before .before .least2 .ensures, c .before .before .before .before .least .ensures))
 
 returns : tie.Need-returns
-returns c = search needs
+returns c =
+    let n = c .before .before in
+    let l = n .before .before in
+    let bytes = rw (take-least _ _ (l .least2 .ensures), l .before .least .ensures) at (c .weighted-sum .ensures) in
+    rw (bytes, n .count2 .ensures, n .before .count .ensures)
 
 pub standing-spec : {M : Type 1} → statement M
 standing-spec =

@@ -7,7 +7,7 @@ use Rattle.trb.specs.Limits.{maxHeld}
 use Rattle.guest_memory.specs.Places.{rangeInside}
 use Rattle.held.specs.Places.{pastEnd}
 use Rattle.held.proofs.TestedLaws.{places-few, places-held}
-use Rattle.account.specs.Guest.{normalOf, lengthOf}
+use Rattle.in_td.specs.Normals.{normalOf, lengthOf}
 use Rattle.delivery_laws.specs.Ranges.{pointerOf, writesInside}
 use Rattle.delivery.proofs.TurnLaws.{Left, left-out, left-next, left-end}
 use borrow.Author.Needs.{needs}

@@ -1,7 +1,10 @@
--- `in_calls::run` meets its contract: each call leaves its answer in the room that there is. Assumes nothing.
-use mathlib.Core.Path.{sym}
+-- `in_calls::run` meets its contract: each call is made by its function. Assumes nothing.
+use mathlib.Core.Path.{refl, sym}
+use native.Mathlib.Omega.{arith}
 use lib.Seq.{length-take-le}
 use borrow.Author.Needs.{needs}
+use Rattle.in_calls.specs.Calls.{inCall}
+use Rattle.in_calls.proofs.CallLaws.{says-silent, text-holdCall, take-least}
 use Rattle.in_calls.proofs.run.Statement.{statement}
 use Rattle.in_calls.proofs.run.Tie as tie
 
@@ -42,7 +45,7 @@ least-requires : tie.Need-least-requires
 least-requires c κs = search needs
 
 slice-aggregate-complete-with-result : tie.Need-slice-aggregate-complete-with-result
-slice-aggregate-complete-with-result c = sym (length-take-le _ _ (search needs))
+slice-aggregate-complete-with-result c = rw (c .before .before .before .least .ensures) (sym (length-take-le _ _ (omega arith)))
 
 complete-with-result-requires : tie.Need-complete-with-result-requires
 complete-with-result-requires c κs = search needs
@@ -54,7 +57,7 @@ least-requires-2 : tie.Need-least-requires-2
 least-requires-2 c κs = search needs
 
 slice-aggregate-complete : tie.Need-slice-aggregate-complete
-slice-aggregate-complete c = sym (length-take-le _ _ (search needs))
+slice-aggregate-complete c = rw (c .before .before .before .least2 .ensures) (sym (length-take-le _ _ (omega arith)))
 
 complete-requires : tie.Need-complete-requires
 complete-requires c κs = search needs
@@ -107,17 +110,33 @@ enum-told-10 c = search needs
 bad-requires-9 : tie.Need-bad-requires-9
 bad-requires-9 c κs = search needs
 
+enum-told-11 : tie.Need-enum-told-11
+enum-told-11 c = search needs
+
+bad-requires-10 : tie.Need-bad-requires-10
+bad-requires-10 c κs = search needs
+
+enum-told-12 : tie.Need-enum-told-12
+enum-told-12 c = search needs
+
+bad-requires-11 : tie.Need-bad-requires-11
+bad-requires-11 c κs = search needs
+
 returns : tie.Need-returns
-returns c = search needs
+unfolding inCall
+returns c = rw (c .before .enum-told .given .1) (record { says = says-silent _ _ _ _ refl (c .bad .ensures); log = refl; memory = refl })
 
 returns-2 : tie.Need-returns-2
-returns-2 c = search needs
+unfolding inCall
+returns-2 c = rw (c .before .enum-told2 .given .1) (record { says = says-silent _ _ _ _ refl (c .bad2 .ensures); log = refl; memory = refl })
 
 returns-3 : tie.Need-returns-3
-returns-3 c = search needs
+unfolding inCall
+returns-3 c = rw (c .before .enum-told3 .given .1) (record { says = says-silent _ _ _ _ refl (c .bad3 .ensures); log = refl; memory = refl })
 
 returns-4 : tie.Need-returns-4
-returns-4 c = search needs
+unfolding inCall
+returns-4 c = rw (c .before .enum-told4 .given .1) (record { says = says-silent _ _ _ _ refl (c .bad4 .ensures); log = refl; memory = refl })
 
 same-length : tie.Need-same-length
 same-length c = search needs
@@ -132,7 +151,10 @@ same-length-4 : tie.Need-same-length-4
 same-length-4 c = search needs
 
 returns-5 : tie.Need-returns-5
-returns-5 c = search needs
+unfolding inCall
+returns-5 c =
+    let s = c .before .before .before .before in
+    rw (s .before .before .before .before .before .before .call .given .1) (s .submit .ensures)
 
 same-length-5 : tie.Need-same-length-5
 same-length-5 c = search needs
@@ -147,7 +169,11 @@ same-length-8 : tie.Need-same-length-8
 same-length-8 c = search needs
 
 returns-6 : tie.Need-returns-6
-returns-6 c = search needs
+unfolding inCall
+returns-6 c =
+    let r = c .before .before .before .before .before .before .before .before in
+    let l = r .before .before .before .before .before .before in
+    rw (l .before .before .call2 .given .1, ← take-least _ _ (l .least .ensures)) (r .complete-with-result .ensures)
 
 same-length-9 : tie.Need-same-length-9
 same-length-9 c = search needs
@@ -162,34 +188,54 @@ same-length-12 : tie.Need-same-length-12
 same-length-12 c = search needs
 
 returns-7 : tie.Need-returns-7
-returns-7 c = search needs
+unfolding inCall
+returns-7 c =
+    let r = c .before .before .before .before .before .before .before .before in
+    let l = r .before .before .before .before .before .before in
+    rw (l .before .before .call3 .given .1, ← take-least _ _ (l .least2 .ensures)) (r .complete .ensures)
 
 same-length-13 : tie.Need-same-length-13
 same-length-13 c = search needs
 
 returns-8 : tie.Need-returns-8
-returns-8 c = search needs
+unfolding inCall
+returns-8 c = rw (c .before .before .before .before .enum-told5 .given .1) (record { says = c .before .before .cancel .ensures; log = refl; memory = refl })
 
 returns-9 : tie.Need-returns-9
-returns-9 c = search needs
+unfolding inCall
+returns-9 c = rw (c .before .before .call4 .given .1) (record { says = says-silent _ _ _ _ (text-holdCall _ _) (c .hold .ensures); log = refl; memory = refl })
 
 returns-10 : tie.Need-returns-10
-returns-10 c = search needs
+unfolding inCall
+returns-10 c = rw (c .before .before .call5 .given .1) (record { says = says-silent _ _ _ _ refl (c .make-up .ensures); log = refl; memory = refl })
 
 returns-11 : tie.Need-returns-11
-returns-11 c = search needs
+unfolding inCall
+returns-11 c = rw (c .before .enum-told6 .given .1) (record { says = says-silent _ _ _ _ refl (c .bad5 .ensures); log = refl; memory = refl })
 
 returns-12 : tie.Need-returns-12
-returns-12 c = search needs
+unfolding inCall
+returns-12 c = rw (c .before .enum-told7 .given .1) (record { says = says-silent _ _ _ _ refl (c .bad6 .ensures); log = refl; memory = refl })
 
 returns-13 : tie.Need-returns-13
-returns-13 c = search needs
+unfolding inCall
+returns-13 c = rw (c .before .enum-told8 .given .1) (record { says = says-silent _ _ _ _ refl (c .bad7 .ensures); log = refl; memory = refl })
 
 returns-14 : tie.Need-returns-14
-returns-14 c = search needs
+unfolding inCall
+returns-14 c = rw (c .before .enum-told9 .given .1) (record { says = says-silent _ _ _ _ refl (c .bad8 .ensures); log = refl; memory = refl })
 
 returns-15 : tie.Need-returns-15
-returns-15 c = search needs
+unfolding inCall
+returns-15 c = rw (c .before .enum-told10 .given .1) (record { says = says-silent _ _ _ _ refl (c .bad9 .ensures); log = refl; memory = refl })
+
+returns-16 : tie.Need-returns-16
+unfolding inCall
+returns-16 c = rw (c .before .enum-told11 .given .1) (record { says = says-silent _ _ _ _ refl (c .bad10 .ensures); log = refl; memory = refl })
+
+returns-17 : tie.Need-returns-17
+unfolding inCall
+returns-17 c = rw (c .before .enum-told12 .given .1) (record { says = says-silent _ _ _ _ refl (c .bad11 .ensures); log = refl; memory = refl })
 
 pub run-spec : {M : Type 1} → statement M
 run-spec =
@@ -229,6 +275,10 @@ run-spec =
     bad-requires-8
     enum-told-10
     bad-requires-9
+    enum-told-11
+    bad-requires-10
+    enum-told-12
+    bad-requires-11
     returns
     returns-2
     returns-3
@@ -256,4 +306,6 @@ run-spec =
     returns-12
     returns-13
     returns-14
-    returns-15)
+    returns-15
+    returns-16
+    returns-17)

@@ -4,7 +4,7 @@ use Prim.Native.Nat.{_+_, _≤_, _-_}
 use mathlib.Core.Path.{_≡_}
 use native.Mathlib.Omega.{arith}
 use lib.ListN.{take, drop}
-use Rattle.account.specs.Guest.{requested}
+use Rattle.in_td.specs.Normals.{requested}
 use Rattle.held.specs.Places.{pastEnd}
 use Rattle.in_request.proofs.RequestedLaws.{Summed, requested-turn, summed-end}
 use borrow.Author.Needs.{needs}

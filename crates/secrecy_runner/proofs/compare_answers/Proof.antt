@@ -1,5 +1,6 @@
 -- `secrecy_runner::compare_answers` is safe: no more of a text is compared than there is. Assumes nothing.
 use mathlib.Core.Path.{sym}
+use native.Mathlib.Omega.{arith}
 use lib.Seq.{length-take-le}
 use borrow.Author.Needs.{needs}
 use Rattle.secrecy_runner.proofs.compare_answers.Statement.{statement}
@@ -12,10 +13,10 @@ least-requires-2 : tie.Need-least-requires-2
 least-requires-2 c κs = search needs
 
 slice-aggregate-compare : tie.Need-slice-aggregate-compare
-slice-aggregate-compare c = sym (length-take-le _ _ (c .before .before .least .ensures .1))
+slice-aggregate-compare c = sym (length-take-le _ _ (omega (arith, c .before .before .least .ensures)))
 
 slice-aggregate-compare-2 : tie.Need-slice-aggregate-compare-2
-slice-aggregate-compare-2 c = sym (length-take-le _ _ (c .before .before .least2 .ensures .1))
+slice-aggregate-compare-2 c = sym (length-take-le _ _ (omega (arith, c .before .before .least2 .ensures)))
 
 compare-requires : tie.Need-compare-requires
 compare-requires c κs = search needs

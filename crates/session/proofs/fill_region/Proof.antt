@@ -1,5 +1,6 @@
 -- `session::fill_region` is safe: no more bytes are filled than there are. Assumes nothing.
 use mathlib.Core.Path.{sym}
+use native.Mathlib.Omega.{arith}
 use lib.Seq.{length-take-le}
 use borrow.Author.Needs.{needs}
 use Rattle.session.proofs.fill_region.Statement.{statement}
@@ -9,10 +10,10 @@ least-requires : tie.Need-least-requires
 least-requires c κs = search needs
 
 slice-relend-prefix-fill-guest : tie.Need-slice-relend-prefix-fill-guest
-slice-relend-prefix-fill-guest c = search needs
+slice-relend-prefix-fill-guest c = omega (arith, c .least .ensures)
 
 slice-aggregate-fill-guest : tie.Need-slice-aggregate-fill-guest
-slice-aggregate-fill-guest c = sym (length-take-le _ _ (c .before .least .ensures .1))
+slice-aggregate-fill-guest c = sym (length-take-le _ _ (omega (arith, c .before .least .ensures)))
 
 fill-guest-requires : tie.Need-fill-guest-requires
 fill-guest-requires c κs = search needs

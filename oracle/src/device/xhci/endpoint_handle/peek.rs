@@ -79,6 +79,10 @@ impl<RIEH: RealInEndpointHandle> TdBasedInEndpointHandle<RIEH> {
     pub fn ids(&self) -> (u8, u8) {
         (self.endpoint_id, self.slot_id)
     }
+
+    pub fn capture_as(&mut self, meta: EndpointPcapMeta) {
+        self.pcap_meta = meta;
+    }
 }
 
 impl<RCEH: RealControlEndpointHandle> ControlEndpointHandle<RCEH> {
@@ -119,6 +123,10 @@ impl<RCEH: RealControlEndpointHandle> ControlEndpointHandle<RCEH> {
 
     pub fn ids(&self) -> (u8, u8) {
         (self.endpoint_id, self.slot_id)
+    }
+
+    pub fn capture_as(&mut self, meta: EndpointPcapMeta) {
+        self.pcap_meta = meta;
     }
 }
 
