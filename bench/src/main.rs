@@ -1,5 +1,6 @@
 //! Times the product beside the Rust, on the same work in one run, and prints tables.
 
+mod in_place;
 mod measure;
 mod product;
 mod work;
@@ -14,13 +15,14 @@ static ALLOCATOR: lending::LendingAllocator = lending::LendingAllocator;
 type InCalls = fn(&mut Log, &InWork, bool, u32) -> u64;
 
 /// Those that submit and complete a TD, the two baselines first.
-const SIDES: [(&str, InCalls); 4] = [
+const SIDES: [(&str, InCalls); 5] = [
     ("Rust unchanged", |_, work, completes, repeats| {
         unchanged::calls::in_td(work.data, work.trbs, work.transfer_length, work.status, completes, repeats)
     }),
     ("Rust, capture left out", |_, work, completes, repeats| {
         capture_left_out::calls::in_td(work.data, work.trbs, work.transfer_length, work.status, completes, repeats)
     }),
+    ("in place", in_place::in_place),
     ("by value", product::in_by_value),
     ("by reference", product::in_by_reference),
 ];

@@ -98,6 +98,10 @@ impl Log {
         Self(vec![0; LOG_BYTES])
     }
 
+    pub fn bytes(&mut self) -> &mut [u8] {
+        &mut self.0
+    }
+
     pub fn records(&self, count: usize) -> &[u8] {
         &self.0[..32 * count]
     }

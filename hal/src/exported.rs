@@ -1,7 +1,7 @@
 //! The functions that the static library exports (`crates/polvihe/src/lib.rt`), each declared once. A lent slice is a pointer and a
 //! length.
 
-use crate::Refusal;
+use crate::{At, Outcome, Refusal};
 
 /// What a call answers: the number of the question that said no, or 0, and how many records or bytes it made.
 #[repr(C)]
@@ -17,6 +17,45 @@ impl Answered {
     }
 }
 
+/// What a completion answers: the number of the question that said no, or 0; the result with its completion code; whether it carries an
+/// address and a cycle bit, and these; how many records it logged.
+#[repr(C)]
+pub struct CompletionAnswered {
+    number: u32,
+    result: u8,
+    code: u8,
+    located: u8,
+    cycle_bit: u8,
+    records: usize,
+    address: u64,
+}
+
+impl CompletionAnswered {
+    /// The number of records and how the transfer ended, where every question was answered yes.
+    pub fn outcome(self) -> Result<(usize, Outcome), Refusal> {
+        accepted(self.number)?;
+        let at = (self.located != 0).then_some(At { address: self.address, cycle: self.cycle_bit != 0 });
+        let outcome = match self.result {
+            0 => Outcome::Ok,
+            1 => Outcome::Stall(at),
+            2 => Outcome::TransactionError(at),
+            3 => Outcome::Disconnect,
+            _ => Outcome::TrbError,
+        };
+        Ok((self.records, outcome))
+    }
+}
+
+/// A decoded TRB by numbers: its kind, which is xHCI's type; its flags by weight; its pointer, event data or setup bytes; its length.
+#[repr(C)]
+#[derive(Clone, Copy)]
+pub struct DecodedNumbers {
+    pub kind: u8,
+    pub flags: u8,
+    pub transfer_length: u32,
+    pub value: u64,
+}
+
 /// Whether the number of an answer is 0.
 pub fn accepted(number: u32) -> Result<(), Refusal> {
     match number {
@@ -26,6 +65,117 @@ pub fn accepted(number: u32) -> Result<(), Refusal> {
 }
 
 extern "C" {
+    pub fn polvihe_carry_out(
+        log: *const u8,
+        log_length: usize,
+        data: *const u8,
+        data_length: usize,
+        low_base: u64,
+        low: *mut u8,
+        low_length: usize,
+        high_base: u64,
+        high: *mut u8,
+        high_length: usize,
+    ) -> u32;
+
+    pub fn polvihe_decode_trb(raw: *const [u8; 16]) -> DecodedNumbers;
+
+    pub fn polvihe_encode_trb(
+        kind: u8,
+        flags: u8,
+        value: u64,
+        transfer_length: u32,
+        raw: *mut u8,
+        raw_length: usize,
+    ) -> u8;
+
+    pub fn polvihe_in_block_length() -> usize;
+
+    pub fn polvihe_in_create(block: *mut u8, block_length: usize, endpoint_id: u8, slot_id: u8, mode: u8) -> u32;
+
+    pub fn polvihe_in_submit(
+        log: *mut u8,
+        log_length: usize,
+        block: *mut u8,
+        block_length: usize,
+        kind: u8,
+        flags: u8,
+        addr: u64,
+        value: u64,
+        transfer_length: u32,
+        low_base: u64,
+        low_length: usize,
+        high_base: u64,
+        high_length: usize,
+    ) -> Answered;
+
+    pub fn polvihe_in_complete(
+        log: *mut u8,
+        log_length: usize,
+        block: *mut u8,
+        block_length: usize,
+        status: u8,
+        data_length: usize,
+    ) -> CompletionAnswered;
+
+    pub fn polvihe_in_cancel(block: *mut u8, block_length: usize) -> u32;
+
+    pub fn polvihe_control_block_length() -> usize;
+
+    pub fn polvihe_control_create(
+        block: *mut u8,
+        block_length: usize,
+        endpoint_id: u8,
+        slot_id: u8,
+        release: u8,
+    ) -> u32;
+
+    pub fn polvihe_control_submit(
+        log: *mut u8,
+        log_length: usize,
+        collect: *mut u8,
+        collect_length: usize,
+        block: *mut u8,
+        block_length: usize,
+        kind: u8,
+        flags: u8,
+        addr: u64,
+        value: u64,
+        transfer_length: u32,
+        low_base: u64,
+        low: *const u8,
+        low_length: usize,
+        high_base: u64,
+        high: *const u8,
+        high_length: usize,
+    ) -> Answered;
+
+    pub fn polvihe_control_submit_raw(
+        log: *mut u8,
+        log_length: usize,
+        collect: *mut u8,
+        collect_length: usize,
+        block: *mut u8,
+        block_length: usize,
+        raw: *const [u8; 16],
+        addr: u64,
+        low_base: u64,
+        low: *const u8,
+        low_length: usize,
+        high_base: u64,
+        high: *const u8,
+        high_length: usize,
+    ) -> Answered;
+
+    pub fn polvihe_control_complete(
+        log: *mut u8,
+        log_length: usize,
+        block: *mut u8,
+        block_length: usize,
+        status: u8,
+        data_length: usize,
+    ) -> CompletionAnswered;
+
     pub fn polvihe_check_log(log: *const u8, log_length: usize) -> u32;
 
     pub fn polvihe_compact(log: *mut u8, log_length: usize) -> Answered;

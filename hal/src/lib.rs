@@ -21,10 +21,24 @@
 #[cfg(feature = "std")]
 extern crate std;
 
+mod answer;
 pub mod capture;
+mod control_endpoint;
 mod exported;
+mod ids;
+mod in_endpoint;
 pub mod log;
+mod log_record;
+mod memory;
 pub mod record;
 mod refusal;
+mod trb;
 
+pub use answer::{At, Completed, DeviceResult, Outcome, Submitted};
+pub use control_endpoint::{ControlEndpoint, GuestRelease};
+pub use ids::{EndpointId, SlotId};
+pub use in_endpoint::{InEndpoint, Mode};
+pub use log_record::{Effect, EventAbout, Record, Records, RECORD_LENGTH};
+pub use memory::{GuestMemory, Region};
 pub use refusal::Refusal;
+pub use trb::{DataStage, EventData, NoOp, Normal, SetupStage, StatusStage, Trb};

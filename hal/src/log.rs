@@ -3,8 +3,7 @@
 use crate::exported::{self, accepted};
 use crate::Refusal;
 
-/// Bytes of a log record.
-pub const RECORD_LENGTH: usize = 32;
+pub use crate::RECORD_LENGTH;
 
 /// Question 10: is the log a multiple of 32 bytes with every kind 1, 2 or 3?
 ///

@@ -1,3 +1,4 @@
 pub mod Stored
 pub mod Pieces
+pub mod GuestMemory
 pub mod Captured

@@ -1,26 +1,40 @@
 // What C and Rust call: the product's functions over numbers and lent bytes, exported in one static library. Each asks its
 // questions first, and answers with the number of the first no.
+mod control;
+
+use answer_numbers::CompletionAnswered;
 use capture_record::CaptureEvent;
 use capture_record::InPipe;
 use capture_record::TransferError;
 use capture_record::UsbDevice;
+use held_bytes::TrbNumbers;
 use log_compact::CompactAnswer;
+use trb::Answer;
 use trb::EndpointId;
 use trb::InTrbProcessingStatus;
 use trb::Refusal;
 use trb::UsbRequest;
 ghost use mathlib.Core.Path.{_≡_};
-ghost use mathlib.Core.List.{[]};
+ghost use Prim.Native.Nat.{ℕ};
 ghost use lib.ListN.{length};
+ghost use Rattle.trb.specs.Answers.{numberOf};
 ghost use Rattle.trb.specs.Questions.{firstNo};
 ghost use Rattle.trb.specs.Refusals.{refusalNumber};
 ghost use Rattle.log_text.specs.Widths.{maxLine};
 ghost use Rattle.capture_file.specs.Answers.{captureLength};
 ghost use Rattle.capture_convert.specs.Converting.{lengthAnswer, convertQuestions, outputAfter};
 ghost use Rattle.capture_merge.specs.Merging as merging;
+ghost use Rattle.guest_memory.specs.Places.{memoryOf};
+ghost use Rattle.guest_memory.specs.Regions.{guestRegions};
+ghost use Rattle.held_bytes.specs.Numbers.{trbNumbers, trbOf};
+ghost use Rattle.in_bytes.specs.Layout.{blockLength, modeOf};
+ghost use Rattle.in_place.specs.InPlace.{lentLog, rawTrb, resultOf, CreatesInPlace, CancelsInPlace, SubmitsInPlace, CompletesInPlace};
+ghost use Rattle.raw_numbers.specs.RawNumbers.{numberedTrb, roomQuestions, Encodes};
+ghost use Rattle.polvihe.specs.Stored.{checkQuestions, Compacts, Prints};
+ghost use Rattle.polvihe.specs.GuestMemory.{CarriesOut};
+ghost use mathlib.Core.List.{[]};
 ghost use Rattle.capture_writer.specs.Writing.{callOf, Writes, WritesHead};
 ghost use Rattle.capture_reader.specs.Reading.{ReadsCapture, readAt};
-ghost use Rattle.polvihe.specs.Stored.{checkQuestions, Compacts, Prints};
 ghost use Rattle.polvihe.specs.Captured.{writtenBy, deviceOf, pipeOf, statusOf, errorOf, requestOf, countBy, recordBy};
 
 // What a call answers: the number of the question that said no, or 0, and how many records or bytes it made.
@@ -38,6 +52,73 @@ fn refused(refusal: Refusal) -> Answered
         number: trb::refusal_number(refusal) as u32,
         count: 0,
     }
+}
+
+// ---- Guest memory
+
+fn number_of(answer: Answer) -> u32
+    ensures { λ r. ⌜ r ≡ numberOf answer ⌝ }
+{
+    match answer {
+        Answer::Accepted => 0,
+        Answer::Refused(refusal) => trb::refusal_number(refusal) as u32,
+    }
+}
+
+// Performs the writes of a log, in its order, on guest memory in two regions, with the device's data. The number: 0, or 13, 10, 11
+// with guest memory as it was.
+#[no_mangle]
+pub extern "C" fn polvihe_carry_out(
+    log: &[u8],
+    data: &[u8],
+    low_base: u64,
+    low: &mut [u8],
+    high_base: u64,
+    high: &mut [u8],
+) -> u32
+    ensures { λ r. ⌜ CarriesOut (now (log .entry)) (now («data» .entry)) (memoryOf «low_base» (now (low .entry)) «high_base» (now (high .entry))) r (memoryOf «low_base» (now (low .exit)) «high_base» (now (high .exit))) ⌝ }
+{
+    number_of(carry_out::carry_out(log, data, low_base, low, high_base, high))
+}
+
+// ---- Raw TRBs
+
+// A TRB by numbers, but for its address: xHCI's type, flags, data pointer or event data or setup bytes, and transfer length.
+#[repr(C)]
+pub struct RawTrb {
+    pub kind: u8,
+    pub flags: u8,
+    pub transfer_length: u32,
+    pub value: u64,
+}
+
+// Decodes the 16 bytes of a TRB in the ring to the numbers that a submission takes.
+#[no_mangle]
+pub extern "C" fn polvihe_decode_trb(raw: &[u8; 16]) -> RawTrb
+    ensures { λ r. ⌜ ((a : ℕ) → trbOf (trbNumbers (r .kind) (r .flags) a (r .value) (r .«transfer_length»)) ≡ rawTrb (now (raw .entry)) a) ⌝ }
+{
+    let bytes = *raw;
+    let numbers = in_place::raw_numbers(bytes, 0);
+    RawTrb {
+        kind: numbers.kind,
+        flags: numbers.flags,
+        transfer_length: numbers.transfer_length,
+        value: numbers.value,
+    }
+}
+
+// Encodes a TRB into the 16 bytes that `raw` starts with. The number: 0, or 1 where they are too few, 23 or 4 with `raw` as it was.
+#[no_mangle]
+pub extern "C" fn polvihe_encode_trb(
+    kind: u8,
+    flags: u8,
+    value: u64,
+    transfer_length: u32,
+    raw: &mut [u8],
+) -> u8
+    ensures { λ r. ⌜ Encodes (roomQuestions (numberedTrb kind flags value «transfer_length») (now (raw .entry))) (numberedTrb kind flags value «transfer_length») (now (raw .entry)) r (now (raw .exit)) ⌝ }
+{
+    raw_numbers::encode_trb(kind, flags, value, transfer_length, raw)
 }
 
 // ---- Stored logs, of any length
@@ -501,4 +582,72 @@ pub extern "C" fn polvihe_read_record(input: &[u8], at: usize) -> RecordRead
         payload_length: read.payload_length,
         next: read.next,
     }
+}
+
+// ---- The IN endpoint in place: its block is a lent row of `polvihe_in_block_length` bytes, whose layout is in_bytes'
+
+// Bytes of an IN endpoint's block.
+#[no_mangle]
+pub extern "C" fn polvihe_in_block_length() -> usize
+    ensures { λ r. ⌜ r ≡ blockLength ⌝ }
+{
+    in_bytes::BLOCK
+}
+
+// Makes a fresh block; mode 0 as ported, any other strict. Answers 0, or 1, 12.
+#[no_mangle]
+pub extern "C" fn polvihe_in_create(block: &mut [u8], endpoint_id: u8, slot_id: u8, mode: u8) -> u32
+    ensures { λ r. ⌜ CreatesInPlace (record { 0 = «endpoint_id» }) (record { 0 = «slot_id» }) (modeOf mode) (now (block .entry)) r (now (block .exit)) ⌝ }
+{
+    in_place::create(block, endpoint_id, slot_id, mode)
+}
+
+// Submits a TRB by numbers: xHCI's type, flags (by weight: 1 cycle bit, 2 chain, 4 interrupt on completion, 8 interrupt on short, 16
+// immediate data, 32 direction), address, data pointer or event data or setup bytes, and transfer length; with guest memory in two regions.
+#[no_mangle]
+pub extern "C" fn polvihe_in_submit(
+    log: &mut [u8],
+    block: &mut [u8],
+    kind: u8,
+    flags: u8,
+    addr: u64,
+    value: u64,
+    transfer_length: u32,
+    low_base: u64,
+    low_len: usize,
+    high_base: u64,
+    high_len: usize,
+) -> answer_numbers::Answered
+    ensures { λ r. ⌜ SubmitsInPlace (lentLog (now (log .entry)) (now (block .entry))) (trbOf (trbNumbers kind flags addr value «transfer_length»)) (guestRegions «low_base» «low_len» «high_base» «high_len») (now (log .entry)) (now (block .entry)) r (now (log .exit)) (now (block .exit)) ⌝ }
+{
+    let numbers = TrbNumbers {
+        kind: kind,
+        flags: flags,
+        addr: addr,
+        value: value,
+        transfer_length: transfer_length,
+    };
+    in_place::submit_trb(log, block, numbers, low_base, low_len, high_base, high_len)
+}
+
+// Completes what was submitted last, with so many bytes of the device's data. Status: 0 Success, 1 Stall, 2 a transaction error, 3 a
+// disconnect; any other number, no device result is given.
+#[no_mangle]
+pub extern "C" fn polvihe_in_complete(
+    log: &mut [u8],
+    block: &mut [u8],
+    status: u8,
+    data_length: usize,
+) -> CompletionAnswered
+    ensures { λ r. ⌜ CompletesInPlace (lentLog (now (log .entry)) (now (block .entry))) (resultOf status) «data_length» (now (log .entry)) (now (block .entry)) r (now (log .exit)) (now (block .exit)) ⌝ }
+{
+    in_place::next_completion(log, block, status, data_length)
+}
+
+// Empties the block: a submission is due. Answers 0, or 1.
+#[no_mangle]
+pub extern "C" fn polvihe_in_cancel(block: &mut [u8]) -> u32
+    ensures { λ r. ⌜ CancelsInPlace (now (block .entry)) r (now (block .exit)) ⌝ }
+{
+    in_place::cancel(block)
 }

@@ -1,0 +1,86 @@
+-- `control_in_place::accept_trb` meets its contract: it logs, collects and stores by one outcome. Assumes nothing.
+use mathlib.Core.Path.{_∙_}
+use Rattle.buffers.specs.Patch.{patch}
+use lib.ListN.{length}
+use Rattle.held_bytes.specs.Numbers.{trbOf}
+use Rattle.guest_memory.specs.Places.{Memory, memoryOf}
+use Rattle.control_block.specs.Facts.{factsOf}
+use Rattle.control_transfer.specs.Data.{dataOf}
+use Rattle.control_transfer.specs.Transfers.{collectable, bytesTaken}
+use Rattle.control_questions.proofs.SubmissionLaws.{Passed}
+use Rattle.control_bytes.specs.Layout.{blockOf}
+use Rattle.control_in_place.proofs.AcceptLaws.{pass, holdable}
+use borrow.Author.Needs.{needs}
+use Rattle.control_in_place.proofs.accept_trb.Statement.{statement}
+use Rattle.control_in_place.proofs.accept_trb.Tie as tie
+
+abbrev memory : tie.Start → Memory
+memory s = memoryOf (s .args .low-base) (s .args .low .now) (s .args .high-base) (s .args .high .now)
+
+passed : (s : tie.Start) → let a = s .args in Passed (length (a .log .now)) (length (a .collect .now)) (factsOf (blockOf (a .block .now))) (a .outcome) (trbOf (a .numbers))
+passed s = let a = s .args in pass (a .log .now) (a .collect .now) (a .block .now) (trbOf (a .numbers)) (memory s) (a .outcome) (s .pre)
+
+trb-of-requires : tie.Need-trb-of-requires
+trb-of-requires c κs = search needs
+
+transfer-requires : tie.Need-transfer-requires
+transfer-requires c κs = search needs
+
+log-submission-requires : tie.Need-log-submission-requires
+log-submission-requires c κs =
+    let s = c .before .before .before .before .before .before .before .before .before .before in
+    (s .pre .long, (passed s .log-long, passed s .held))
+
+collect-trb-requires : tie.Need-collect-trb-requires
+collect-trb-requires c κs =
+    let w = c .before .before .before .before .before .before in
+    let v = w .before .before in
+    let s = v .before .before .before .before .before .before in
+    let old = w .transfer .ensures in
+    let kind = v .trb-of .ensures in
+    (passed s .collect-long, (λ j. collectable (s .args .outcome) (old j .direction) (old j .collected) (dataOf (kind j .variant))) ∙ passed s .size)
+
+take-trb-requires : tie.Need-take-trb-requires
+take-trb-requires c κs =
+    let s = c .before .before .before .before .before .before .before .before .before .before .before .before .before .before .before .before .before .before in
+    let a = s .args in
+    ((s .pre .long, (passed s .held, passed s .collected)), holdable (a .log .now) (a .collect .now) (a .block .now) (trbOf (a .numbers)) (memory s) (a .outcome) (s .pre))
+
+same-length : tie.Need-same-length
+same-length c = search needs
+
+same-length-2 : tie.Need-same-length-2
+same-length-2 c = search needs
+
+same-length-3 : tie.Need-same-length-3
+same-length-3 c = search needs
+
+returns : tie.Need-returns
+returns c =
+    let t = c .before .before in
+    let k = t .before .before .before .before in
+    let l = k .before .before .before .before in
+    let w = l .before .before .before in
+    let v = w .before .before in
+    let s = v .before .before .before .before .before .before in
+    let old = w .transfer .ensures in
+    let kind = v .trb-of .ensures in
+    record {
+      log = l .log-submission .ensures;
+      collect = k .collect-trb .ensures ∙ (λ j. patch (s .args .collect .now) (old j .collected) (bytesTaken (s .args .outcome) (old j .direction) (kind j .variant) (memory s)));
+      becomes = t .take-trb .ensures;
+    }
+
+pub accept-trb-spec : {M : Type 1} → statement M
+accept-trb-spec =
+    tie.close
+    (tie.spec
+    trb-of-requires
+    transfer-requires
+    log-submission-requires
+    collect-trb-requires
+    take-trb-requires
+    same-length
+    same-length-2
+    same-length-3
+    returns)

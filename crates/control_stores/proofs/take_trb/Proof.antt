@@ -1,0 +1,104 @@
+-- `control_stores::take_trb` meets its contract: the TRB is stored, if it is held, then the head. Assumes nothing.
+use Prim.Native.Nat.{ℕ, _-_}
+use mathlib.Core.Path.{_≡_, sym, ap, _∙_, subst}
+use native.Mathlib.Omega.{arith}
+use Rattle.held_bytes.specs.Numbers.{trbOf}
+use Rattle.phase_table.specs.Outcomes.{holds, restarts, stateAfter}
+use Rattle.control_block.specs.declared.ControlTransfer.{ControlTransfer}
+use Rattle.control_transfer.specs.Transfers.{transferAfter}
+use Rattle.control_endpoint.specs.Submission.{placesDropped}
+use Rattle.control_endpoint.proofs.SubmissionLaws.{dropped-held}
+use Rattle.control_bytes.specs.Layout.{blockOf}
+use Rattle.control_stores.specs.Becomes.{Holdable}
+use Rattle.control_stores.proofs.StoreLaws.{next-few, taken}
+use borrow.Author.Needs.{needs}
+use Rattle.control_stores.proofs.take_trb.Statement.{statement}
+use Rattle.control_stores.proofs.take_trb.Tie as tie
+
+abbrev start : tie.After-places-dropped → tie.Start
+start d = d .before .before .before .before .before .before .before .before
+
+-- as many stay as are not dropped
+kept : (d : tie.After-places-dropped) → let s = start d .args in
+    d .before .before .held .result - d .places-dropped .result ≡ blockOf (s .block .now) .held - placesDropped (restarts (s .outcome)) (blockOf (s .block .now) .held)
+kept d =
+    let count = d .before .before .held .ensures .0 in
+    let dropped = d .places-dropped .ensures ∙ (λ j. placesDropped (d .before .is-restart .ensures j) (count j)) in
+    λ j. count j - dropped j
+
+trb-of-requires : tie.Need-trb-of-requires
+trb-of-requires c κs = search needs
+
+transfer-requires : tie.Need-transfer-requires
+transfer-requires c κs = search needs
+
+held-requires : tie.Need-held-requires
+held-requires c κs = search needs
+
+is-restart-requires : tie.Need-is-restart-requires
+is-restart-requires c κs = search needs
+
+places-dropped-requires : tie.Need-places-dropped-requires
+places-dropped-requires c κs = search needs
+
+sub-hold-trb : tie.Need-sub-hold-trb
+sub-hold-trb c =
+    let d = c .before in
+    omega (arith, d .places-dropped .ensures, dropped-held (d .before .is-restart .result) (d .before .before .held .result))
+
+hold-trb-requires : tie.Need-hold-trb-requires
+hold-trb-requires c κs =
+    let s = start (c .before) in
+    (s .pre .0 .0, λ hold. subst (λ (n : ℕ). Holdable n (trbOf (s .args .numbers))) (sym (kept (c .before))) (s .pre .1 hold))
+
+transfer-after-requires : tie.Need-transfer-after-requires
+transfer-after-requires c κs =
+    let d = c .before .before .before .before in
+    omega (arith, ap (λ (w : ControlTransfer). w .collected) (d .before .before .before .before .transfer .ensures), start d .pre .0 .1 .1)
+
+state-after-requires : tie.Need-state-after-requires
+state-after-requires c κs = search needs
+
+put-head-requires : tie.Need-put-head-requires
+put-head-requires c κs =
+    let h = c .before .before .before .before .before in
+    let d = h .before .before in
+    let s = start d in
+    let few = next-few (holds (s .args .outcome)) (d .before .before .held .result - d .places-dropped .result) (h .hold-trb .result) (h .hold-trb .ensures .held) in
+    (omega (arith, h .hold-trb .ensures .long, s .pre .0 .0), omega (arith, few, d .before .before .held .ensures .0, s .pre .0 .1 .0))
+
+same-length : tie.Need-same-length
+same-length c = search needs
+
+returns : tie.Need-returns
+returns c =
+    let p = c .before .before in
+    let n = p .before .before in
+    let w = n .before in
+    let h = w .before .before .before in
+    let d = h .before .before in
+    let t = d .before .before .before .before in
+    let v = t .before .before in
+    let a = start d .args in
+    let kind = v .trb-of .ensures in
+    let old = t .transfer .ensures in
+    taken (a .block .now) (h .hold-trb .last .0) (a .outcome) (trbOf (a .numbers)) (d .before .before .held .result - d .places-dropped .result) (h .hold-trb .result) (kept d) (h .hold-trb .ensures) (w .transfer-after .result)
+    (n .state-after .result) (p .put-head .last .0) (w .transfer-after .ensures ∙ (λ j. transferAfter (a .outcome) (kind j .variant) (kind j .addr) (old j)))
+    (n .state-after .ensures ∙ (λ j. stateAfter (a .outcome) (kind j .addr))) (p .put-head .ensures)
+
+pub take-trb-spec : {M : Type 1} → statement M
+take-trb-spec =
+    tie.close
+    (tie.spec
+    trb-of-requires
+    transfer-requires
+    held-requires
+    is-restart-requires
+    places-dropped-requires
+    sub-hold-trb
+    hold-trb-requires
+    transfer-after-requires
+    state-after-requires
+    put-head-requires
+    same-length
+    returns)

@@ -1,0 +1,3 @@
+pub mod ByteLaws
+pub mod NumberLaws
+pub mod PlaceLaws

@@ -1,0 +1,23 @@
+-- `held_bytes::put_place` meets its contract. Assumes nothing.
+use borrow.Author.Needs.{needs}
+use Rattle.held_bytes.proofs.put_place.Statement.{statement}
+use Rattle.held_bytes.proofs.put_place.Tie as tie
+
+encoded-requires : tie.Need-encoded-requires
+encoded-requires c κs = search needs
+
+slice-aggregate-lay : tie.Need-slice-aggregate-lay
+slice-aggregate-lay c = search needs
+
+lay-requires : tie.Need-lay-requires
+lay-requires c κs = search needs
+
+same-length : tie.Need-same-length
+same-length c = search needs
+
+returns : tie.Need-returns
+returns c = cc
+
+pub put-place-spec : {M : Type 1} → statement M
+put-place-spec =
+    tie.close (tie.spec encoded-requires slice-aggregate-lay lay-requires same-length returns)

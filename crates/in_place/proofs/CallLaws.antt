@@ -1,0 +1,228 @@
+-- What a call in place comes to, by its answer and what it stored. Assumes nothing.
+use Prim.Native.Nat.{ℕ, _+_, _<_, _≤_}
+use mathlib.Core.Path.{_≡_, refl, sym, ap, _∙_, subst}
+use mathlib.Core.Bool.{Bool, true, false, cond}
+use mathlib.Core.List.{List, [], _∷_}
+use native.Mathlib.Omega.{arith}
+use lib.ListN.{length, take, getD}
+use borrow.Author.Tests.{eqb-false, le-leb, lt-leb}
+use Rattle.trb.specs.Answers.{numberOf, isAccepted, refusalOf, completionNumber}
+use Rattle.trb.specs.Refusals.{refusalNumber}
+use Rattle.trb.specs.Questions.{firstNo}
+use Rattle.trb.proofs.AnswerLaws.{accepted-is, refused-is, answered-yes, answered-no, refusalNumber-positive}
+use Rattle.trb.specs.declared.Answer.{Answer}
+use Rattle.trb.specs.declared.Answer.the-variants.{Accepted, Refused}
+use Rattle.trb.specs.declared.CompletionAnswer.{CompletionAnswer}
+use Rattle.trb.specs.declared.CompletionAnswer.the-variants as completion-answer
+use Rattle.trb.specs.declared.InTrbProcessingResult.{InTrbProcessingResult}
+use Rattle.trb.specs.declared.InTrbProcessingStatus.{InTrbProcessingStatus}
+use Rattle.trb.specs.declared.Refusal.the-variants.{BufferTooShort}
+use Rattle.trb.specs.declared.TransferTrb.{TransferTrb}
+use Rattle.trb.specs.declared.TrbProcessingResult.{TrbProcessingResult}
+use Rattle.trb.specs.declared.TrbProcessingResult.the-variants as result
+use Rattle.trb.specs.declared.TdBasedNormalSubmissionState.the-variants.{SubmissionDue, AwaitingRealTransfer}
+use Rattle.log.specs.Calls.{Out, Put, Meets}
+use Rattle.log.specs.declared.Record.{Record}
+use Rattle.log.specs.Logs.{logged, AllFit, recordsIn}
+use Rattle.log.proofs.LogLaws.{logged-none}
+use Rattle.guest_memory.specs.declared.Regions.{Regions}
+use Rattle.in_td.specs.Td.{inTd, processTd}
+use Rattle.in_td.specs.declared.InTd.{InTd}
+use Rattle.in_td.specs.declared.TdProcessed.{TdProcessed}
+use Rattle.in_block.specs.Blocks.{heldOf, withState, stored, emptied}
+use Rattle.in_block.specs.declared.InBlock.{InBlock}
+use Rattle.in_block.specs.Facts.{heldTest, factsOf}
+use Rattle.in_block.specs.Outcomes.{outcomeOf, endingOf}
+use Rattle.in_block.specs.declared.Ending.{Ending}
+use Rattle.in_block.specs.declared.Outcome.{Outcome}
+use Rattle.in_questions.specs.Questions.{submissionQuestions, completionQuestions}
+use Rattle.in_endpoint.specs.Submission as submissions
+use Rattle.in_endpoint.specs.Completion as completions
+use Rattle.account.specs.Guest.{Account}
+use Rattle.in_endpoint.specs.declared.Completed.{Completed}
+use Rattle.in_endpoint.specs.declared.Submitted.{Submitted}
+use Rattle.in_endpoint.proofs.CompletionLaws.{accounted-completion, completion-number, answerTo-refused, processTd-counts}
+use Rattle.answer_numbers.specs.Numbers.{answeredAs, completedWith, completionAnswered}
+use Rattle.answer_numbers.specs.declared.Answered.{Answered}
+use Rattle.answer_numbers.specs.declared.CompletionAnswered.{CompletionAnswered}
+use Rattle.in_bytes.specs.Layout.{blockLength, endpointOf, slotOf, modeOf, heldCount, places, blockOf}
+use Rattle.in_place_store.specs.Becomes.{Becomes}
+use Rattle.in_place_store.proofs.ChangeLaws.{becomes-same}
+use Rattle.in_place.specs.InPlace.{lentLog, submittedNumbers, SubmitsInPlace, completedNumbers, CompletesInPlace, AccountedInPlace}
+
+-- ---- The log that counts
+
+module _ (l b : List ℕ) where
+  pub lent-long : blockLength ≤ length b → lentLog l b ≡ length l
+  lent-long h = ap (λ (x : Bool). cond x (length l) 0) (le-leb blockLength (length b) h)
+
+  pub lent-short : length b < blockLength → lentLog l b ≡ 0
+  lent-short h = ap (λ (x : Bool). cond x (length l) 0) (lt-leb blockLength (length b) h)
+
+-- ---- Submission
+
+module _ (k : ℕ) (t : TransferTrb) (regions : Regions) (l b : List ℕ) where
+  abbrev asked : List (Bool × ℕ)
+  asked = submissionQuestions k (factsOf (blockOf b)) t regions
+
+  abbrev done : Out Submitted
+  done = submissions.submittedAs (outcomeOf (heldTest (heldOf (blockOf b))) t) (blockOf b) t
+
+  -- a no leaves all as it was
+  pub submits-refused : (a : Answer) {r : Answered} → numberOf a ≡ firstNo asked → isAccepted a ≡ false → r ≡ answeredAs a 0 → SubmitsInPlace k t regions l b r l b
+  unfolding submissions.submission
+  submits-refused a {r} e failed er =
+      let o : submissions.submission k (blockOf b) t regions ≡ submissions.refused (blockOf b) (numberOf a) = answered-no asked (submissions.refused (blockOf b)) done a e failed in
+      record {
+        number = ap (λ (x : Answered). x .number) er ∙ e;
+        met = subst (λ (x : Out Submitted). Meets (submittedNumbers x) 0 l r l) (sym o) (record { state = er ∙ ap (λ (x : Answer). answeredAs x 0) (sym (refused-is a failed)); log = sym (logged-none l 0); fits = tt });
+        becomes = subst (λ (x : Out Submitted). Becomes b (x .state .block) b) (sym o) (becomes-same b);
+        unchanged = λ h. refl;
+      }
+
+  -- what an accepted submission comes to, by the outcome
+  pub submits-accepted : (a : Answer) {r : Answered} {l' b' : List ℕ} → numberOf a ≡ firstNo asked → isAccepted a ≡ true
+      → (o : Outcome) → outcomeOf (heldTest (heldOf (blockOf b))) t ≡ o
+      → r ≡ answeredAs a (submissions.submittedAs o (blockOf b) t .state .records)
+      → Becomes b (submissions.submittedAs o (blockOf b) t .state .block) b'
+      → submissions.submittedAs o (blockOf b) t .state .answer ≡ Accepted
+      → l' ≡ logged l 0 (submissions.submittedAs o (blockOf b) t .records) → AllFit (submissions.submittedAs o (blockOf b) t .records)
+      → SubmitsInPlace k t regions l b r l' b'
+  unfolding submissions.submission
+  submits-accepted a {r} {l'} {b'} e passed o eo er changed accepts el fits =
+      let s : Out Submitted = submissions.submittedAs o (blockOf b) t in
+      let is : submissions.submission k (blockOf b) t regions ≡ s =
+      answered-yes asked (submissions.refused (blockOf b)) done a e passed ∙ ap (λ (x : Outcome). submissions.submittedAs x (blockOf b) t) eo in
+      let zero : numberOf a ≡ 0 = ap numberOf (accepted-is a passed) in
+      let nr : r .number ≡ 0 = ap (λ (x : Answered). x .number) er ∙ zero in
+      record {
+        number = ap (λ (x : Answered). x .number) er ∙ e;
+        met = subst (λ (x : Out Submitted). Meets (submittedNumbers x) 0 l r l') (sym is)
+            (record { state = er ∙ ap (λ (x : Answer). answeredAs x (s .state .records)) (accepted-is a passed ∙ sym accepts); log = el; fits = fits });
+        becomes = subst (λ (x : Out Submitted). Becomes b (x .state .block) b') (sym is) changed;
+        unchanged = λ h. absurd (omega (arith, h, nr));
+      }
+
+-- the request of the TRBs that are held then
+pub request-said : (x : InBlock) (t : TransferTrb) (b' : List ℕ) (n : ℕ) (l l' : List ℕ) → n ≡ x .held + 1 → blockOf b' ≡ withState (stored x t) AwaitingRealTransfer
+    → Put l 0 (submissions.requestOf (take n (places b')) (endpointOf b') (slotOf b') ∷ []) l' → Put l 0 (submissions.requestOf (heldOf (stored x t)) (x .«endpoint_id») (x .«slot_id») ∷ []) l'
+unfolding blockOf
+request-said x t b' n l l' e h put =
+    subst (λ (r : Record). Put l 0 (r ∷ []) l')
+    (ap (λ (z : InBlock). submissions.requestOf (take n (z .trbs)) (z .«endpoint_id») (z .«slot_id»)) h
+    ∙ ap (λ (k : ℕ). submissions.requestOf (take k (stored x t .trbs)) (x .«endpoint_id») (x .«slot_id»)) e) put
+
+-- bytes too few for a block
+pub submits-short : (t : TransferTrb) (regions : Regions) (l b : List ℕ) {r : Answered} → length b < blockLength → r ≡ answeredAs (Refused BufferTooShort) 0
+    → SubmitsInPlace (lentLog l b) t regions l b r l b
+unfolding submissionQuestions firstNo
+submits-short t regions l b {r} short e =
+    subst (λ (k : ℕ). SubmitsInPlace k t regions l b r l b) (sym (lent-short l b short)) (submits-refused 0 t regions l b (Refused BufferTooShort) refl refl e)
+
+-- ---- Completion
+
+result-parts : (r : TrbProcessingResult) (n : ℕ) → (completedWith r n .number ≡ 0) × (completedWith r n .records ≡ n)
+result-parts result.Ok n = (refl, refl)
+result-parts result.Stall n = (refl, refl)
+result-parts (result.StallAt a c) n = (refl, refl)
+result-parts result.TrbError n = (refl, refl)
+result-parts result.TransactionError n = (refl, refl)
+result-parts (result.TransactionErrorAt a c) n = (refl, refl)
+result-parts result.Disconnect n = (refl, refl)
+
+answer-parts : (a : CompletionAnswer) (n : ℕ) → (completionAnswered a n .number ≡ completionNumber a) × (completionAnswered a n .records ≡ n)
+answer-parts (completion-answer.Completed r) n = result-parts r n
+answer-parts (completion-answer.Refused q) n = (refl, refl)
+
+-- the number 0 is that of an accepted completion
+accepted-zero : (a : CompletionAnswer) → completionNumber a ≡ 0 → completions.isAccepted a ≡ true
+accepted-zero (completion-answer.Completed r) e = refl
+accepted-zero (completion-answer.Refused q) e = absurd (eqb-false (refusalNumber q) 0 (refusalNumber-positive q) e)
+
+module _ (s : InTrbProcessingResult) (n : ℕ) (l b : List ℕ) where
+  abbrev asked-completion : List (Bool × ℕ)
+  asked-completion = completionQuestions (length l) (factsOf (blockOf b)) s n
+
+  abbrev ended : Out Completed
+  ended = completions.completedAs (endingOf (blockOf b .state) s n) (blockOf b)
+
+  -- demand 3
+  account-in-place : {r : CompletionAnswered} {l' : List ℕ} → Meets (completedNumbers (completions.completion (length l) (blockOf b) s n)) 0 l r l'
+      → AccountedInPlace (blockOf b) n r (recordsIn (r .records) l')
+  account-in-place {r} {l'} m waits zero distinct isp last =
+      let o = completions.completion (length l) (blockOf b) s n in
+      let parts = answer-parts (o .state .answer) (o .state .records) in
+      let accepted = accepted-zero (o .state .answer) (sym (parts .0) ∙ sym (ap (λ (x : CompletionAnswered). x .number) (m .state)) ∙ zero) in
+      let count : o .state .records ≡ r .records = sym (parts .1) ∙ sym (ap (λ (x : CompletionAnswered). x .records) (m .state)) in
+      subst (λ (c : ℕ). Account n (heldOf (blockOf b)) (recordsIn c l')) count
+      (accounted-completion l l' (blockOf b) s n (o .state) (record { state = refl; log = m .log; fits = m .fits }) waits accepted distinct isp last)
+
+  -- a completion that was to be o
+  completes-as : {r : CompletionAnswered} {l' b' : List ℕ} (o : Out Completed) → completions.completion (length l) (blockOf b) s n ≡ o
+      → Meets (completedNumbers o) 0 l r l' → Becomes b (o .state .block) b' → (0 < r .number → b' ≡ b) → CompletesInPlace (length l) s n l b r l' b'
+  completes-as {r} {l'} {b'} o is m changed kept =
+      let met = subst (λ (x : Out Completed). Meets (completedNumbers x) 0 l r l') (sym is) m in
+      let c = completions.completion (length l) (blockOf b) s n in
+      record {
+        number = ap (λ (x : CompletionAnswered). x .number) (met .state) ∙ answer-parts (c .state .answer) (c .state .records) .0 ∙ completion-number (length l) (blockOf b) s n;
+        met = met;
+        becomes = subst (λ (x : Out Completed). Becomes b (x .state .block) b') (sym is) changed;
+        unchanged = kept;
+        account = account-in-place met;
+      }
+
+  -- a no leaves all as it was
+  pub completes-refused : (a : Answer) (x : TrbProcessingResult) {r : CompletionAnswered} → numberOf a ≡ firstNo asked-completion → isAccepted a ≡ false
+      → r ≡ completionAnswered (completions.answerTo a x) 0 → CompletesInPlace (length l) s n l b r l b
+  unfolding completions.completion
+  completes-refused a x e failed er =
+      completes-as (completions.refused (blockOf b) (numberOf a)) (answered-no asked-completion (completions.refused (blockOf b)) ended a e failed)
+      (record { state = er ∙ ap (λ (y : CompletionAnswer). completionAnswered y 0) (answerTo-refused a x failed); log = sym (logged-none l 0); fits = tt }) (becomes-same b) (λ h. refl)
+
+  -- what an accepted completion comes to, by its ending
+  pub completes-accepted : (a : Answer) {r : CompletionAnswered} {l' b' : List ℕ} → numberOf a ≡ firstNo asked-completion → isAccepted a ≡ true
+      → (o : Ending) → endingOf (blockOf b .state) s n ≡ o
+      → (w : TrbProcessingResult) (count : ℕ) → r ≡ completionAnswered (completion-answer.Completed w) count
+      → Meets (completedNumbers (completions.completedAs o (blockOf b))) 0 l (completionAnswered (completion-answer.Completed w) count) l'
+      → Becomes b (completions.completedAs o (blockOf b) .state .block) b' → CompletesInPlace (length l) s n l b r l' b'
+  unfolding completions.completion
+  completes-accepted a {r} {l'} e passed o eo w count er m changed =
+      completes-as (completions.completedAs o (blockOf b))
+      (answered-yes asked-completion (completions.refused (blockOf b)) ended a e passed ∙ ap (λ (x : Ending). completions.completedAs x (blockOf b)) eo)
+      (record { state = er ∙ m .state; log = m .log; fits = m .fits }) changed
+      (λ h. absurd (omega (arith, h, ap (λ (x : CompletionAnswered). x .number) er ∙ result-parts w count .0)))
+
+-- the TD was walked
+pub transferred-met : (b l l' : List ℕ) (td : InTd) (held : ℕ) (st : InTrbProcessingStatus) (n : ℕ) (r : TdProcessed) → td ≡ inTd (endpointOf b) (slotOf b) (blockOf b .mode) st n
+    → held ≡ heldCount b → Meets (processTd td (take held (places b))) 0 l r l'
+    → Meets (completedNumbers (completions.transferred (blockOf b) st n)) 0 l (completionAnswered (completion-answer.Completed (r .result)) (r .progress .records)) l'
+unfolding blockOf completions.transferred
+transferred-met b l l' td held st n r et eh m =
+    let known : InTd = inTd (endpointOf b) (slotOf b) (modeOf (getD b 3 0)) st n in
+    let ts : List TransferTrb = take (heldCount b) (places b) in
+    let walked : Meets (processTd known ts) 0 l r l' =
+    subst (λ (k : ℕ). Meets (processTd known (take k (places b))) 0 l r l') eh (subst (λ (x : InTd). Meets (processTd x (take held (places b))) 0 l r l') et m) in
+    record {
+      state = ap (λ (x : TdProcessed). completionAnswered (completion-answer.Completed (x .result)) (x .progress .records)) (walked .state)
+          ∙ ap (λ (k : ℕ). completionAnswered (completion-answer.Completed (processTd known ts .state .result)) k) (processTd-counts known ts);
+      log = walked .log;
+      fits = walked .fits;
+    }
+
+pub transferred-becomes : (b b' : List ℕ) (st : InTrbProcessingStatus) (n : ℕ) → Becomes b (emptied (blockOf b) SubmissionDue) b' → Becomes b (completions.transferred (blockOf b) st n .state .block) b'
+unfolding completions.transferred
+transferred-becomes b b' st n h = h
+
+-- bytes too few for a block
+pub completes-short : (s : InTrbProcessingResult) (n : ℕ) (l b : List ℕ) {r : CompletionAnswered} → length b < blockLength
+    → r ≡ completionAnswered (completion-answer.Refused BufferTooShort) 0 → CompletesInPlace (lentLog l b) s n l b r l b
+unfolding completionQuestions firstNo refusalOf completions.completion
+completes-short s n l b {r} short e =
+    subst (λ (k : ℕ). CompletesInPlace k s n l b r l b) (sym (lent-short l b short))
+    (record {
+      number = ap (λ (x : CompletionAnswered). x .number) e;
+      met = record { state = e; log = sym (logged-none l 0); fits = tt };
+      becomes = becomes-same b;
+      unchanged = λ h. refl;
+      account = λ waits zero distinct isp last. absurd (omega (arith, zero, ap (λ (x : CompletionAnswered). x .number) e));
+    })

@@ -1,0 +1,105 @@
+/* The header held to the library: an IN transfer and a control transfer, from submission to guest memory, and a capture. Exit status 0 where all is as document 01
+ * has it, and otherwise a line that says what is not. */
+#include "polvihe.h"
+#include <stdio.h>
+#include <stdlib.h>
+#include <string.h>
+
+static void expect(int holds, const char *what) {
+    if (!holds) {
+        fprintf(stderr, "transfer.c: not so: %s\n", what);
+        exit(1);
+    }
+}
+#define EXPECT(claim) expect(claim, #claim)
+
+static uint8_t log_bytes[POLVIHE_LOG_LENGTH], collect[POLVIHE_COLLECT_LENGTH], memory[0x600], data[600];
+
+static uint64_t field(const uint8_t *record, int at, int bytes) {
+    uint64_t number = 0;
+    while (bytes-- > 0) number = number << 8 | record[at + bytes];
+    return number;
+}
+
+/* Document 01's TD T, Success, 600 bytes. */
+static void in_transfer(void) {
+    size_t length = polvihe_in_block_length();
+    uint8_t *block = malloc(length);
+    EXPECT(block != NULL);
+    EXPECT(polvihe_in_create(block, length, 32, 2, 0) == 12);
+    EXPECT(polvihe_in_create(block, length - 1, 3, 2, 0) == 1);
+    EXPECT(polvihe_in_create(block, length, 3, 2, 0) == 0);
+    for (int i = 0; i < 3; i++) {
+        uint8_t flags = POLVIHE_INTERRUPT_ON_SHORT | (i == 2 ? POLVIHE_INTERRUPT_ON_COMPLETION : POLVIHE_CHAIN);
+        uint8_t raw[16];
+        EXPECT(polvihe_encode_trb(1, flags, 0x8000 + 512 * i, 512, raw, sizeof raw) == 0);
+        struct polvihe_trb trb = polvihe_decode_trb(raw);
+        EXPECT(trb.kind == 1 && trb.flags == flags && trb.transfer_length == 512);
+        struct polvihe_answered submitted = polvihe_in_submit(log_bytes, sizeof log_bytes, block, length, trb.kind, trb.flags, 0x1000 + 16 * i, trb.value,
+                                                              trb.transfer_length, 0x8000, sizeof memory, 0, 0);
+        EXPECT(submitted.number == 0 && submitted.count == (i == 2));
+        if (i < 2) EXPECT(polvihe_in_complete(log_bytes, sizeof log_bytes, block, length, POLVIHE_NONE, 0).number == 0);
+    }
+    EXPECT(log_bytes[0] == 3 && field(log_bytes, 8, 8) == 0x1000 && field(log_bytes, 16, 4) == 1536);
+    EXPECT(polvihe_in_complete(log_bytes, sizeof log_bytes, block, length, POLVIHE_NONE, 0).number == 8);
+    for (size_t k = 0; k < sizeof data; k++) data[k] = (uint8_t)(11 * k + 5);
+    struct polvihe_completion done = polvihe_in_complete(log_bytes, sizeof log_bytes, block, length, POLVIHE_SUCCESS, sizeof data);
+    EXPECT(done.number == 0 && done.result == 0 && done.records == 4);
+    EXPECT(polvihe_carry_out(log_bytes, 32 * done.records, data, sizeof data, 0x8000, memory, sizeof memory, 0, NULL, 0) == 0);
+    EXPECT(memcmp(memory, data, sizeof data) == 0 && memory[600] == 0);
+    static const char expected[] = "1 0 0 3 2 8000 512 0 0000000000000000\n"
+                                   "1 0 0 3 2 8200 88 512 0000000000000000\n"
+                                   "2 13 0 3 2 1010 424 0 0000000000000000\n"
+                                   "2 13 0 3 2 1020 424 0 0000000000000000\n";
+    static uint8_t text[4096];
+    struct polvihe_answered printed = polvihe_print(log_bytes, 32 * done.records, text, sizeof text);
+    EXPECT(printed.number == 0 && printed.count == strlen(expected) && memcmp(text, expected, printed.count) == 0);
+    EXPECT(polvihe_in_cancel(block, length) == 0);
+    free(block);
+}
+
+/* Setup 80 06, Data IN 18, Status; the device stalls: for release 5 the event is at the Data TRB. */
+static void control_transfer(void) {
+    size_t length = polvihe_control_block_length();
+    uint8_t *block = malloc(length);
+    EXPECT(block != NULL);
+    EXPECT(polvihe_control_create(block, length, 3, 2, 5) == 0);
+    static const struct { uint8_t kind; uint64_t value; uint32_t length; } trbs[] = {{2, 0x0040000001000680, 0}, {3, 0x8000, 18}, {4, 0, 0}};
+    for (int i = 0; i < 3; i++) {
+        struct polvihe_answered submitted = polvihe_control_submit(log_bytes, sizeof log_bytes, collect, sizeof collect, block, length, trbs[i].kind, 0, 0x1000 + 16 * i,
+                                                                   trbs[i].value, trbs[i].length, 0x8000, memory, sizeof memory, 0, NULL, 0);
+        EXPECT(submitted.number == 0 && submitted.count == (i == 2));
+        if (i < 2) EXPECT(polvihe_control_complete(log_bytes, sizeof log_bytes, block, length, POLVIHE_NONE, 0).number == 0);
+    }
+    EXPECT(log_bytes[0] == 3 && field(log_bytes, 16, 4) == 18 && log_bytes[24] == 0x80 && log_bytes[25] == 6);
+    struct polvihe_completion done = polvihe_control_complete(log_bytes, sizeof log_bytes, block, length, POLVIHE_STALL, 0);
+    EXPECT(done.number == 0 && done.result == 1 && done.code == 6 && done.located == 0 && done.records == 1);
+    EXPECT(log_bytes[0] == 2 && log_bytes[1] == 6 && field(log_bytes, 8, 8) == 0x1010);
+    EXPECT(polvihe_control_cancel(block, length) == 0);
+    free(block);
+}
+
+/* A capture of the IN transfer's completion, read again. */
+static void capture(void) {
+    static uint8_t file[24 + 64 + sizeof data];
+    struct polvihe_answered head = polvihe_write_file_header(file, sizeof file);
+    EXPECT(head.number == 0 && head.count == 24);
+    struct polvihe_answered late = polvihe_write_in_completion(file + 24, sizeof file - 24, 1, 5, 7, 1000000, 3, false, 0x1000, POLVIHE_STALL, data, sizeof data);
+    EXPECT(late.number == 24 && late.count == 0);
+    struct polvihe_answered written = polvihe_write_in_completion(file + 24, sizeof file - 24, 1, 5, 7, 8, 3, false, 0x1000, POLVIHE_STALL, data, sizeof data);
+    EXPECT(written.number == 0 && written.count == sizeof file - 24);
+    EXPECT(polvihe_read_capture(file, sizeof file).count == 1);
+    struct polvihe_record record = polvihe_read_record(file, sizeof file, 24);
+    EXPECT(record.number == 0 && record.seconds == 7 && record.microseconds == 8 && record.id == 0x1000 && record.event_type == 'C');
+    EXPECT(record.status == (uint32_t)-32 && record.endpoint_address == 0x81 && record.bus_number == 1 && record.device_address == 5);
+    EXPECT(record.payload_length == sizeof data && memcmp(file + record.payload_start, data, sizeof data) == 0 && record.next == sizeof file);
+    EXPECT(polvihe_read_capture(file, sizeof file - 1).number == 22);
+}
+
+int main(void) {
+    in_transfer();
+    control_transfer();
+    capture();
+    puts("transfer.c: an IN and a control transfer, as document 01 has them, and a capture read again");
+    return 0;
+}

@@ -1,0 +1,167 @@
+//! The control endpoint: the stages of a transfer are submitted, the device's answer completes it.
+
+use crate::exported::{self, accepted};
+use crate::{Completed, DeviceResult, EndpointId, GuestMemory, Refusal, SlotId, Submitted, Trb};
+
+/// Where a guest expects the event of a failed control transfer.
+#[derive(Clone, Copy, Debug, Default, PartialEq, Eq)]
+pub enum GuestRelease {
+    /// At the Setup Stage TRB.
+    #[default]
+    Four = 4,
+    /// At the stage: the first Data Stage TRB held, failing that the first Status Stage TRB, failing that the Setup Stage TRB.
+    Five = 5,
+}
+
+/// Bytes of a control endpoint's block.
+const BLOCK: usize = 12_336;
+
+/// A control endpoint. It owns its block and nothing else: log, collect buffer, guest memory and data are lent for a call.
+///
+/// ```
+/// use polvihe_hal::{ControlEndpoint, DataStage, DeviceResult, Effect, EndpointId, GuestMemory, GuestRelease, Refusal, SetupStage, SlotId, StatusStage, Trb};
+///
+/// let mut log = vec![0; ControlEndpoint::LOG_LENGTH];
+/// let mut collect = vec![0; ControlEndpoint::COLLECT_LENGTH];
+/// let mut bytes = [0u8; 64];
+/// let mut memory = GuestMemory::one(0x8000, &mut bytes);
+/// let mut endpoint = ControlEndpoint::create(EndpointId(1), SlotId(2), GuestRelease::Five)?;
+///
+/// // A device descriptor is asked for: the Status TRB logs the request.
+/// let setup = Trb::SetupStage(SetupStage { setup: [0x80, 6, 0, 1, 0, 0, 18, 0], ..SetupStage::default() });
+/// let data = Trb::DataStage(DataStage { pointer: 0x8000, length: 18, direction: true, ..DataStage::default() });
+/// let status = Trb::StatusStage(StatusStage { interrupt_on_completion: true, ..StatusStage::default() });
+/// for (address, trb) in [(0x1000, setup), (0x1010, data)] {
+///     endpoint.submit(address, trb, true, &memory, &mut collect, &mut log)?;
+///     endpoint.complete(None, &[], &mut log)?;
+/// }
+/// let submitted = endpoint.submit(0x1020, status, true, &memory, &mut collect, &mut log)?;
+/// let request = submitted.records().next().unwrap();
+/// assert_eq!(request.effect, Effect::Request { address: 0x1000, length: 18, setup: [0x80, 6, 0, 1, 0, 0] });
+///
+/// let descriptor = [18; 18];
+/// let completed = endpoint.complete(Some(DeviceResult::Success), &descriptor, &mut log)?;
+/// memory.carry_out(completed.log, &descriptor)?;
+/// assert_eq!(bytes[..18], descriptor);
+/// # Ok::<(), Refusal>(())
+/// ```
+#[derive(Clone)]
+pub struct ControlEndpoint {
+    block: [u8; BLOCK],
+}
+
+impl ControlEndpoint {
+    /// Bytes that a lent log must have, or a call is refused with 1.
+    pub const LOG_LENGTH: usize = 32_768;
+
+    /// Bytes that the collect buffer must have, or a submission is refused with 1.
+    pub const COLLECT_LENGTH: usize = 65_535;
+
+    /// A fresh endpoint: it expects a Setup Stage TRB. Refused with 12 where an id is out of range.
+    pub fn create(endpoint_id: EndpointId, slot_id: SlotId, release: GuestRelease) -> Result<Self, Refusal> {
+        // SAFETY: it takes nothing.
+        debug_assert_eq!(unsafe { exported::polvihe_control_block_length() }, BLOCK);
+        let mut block = [0; BLOCK];
+        // SAFETY: the pointer stands with the length of its array, which is lent for the call alone.
+        accepted(unsafe {
+            exported::polvihe_control_create(block.as_mut_ptr(), BLOCK, endpoint_id.0, slot_id.0, release as u8)
+        })?;
+        Ok(Self { block })
+    }
+
+    /// Submits a TRB that stands at `address` on the ring. The last TRB of a transfer logs its request to the device. The bytes of an OUT
+    /// transfer are collected in `collect`, behind those collected already: lend the same buffer until the transfer is complete.
+    pub fn submit<'l>(
+        &mut self,
+        address: u64,
+        trb: Trb,
+        cycle: bool,
+        memory: &GuestMemory<'_>,
+        collect: &mut [u8],
+        log: &'l mut [u8],
+    ) -> Result<Submitted<'l>, Refusal> {
+        let numbers = trb.numbers(cycle);
+        // SAFETY: each pointer stands with the length of its slice, lent for the call alone; what is written to is borrowed as `&mut`.
+        let answered = unsafe {
+            exported::polvihe_control_submit(
+                log.as_mut_ptr(),
+                log.len(),
+                collect.as_mut_ptr(),
+                collect.len(),
+                self.block.as_mut_ptr(),
+                BLOCK,
+                numbers.kind,
+                numbers.flags,
+                address,
+                numbers.value,
+                numbers.transfer_length,
+                memory.low.start_addr,
+                memory.low.bytes.as_ptr(),
+                memory.low.bytes.len(),
+                memory.high.start_addr,
+                memory.high.bytes.as_ptr(),
+                memory.high.bytes.len(),
+            )
+        };
+        Ok(Submitted::of(answered.count()?, log))
+    }
+
+    /// Submits the TRB that 16 bytes of the ring, at `address`, are.
+    pub fn submit_raw<'l>(
+        &mut self,
+        address: u64,
+        raw: &[u8; 16],
+        memory: &GuestMemory<'_>,
+        collect: &mut [u8],
+        log: &'l mut [u8],
+    ) -> Result<Submitted<'l>, Refusal> {
+        // SAFETY: each pointer stands with the length of its slice, lent for the call alone; what is written to is borrowed as `&mut`.
+        let answered = unsafe {
+            exported::polvihe_control_submit_raw(
+                log.as_mut_ptr(),
+                log.len(),
+                collect.as_mut_ptr(),
+                collect.len(),
+                self.block.as_mut_ptr(),
+                BLOCK,
+                raw,
+                address,
+                memory.low.start_addr,
+                memory.low.bytes.as_ptr(),
+                memory.low.bytes.len(),
+                memory.high.start_addr,
+                memory.high.bytes.as_ptr(),
+                memory.high.bytes.len(),
+            )
+        };
+        Ok(Submitted::of(answered.count()?, log))
+    }
+
+    /// Completes what was submitted. A device result is given exactly where the last submission logged a request; `data` is what the
+    /// device sent. Carry the log out before its events are shown to the guest.
+    pub fn complete<'l>(
+        &mut self,
+        result: Option<DeviceResult>,
+        data: &[u8],
+        log: &'l mut [u8],
+    ) -> Result<Completed<'l>, Refusal> {
+        // SAFETY: log and block are lent with their lengths, for the call alone. Of the data only its length is passed.
+        let answered = unsafe {
+            exported::polvihe_control_complete(
+                log.as_mut_ptr(),
+                log.len(),
+                self.block.as_mut_ptr(),
+                BLOCK,
+                DeviceResult::number(result),
+                data.len(),
+            )
+        };
+        Completed::of(answered, log)
+    }
+}
+
+impl core::fmt::Debug for ControlEndpoint {
+    fn fmt(&self, f: &mut core::fmt::Formatter<'_>) -> core::fmt::Result {
+        f.debug_struct("ControlEndpoint").finish_non_exhaustive()
+    }
+}
