@@ -1,11 +1,15 @@
 //! Playback through the proved input path: a guest that asks for frames by a ring of raw TRBs, a device that sends them, with short packets and
 //! a stall now and then, and between the two what a hardware abstraction layer does: submit, complete, carry out, show the events.
 //!
-//! `cargo run --release --example playback -- [FRAMES]` prints frames a second and how many frames the guest found torn.
+//! `cargo run --release --example playback -- [FRAMES [FILE]]` prints frames a second and how many frames the guest found torn, and writes a
+//! capture of the requests and completions to FILE, for Wireshark.
 
+use polvihe_hal::record::{self, Device, Event, InPipe, InStatus, Time};
 use polvihe_hal::{
     DeviceResult, Effect, EndpointId, EventAbout, GuestMemory, InEndpoint, Mode, Normal, Outcome, Refusal, SlotId, Trb,
 };
+use std::fs::File;
+use std::io::{BufWriter, Write};
 use std::time::Instant;
 
 /// A frame of picture essence: twenty Normal TRBs of 64 KiB.
@@ -74,8 +78,43 @@ impl Guest {
     }
 }
 
+/// A capture, written record by record.
+struct Capture {
+    file: BufWriter<File>,
+    record: Vec<u8>,
+}
+
+impl Capture {
+    const DEVICE: Device = Device { bus_number: 1, address: 5 };
+    const PIPE: InPipe = InPipe { id: 3, interrupt: false };
+
+    fn create(name: &str) -> Result<Self, Box<dyn std::error::Error>> {
+        let mut capture =
+            Self { file: BufWriter::new(File::create(name)?), record: vec![0; record::RECORD_HEADERS_LENGTH + FRAME] };
+        let length = record::write_file_header(&mut capture.record)?;
+        capture.file.write_all(&capture.record[..length])?;
+        Ok(capture)
+    }
+
+    /// A frame's request and its completion, 24 frames a second.
+    fn frame(&mut self, frame: usize, result: DeviceResult, data: &[u8]) -> Result<(), Box<dyn std::error::Error>> {
+        let status = if result == DeviceResult::Stall { InStatus::Stall } else { InStatus::Success };
+        let (endpoint, id) = (Self::PIPE, RING);
+        let submission = Event::InSubmission { endpoint, id, length: FRAME as u32 };
+        let completion = Event::InCompletion { endpoint, id, status, data };
+        for (event, after) in [(submission, 0), (completion, 20_000)] {
+            let time = Time { seconds: (frame / 24) as u32, microseconds: (frame % 24 * 41_667 + after) as u32 };
+            let length = record::write_record(&mut self.record, Self::DEVICE, time, event)?;
+            self.file.write_all(&self.record[..length])?;
+        }
+        Ok(())
+    }
+}
+
 fn main() -> Result<(), Box<dyn std::error::Error>> {
-    let frames: usize = std::env::args().nth(1).map_or(Ok(480), |word| word.parse())?;
+    let mut words = std::env::args().skip(1);
+    let frames: usize = words.next().map_or(Ok(480), |word| word.parse())?;
+    let mut capture = words.next().map(|name| Capture::create(&name)).transpose()?;
     let ring = ring()?;
     let mut buffer = vec![0u8; FRAME];
     let mut data = vec![0u8; FRAME];
@@ -118,6 +157,12 @@ fn main() -> Result<(), Box<dyn std::error::Error>> {
         if !seen || guest.told != Some(sent) {
             torn += 1;
         }
+        if let Some(capture) = &mut capture {
+            capture.frame(frame, result, &data[..sent])?;
+        }
+    }
+    if let Some(capture) = &mut capture {
+        capture.file.flush()?;
     }
     let rate = frames as f64 / spent.as_secs_f64();
     println!("{frames} frames of {FRAME} bytes: {whole} whole, {short} short, {stalled} stalled; {torn} torn");

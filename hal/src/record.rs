@@ -27,9 +27,9 @@ pub struct Time {
     pub microseconds: u32,
 }
 
-/// An IN endpoint, by its xHCI id.
+/// The pipe of an IN endpoint, by its xHCI id.
 #[derive(Clone, Copy, Debug, PartialEq, Eq)]
-pub struct InEndpoint {
+pub struct InPipe {
     /// Its xHCI endpoint id: an odd one is IN.
     pub id: u8,
     /// Are its transfers interrupt transfers? Otherwise they are bulk ones.
@@ -74,12 +74,12 @@ pub struct Request {
 #[allow(missing_docs)]
 pub enum Event<'p> {
     InSubmission {
-        endpoint: InEndpoint,
+        endpoint: InPipe,
         id: u64,
         length: u32,
     },
     InCompletion {
-        endpoint: InEndpoint,
+        endpoint: InPipe,
         id: u64,
         status: InStatus,
         data: &'p [u8],
@@ -122,12 +122,12 @@ pub fn write_file_header(output: &mut [u8]) -> Result<usize, Refusal> {
 /// short; it is unchanged then.
 ///
 /// ```
-/// use polvihe_hal::record::{self, Capture, Device, Event, InEndpoint, InStatus, Time};
+/// use polvihe_hal::record::{self, Capture, Device, Event, InPipe, InStatus, Time};
 /// use polvihe_hal::Refusal;
 ///
 /// let device = Device { bus_number: 2, address: 5 };
 /// let time = Time { seconds: 1_700_000_000, microseconds: 7 };
-/// let endpoint = InEndpoint { id: 3, interrupt: false };
+/// let endpoint = InPipe { id: 3, interrupt: false };
 /// let data = [5, 16, 27];
 /// let mut file = [0; 256];
 /// let mut end = record::write_file_header(&mut file)?;

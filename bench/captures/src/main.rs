@@ -1,7 +1,7 @@
 //! Times writing, reading, converting and merging beside `memcpy` of the file made or read, in one run, and prints a table: nanoseconds for each record,
 //! the best of the runs. The output buffer is touched before the first one.
 
-use polvihe_hal::record::{self, Capture, Device, Event, InEndpoint, InStatus, Time};
+use polvihe_hal::record::{self, Capture, Device, Event, InPipe, InStatus, Time};
 use polvihe_hal::{capture as product, Refusal};
 use std::hint::black_box;
 use std::time::Instant;
@@ -34,7 +34,7 @@ fn data_of(payload: usize) -> Vec<u8> {
 }
 
 const DEVICE: Device = Device { bus_number: 2, address: 5 };
-const ENDPOINT: InEndpoint = InEndpoint { id: 3, interrupt: false };
+const ENDPOINT: InPipe = InPipe { id: 3, interrupt: false };
 
 /// A capture of bulk completions with these data, a second apart, written by the product.
 fn written(records: usize, data: &[u8], output: &mut [u8]) -> Result<(), Refusal> {
