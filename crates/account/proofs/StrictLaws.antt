@@ -33,7 +33,7 @@ use Rattle.in_td.specs.declared.InTd.{InTd}
 use Rattle.in_td.specs.declared.TdProcessed.{TdProcessed}
 use Rattle.in_td.specs.Normals.{normalOf, requested}
 use Rattle.account.specs.Guest.{isWrite, any}
-use Rattle.account.specs.Strict.{failureCode, failureResult, lastOf, lastNormal, throughLastWrite, toldBy, failedAt, strictly}
+use Rattle.account.specs.Strict.{failureCode, failureResult, lastOf, lastNormal, throughLastWrite, logAndResult, failedAt, strictly}
 use Rattle.account.proofs.GuestLaws.{any-append}
 use Rattle.account.proofs.StepLaws.{normal-or-other, normalCount-other, requested-none, reached, any-when, Passed, passed-step, leftFrom, fullEvent, fullRecords, Fails, fails-last, full-step, missing, Shortened, short-step, Later, later-step}
 use Rattle.account.proofs.TdLog.{walkFrom, walk-next, logFrom, OtherLog, other-log, full-log, full-walk, failed-log, failed-result}
@@ -333,14 +333,14 @@ module _ (e : EndpointId) (s : SlotId) (st : InTrbProcessingStatus) (n : ℕ) wh
 
   -- ---- 02's sentence
 
-  told-same : (ts : List TransferTrb) → Same (reached 0 0 Default 0 (normals ts)) ts → toldBy (processTd strict ts) ≡ toldBy (processTd ported ts)
-  told-same ts same = ap toldBy same
+  told-same : (ts : List TransferTrb) → Same (reached 0 0 Default 0 (normals ts)) ts → logAndResult (processTd strict ts) ≡ logAndResult (processTd ported ts)
+  told-same ts same = ap logAndResult same
 
   strict-failed : (ts : List TransferTrb) → ((left : ℕ) → failsAtLast Strict st left ≡ eqb left 1) → requested ts ≤ n
-      → toldBy (processTd strict ts) ≡ failedAt (lastNormal ts) e s st (toldBy (processTd ported ts))
+      → logAndResult (processTd strict ts) ≡ failedAt (lastNormal ts) e s st (logAndResult (processTd ported ts))
   strict-failed ts failed enough = by-last (lastNormal ts) refl (lastNormal-counted ts)
     where
-      by-last : (o : Option TransferTrb) → lastNormal ts ≡ o → Counted o (normals ts) → toldBy (processTd strict ts) ≡ failedAt o e s st (toldBy (processTd ported ts))
+      by-last : (o : Option TransferTrb) → lastNormal ts ≡ o → Counted o (normals ts) → logAndResult (processTd strict ts) ≡ failedAt o e s st (logAndResult (processTd ported ts))
       by-last none q k = told-same ts (as-ported ts 0 0 0 (normals ts) refl (inr k))
       by-last (some u) q k =
           let f : FailsAt failed u (processTd ported ts) (processTd strict ts) = fails-from failed ts 0 0 0 (normals ts) refl (omega arith) u q in
@@ -348,11 +348,11 @@ module _ (e : EndpointId) (s : SlotId) (st : InTrbProcessingStatus) (n : ℕ) wh
           let ends : processTd strict ts .state .result ≡ failureResult st (u .addr) (u .«cycle_bit») = f .result in
           λ i. record { records = logs i; result = ends i }
 
-  strict-fewer : (ts : List TransferTrb) → n < requested ts → toldBy (processTd strict ts) ≡ toldBy (processTd ported ts)
+  strict-fewer : (ts : List TransferTrb) → n < requested ts → logAndResult (processTd strict ts) ≡ logAndResult (processTd ported ts)
   strict-fewer ts fewer = told-same ts (as-ported ts 0 0 0 (normals ts) refl (inl (omega arith)))
 
   strict-failure : (ts : List TransferTrb) → ((left : ℕ) → failsAtLast Strict st left ≡ eqb left 1)
-      → toldBy (processTd strict ts) ≡ cond (leb (requested ts) n) (failedAt (lastNormal ts) e s st (toldBy (processTd ported ts))) (toldBy (processTd ported ts))
+      → logAndResult (processTd strict ts) ≡ cond (leb (requested ts) n) (failedAt (lastNormal ts) e s st (logAndResult (processTd ported ts))) (logAndResult (processTd ported ts))
   strict-failure ts failed =
       ⊎-elim
       (λ (h : requested ts ≤ n). rw (le-leb (requested ts) n h) (strict-failed ts failed h))
@@ -360,7 +360,7 @@ module _ (e : EndpointId) (s : SlotId) (st : InTrbProcessingStatus) (n : ℕ) wh
       (le-or-lt (requested ts) n)
 
 -- 02, R-4: what a TD in strict mode logs, and its result
-pub told-strictly : (e : EndpointId) (s : SlotId) (st : InTrbProcessingStatus) (n : ℕ) (ts : List TransferTrb) → toldBy (processTd (inTd e s Strict st n) ts) ≡ strictly e s st n ts
+pub told-strictly : (e : EndpointId) (s : SlotId) (st : InTrbProcessingStatus) (n : ℕ) (ts : List TransferTrb) → logAndResult (processTd (inTd e s Strict st n) ts) ≡ strictly e s st n ts
 told-strictly e s status.Success n ts = told-same e s status.Success n ts (same-never e s status.Success n (λ left. refl) ts (reached 0 0 Default 0 (normals ts)))
 told-strictly e s status.Stall n ts = strict-failure e s status.Stall n ts (λ left. refl)
 told-strictly e s status.TransactionError n ts = strict-failure e s status.TransactionError n ts (λ left. refl)

@@ -59,16 +59,16 @@ abbrev pub throughLastWrite : List Record → List Record
 throughLastWrite rs = take (suc (beforeLast isWrite rs)) rs
 
 -- what a TD logs, and its result
-pub record Told : Type 0 where
+pub record LogAndResult : Type 0 where
   pub records : List Record
   pub result : TrbProcessingResult
 
-abbrev pub toldBy : Out TdProcessed → Told
-toldBy o = record { records = o .records; result = o .state .result }
+abbrev pub logAndResult : Out TdProcessed → LogAndResult
+logAndResult o = record { records = o .records; result = o .state .result }
 
 -- at its last Normal, after the write and in place of any Success there, an event with the status's code and residual 0 whatever the
 -- flags, and ends there with that result
-abbrev pub failedAt : Option TransferTrb → EndpointId → SlotId → InTrbProcessingStatus → Told → Told
+abbrev pub failedAt : Option TransferTrb → EndpointId → SlotId → InTrbProcessingStatus → LogAndResult → LogAndResult
 failedAt none e s st ported = ported
 failedAt (some t) e s st ported = record {
   records = throughLastWrite (ported .records) ++ transferEvent (t .addr) 0 (failureCode st) false e s ∷ [];
@@ -76,7 +76,7 @@ failedAt (some t) e s st ported = record {
 }
 
 -- a TD with a Normal, a status other than Success and n at least S; any other is as ported
-abbrev pub strictly : EndpointId → SlotId → InTrbProcessingStatus → ℕ → List TransferTrb → Told
+abbrev pub strictly : EndpointId → SlotId → InTrbProcessingStatus → ℕ → List TransferTrb → LogAndResult
 strictly e s st n ts =
-    let ported = toldBy (processTd (inTd e s AsPorted st n) ts) in
+    let ported = logAndResult (processTd (inTd e s AsPorted st n) ts) in
     cond (isFailure st && leb (requested ts) n) (failedAt (lastNormal ts) e s st ported) ported

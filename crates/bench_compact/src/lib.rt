@@ -18,7 +18,7 @@ pub extern "C" fn bench_compact(log: &[u8], buffer: &mut [u8], repeats: u32) -> 
     let mut sum: u64 = 0;
     let mut k: u32 = 0;
     while k < repeats {
-        buffers::lay(buffer, 0, log);
+        buffers::copy_into(buffer, 0, log);
         sum = std::num::wrapping_add_u64(sum, kept(log_compact::compact(buffer)));
         k += 1;
     }

@@ -6,7 +6,7 @@ ghost use Rattle.buffers.specs.Patch.{patch};
 ghost use Rattle.buffers.specs.LittleEndian.{leField};
 
 // Lays the bytes of `src` over `dst` from index `at` on. The kit's `bytes::copy` moves them, at memory speed.
-pub fn lay(dst: &mut [u8], at: usize, src: &[u8])
+pub fn copy_into(dst: &mut [u8], at: usize, src: &[u8])
     requires { ⌜ at + length (now src) ≤ length (now dst) ⌝ }
     ensures { λ _. ⌜ now (dst .exit) ≡ patch (now (dst .entry)) at (now (src .entry)) ⌝ }
 {

@@ -20,7 +20,7 @@ pub fn put_word(text: &mut [u8], at: usize, word: &[u8]) -> usize
     requires { ⌜ at + length (now word) ≤ length (now text) ⌝ }
     ensures { λ r. ⌜ Written (length (now (word .entry))) (now (text .entry)) at (now (word .entry)) r (now (text .exit)) ⌝ }
 {
-    buffers::lay(text, at, word);
+    buffers::copy_into(text, at, word);
     at + word.len()
 }
 

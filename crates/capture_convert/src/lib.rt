@@ -39,9 +39,9 @@ fn write_front(rest: &[u8], from: usize, to: usize, dst: &mut [u8], out: usize)
 {
     let cells = resized_head(rest, from, to);
     let zeros = [0u8; 16];
-    buffers::lay(dst, out, &cells);
-    buffers::lay(dst, out + 16, &rest[16..64]);
-    buffers::lay(dst, out + 64, &zeros[..to]);
+    buffers::copy_into(dst, out, &cells);
+    buffers::copy_into(dst, out + 16, &rest[16..64]);
+    buffers::copy_into(dst, out + 64, &zeros[..to]);
 }
 
 // Writes that record, and returns its size.
@@ -53,7 +53,7 @@ fn write_record(rest: &[u8], from: usize, to: usize, dst: &mut [u8], out: usize)
     let start = 64 + from;
     let end = start + delivered;
     write_front(rest, from, to, dst, out);
-    buffers::lay(dst, out + (64 + to), &rest[start..end]);
+    buffers::copy_into(dst, out + (64 + to), &rest[start..end]);
     64 + to + delivered
 }
 
@@ -95,7 +95,7 @@ fn write_file(src: &[u8], dst: &mut [u8])
         buffers::le32(src, 16),
         other,
     );
-    buffers::lay(dst, 0, &cells);
+    buffers::copy_into(dst, 0, &cells);
     write_records(
         &src[24..],
         capture_file::extra_of(link),

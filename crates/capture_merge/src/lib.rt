@@ -39,7 +39,7 @@ fn copy_record(rest: &[u8], dst: &mut [u8], out: usize) -> usize
     ensures { λ r. ⌜ (r ≡ 16 + capturedAt (now (rest .entry))) × (now (dst .exit) ≡ patch (now (dst .entry)) out (take (16 + capturedAt (now (rest .entry))) (now (rest .entry)))) ⌝ }
 {
     let size = capture_file::record_size(rest);
-    buffers::lay(dst, out, &rest[..size]);
+    buffers::copy_into(dst, out, &rest[..size]);
     size
 }
 
@@ -75,7 +75,7 @@ fn write_merged(a: &[u8], b: &[u8], dst: &mut [u8])
     let link = buffers::le32(a, 20);
     let snap = larger(buffers::le32(a, 16), buffers::le32(b, 16));
     let cells = capture_file::file_head(buffers::le32(a, 8), buffers::le32(a, 12), snap, link);
-    buffers::lay(dst, 0, &cells);
+    buffers::copy_into(dst, 0, &cells);
     merge_records(&a[24..], &b[24..], capture_file::extra_of(link), dst);
 }
 

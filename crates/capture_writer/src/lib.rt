@@ -48,7 +48,7 @@ pub fn write_file_header(output: &mut [u8]) -> Written
         capture_record::SNAP_LENGTH,
         capture_file::LINK_SHORT,
     );
-    buffers::lay(output, 0, &cells);
+    buffers::copy_into(output, 0, &cells);
     Written {
         number: 0,
         length: 24,
@@ -74,9 +74,9 @@ fn put_record(output: &mut [u8], seconds: u32, microseconds: u32, header: UsbHea
     let captured = (HEADER_LENGTH + payload.len()) as u32;
     let front = capture_file::record_head(seconds, microseconds, captured, captured);
     let link = capture_record::header_bytes(header);
-    buffers::lay(output, 0, &front);
-    buffers::lay(output, 16, &link);
-    buffers::lay(output, FRONT_LENGTH, payload);
+    buffers::copy_into(output, 0, &front);
+    buffers::copy_into(output, 16, &link);
+    buffers::copy_into(output, FRONT_LENGTH, payload);
 }
 
 // Writes the record of an event: 24 where the microseconds pass 999,999 or the captured length the snap length, then 14 where the

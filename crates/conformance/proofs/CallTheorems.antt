@@ -25,7 +25,7 @@ use Rattle.standard.specs.Xhci.{outcome, asked, repeatedResidual, events}
 use Rattle.conformance.specs.Translate.{tdOf, told, endingOf as endingOfStatus, Agreed}
 use Rattle.conformance.proofs.InTheorems.{told-events, counted-normal}
 use Rattle.in_block.specs.Blocks.{heldOf}
-use Rattle.in_block.specs.Outcomes.{endingOf as endingIn}
+use Rattle.in_block.specs.Outcomes.{endingOf as inEndingOf}
 use Rattle.in_block.specs.declared.InBlock.{InBlock}
 use Rattle.in_endpoint.specs.Completion.{transferred, completedAs, isAccepted, completion as completionIn}
 use Rattle.in_endpoint.proofs.CompletionLaws.{accepted-none, accepted-completion}
@@ -50,7 +50,7 @@ pub completion-processTd : (b : InBlock) (st : InTrbProcessingStatus) (n l : ℕ
 unfolding transferred
 completion-processTd b st n l awaits h =
     ap (λ (o : Out Completed). o .records) (accepted-completion l b (Given st) n h)
-    ∙ ap (λ (state : TdBasedNormalSubmissionState). completedAs (endingIn state (Given st) n) b .records) awaits
+    ∙ ap (λ (state : TdBasedNormalSubmissionState). completedAs (inEndingOf state (Given st) n) b .records) awaits
 
 -- 02, R-4: such a block holds a Normal
 accepted-normals : (b : InBlock) (r : InTrbProcessingResult) (n l : ℕ) → b .state ≡ AwaitingRealTransfer → isAccepted (completionIn l b r n .state .answer) ≡ true → 0 < normals (heldOf b)

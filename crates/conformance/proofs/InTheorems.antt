@@ -25,7 +25,7 @@ use Rattle.in_td.specs.declared.InMode.the-variants.{AsPorted, Strict}
 use Rattle.in_td.specs.declared.TdProcessed.{TdProcessed}
 use Rattle.standard.specs.Xhci.{Trb, Outcome, ended, outcome, asked, repeatedResidual, events, deliveries, haltedAt, success, usbTransactionError, trbError, stallError, shortPacket}
 use Rattle.in_td.specs.Normals.{normalOf, lengthOf, requested}
-use Rattle.account.specs.Strict.{isFailure, Told, toldBy}
+use Rattle.account.specs.Strict.{isFailure, LogAndResult, logAndResult}
 use Rattle.account.proofs.StrictLaws.{lastNormal-none, told-strictly}
 use Rattle.conformance.specs.Translate.{trbIn, tdOf, told, wrote, endingOf, outcomeIn, Agreed, HasNormal, haltOf, haltIn}
 use Rattle.conformance.proofs.InConforms.{Agrees, whole, at-start, failed-whole}
@@ -67,14 +67,14 @@ module _ (e : EndpointId) (s : SlotId) (st : InTrbProcessingStatus) (n : ℕ) (t
   as-ported = whole e s st n (asked (tdOf ts)) ts [] (normals ts) atStart (omega arith) at-start
 
   -- a walk in strict mode that told what it tells as ported
-  same-agrees : (o : Outcome) → toldBy (walk-in Strict) ≡ toldBy (walk-in AsPorted) → Agrees st o n [] (tdOf ts) (walk-in AsPorted) → Agrees st o n [] (tdOf ts) (walk-in Strict)
+  same-agrees : (o : Outcome) → logAndResult (walk-in Strict) ≡ logAndResult (walk-in AsPorted) → Agrees st o n [] (tdOf ts) (walk-in AsPorted) → Agrees st o n [] (tdOf ts) (walk-in Strict)
   same-agrees o same a = record {
-    events = ap (λ (x : Told). told (x .records)) same ∙ a .events;
-    writes = ap (λ (x : Told). wrote (x .records)) same ∙ a .writes;
-    halt = ap (λ (x : Told). haltOf (x .result)) same ∙ a .halt;
+    events = ap (λ (x : LogAndResult). told (x .records)) same ∙ a .events;
+    writes = ap (λ (x : LogAndResult). wrote (x .records)) same ∙ a .writes;
+    halt = ap (λ (x : LogAndResult). haltOf (x .result)) same ∙ a .halt;
   }
 
-  fewer-same : n < requested ts → toldBy (walk-in Strict) ≡ toldBy (walk-in AsPorted)
+  fewer-same : n < requested ts → logAndResult (walk-in Strict) ≡ logAndResult (walk-in AsPorted)
   fewer-same h = told-strictly e s st n ts ∙ rw (lt-leb (requested ts) n h, and-false (isFailure st))
 
   strict-failed : isFailure st ≡ true → 0 < normals ts → outcomeIn AsPorted st n (asked (tdOf ts)) ≡ cond (leb (asked (tdOf ts)) n) ended (outcomeIn Strict st n (asked (tdOf ts)))
@@ -104,10 +104,10 @@ counted-normal status.Disconnect ts h = h
 
 -- without a Normal both modes tell the same
 none-same : (e : EndpointId) (s : SlotId) (st : InTrbProcessingStatus) (n : ℕ) (ts : List TransferTrb) → normals ts ≡ 0
-    → toldBy (processTd (inTd e s Strict st n) ts) ≡ toldBy (processTd (inTd e s AsPorted st n) ts)
+    → logAndResult (processTd (inTd e s Strict st n) ts) ≡ logAndResult (processTd (inTd e s AsPorted st n) ts)
 none-same e s st n ts none-counted = told-strictly e s st n ts ∙ rw (lastNormal-none ts none-counted) (by-test (isFailure st && leb (requested ts) n))
   where
-    by-test : (b : Bool) → cond b (toldBy (processTd (inTd e s AsPorted st n) ts)) (toldBy (processTd (inTd e s AsPorted st n) ts)) ≡ toldBy (processTd (inTd e s AsPorted st n) ts)
+    by-test : (b : Bool) → cond b (logAndResult (processTd (inTd e s AsPorted st n) ts)) (logAndResult (processTd (inTd e s AsPorted st n) ts)) ≡ logAndResult (processTd (inTd e s AsPorted st n) ts)
     by-test true = refl
     by-test false = refl
 

@@ -18,7 +18,7 @@ use Rattle.trb.proofs.TestLaws.{or-false-left, or-false-right, le-or-lt}
 use Rattle.log.specs.Records.{controlRequest, encode}
 use Rattle.phase_table.specs.declared.Outcome.{Outcome}
 use Rattle.phase_table.specs.Outcomes.{holds, phaseAfter}
-use Rattle.phase_table.specs.Table.{becomes}
+use Rattle.phase_table.specs.Table.{trbOutcome}
 use Rattle.control_block.specs.Blocks.{atPhase}
 use Rattle.control_transfer.specs.Data.{dataOf, sizeOf}
 use Rattle.control_block.specs.declared.ControlTransfer.{ControlTransfer}
@@ -94,5 +94,5 @@ module _ (p : Setup) (a : ℕ) where
   pub behind-requests : (ts : List TransferTrb) (w : ControlTransfer) → anySetup ts ≡ false → Requests p a w → Requests p a (transferBehind ts w)
   behind-requests [] w h q = q
   behind-requests (t ∷ ts) w h q =
-      behind-requests ts (transferAfter (becomes (w .phase) (t .variant)) (t .variant) (t .addr) w) (or-false-right (isSetup (t .variant)) (anySetup ts) h)
-      (after-requests (becomes (w .phase) (t .variant)) (t .variant) (t .addr) w (or-false-left (isSetup (t .variant)) (anySetup ts) h) q)
+      behind-requests ts (transferAfter (trbOutcome (w .phase) (t .variant)) (t .variant) (t .addr) w) (or-false-right (isSetup (t .variant)) (anySetup ts) h)
+      (after-requests (trbOutcome (w .phase) (t .variant)) (t .variant) (t .addr) w (or-false-left (isSetup (t .variant)) (anySetup ts) h) q)

@@ -7,7 +7,7 @@ use Rattle.trb.specs.declared.SetupStageTrb.{SetupStageTrb}
 use Rattle.trb.specs.declared.TransferTrb.{TransferTrb}
 use Rattle.trb.specs.declared.TransferTrbVariant.{TransferTrbVariant}
 use Rattle.trb.specs.declared.TransferTrbVariant.the-variants.{SetupStage, DataStage, StatusStage, Normal, EventData, NoOp, Isoch, Unrecognized}
-use Rattle.phase_table.specs.Table.{becomes}
+use Rattle.phase_table.specs.Table.{trbOutcome}
 use Rattle.control_block.specs.declared.ControlTransfer.{ControlTransfer}
 use Rattle.control_transfer.specs.Transfers.{transferAfter}
 use Rattle.standard.specs.Usb.{Setup, toHost}
@@ -55,4 +55,4 @@ anySetup (t ∷ ts) = isSetup (t .variant) || anySetup ts
 -- what the TRBs make of a transfer, one after the other, as the phase table says
 abbrev pub transferBehind : List TransferTrb → ControlTransfer → ControlTransfer
 transferBehind [] w = w
-transferBehind (t ∷ ts) w = transferBehind ts (transferAfter (becomes (w .phase) (t .variant)) (t .variant) (t .addr) w)
+transferBehind (t ∷ ts) w = transferBehind ts (transferAfter (trbOutcome (w .phase) (t .variant)) (t .variant) (t .addr) w)

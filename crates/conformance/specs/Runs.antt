@@ -35,7 +35,7 @@ use Rattle.td_part.specs.Parts.{putDma, realizeDma}
 use Rattle.trb.specs.Ids.{idsInRange}
 use Rattle.walks.specs.All.{all}
 use Rattle.walks.specs.Walk.{walk}
-use Rattle.phase_table.specs.Table.{becomes}
+use Rattle.phase_table.specs.Table.{trbOutcome}
 use Rattle.control_block.specs.Blocks.{freshBlock as freshControl}
 use Rattle.control_block.specs.declared.ControlBlock.{ControlBlock}
 use Rattle.control_block.specs.declared.GuestRelease.{GuestRelease}
@@ -149,7 +149,7 @@ controlFrom ran (controlCall t r n ∷ calls) =
 
 -- on an endpoint created for guests of this release
 unfoldable pub controlRunFor : GuestRelease → List ControlCall → ControlRan
-unfolding controlFrom submissionControl firstNo submissionQuestions hasRoom reaches collects inReach rangeInside bytesAt bytesOf bytesCollected acceptedSubmission blockAfter recordsOf transferAfter becomes successes completionControl completionQuestions acceptedCompletion blockBehind errorAddress firstAt endingRecords realizeTrb realizeDataStage realizeNormal moveOut idsInRange soundControl soundTrb all placeOf inRegion regions.shareAnAddress regions.sharesAt regions.holds cleared walk putDma realizeDma
+unfolding controlFrom submissionControl firstNo submissionQuestions hasRoom reaches collects inReach rangeInside bytesAt bytesOf bytesCollected acceptedSubmission blockAfter recordsOf transferAfter trbOutcome successes completionControl completionQuestions acceptedCompletion blockBehind errorAddress firstAt endingRecords realizeTrb realizeDataStage realizeNormal moveOut idsInRange soundControl soundTrb all placeOf inRegion regions.shareAnAddress regions.sharesAt regions.holds cleared walk putDma realizeDma
 controlRunFor release calls =
     controlFrom (record { block = freshControl (record { 0 = 3 }) (record { 0 = 2 }) release; records = []; collected = []; halt = runsOn }) calls
 

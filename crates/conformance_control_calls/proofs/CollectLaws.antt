@@ -22,7 +22,7 @@ use Rattle.guest_memory.specs.declared.Regions.{Regions}
 use Rattle.guest_memory.specs.Places.{placeOf, Memory, regionsOf, bytesIn, bytesAt}
 use Rattle.phase_table.specs.Leads.{trbsLead}
 use Rattle.phase_table.specs.Outcomes.{holds, requests}
-use Rattle.phase_table.specs.Table.{becomes}
+use Rattle.phase_table.specs.Table.{trbOutcome}
 use Rattle.phase_table.specs.declared.Outcome.{Outcome}
 use Rattle.control_block.specs.Blocks.{transferOf, heldOf}
 use Rattle.control_block.specs.declared.ControlBlock.{ControlBlock}
@@ -125,19 +125,19 @@ module _ (lent : Lent) (m : Memory) (same : lent .regions ≡ regionsOf m) where
     asked : firstNo (questionsOf (lent .log) (lent .collect) b t (regionsOf m)) ≡ 0
     asked = ap (λ (r : Regions). firstNo (questionsOf (lent .log) (lent .collect) b t r)) (sym same) ∙ none
 
-    collected-as : bytesCollected (lent .log) (lent .collect) b t m ≡ bytesTaken (becomes (b .phase) (t .variant)) (b .direction) (t .variant) m
+    collected-as : bytesCollected (lent .log) (lent .collect) b t m ≡ bytesTaken (trbOutcome (b .phase) (t .variant)) (b .direction) (t .variant) m
     unfolding bytesCollected
     collected-as = rw asked
 
     -- in a transfer that goes out
-    out-bytes : holds (becomes (b .phase) (t .variant)) ≡ true → b .direction ≡ false → all allowed (sourceOf (t .variant)) ≡ true
+    out-bytes : holds (trbOutcome (b .phase) (t .variant)) ≡ true → b .direction ≡ false → all allowed (sourceOf (t .variant)) ≡ true
         → bytesCollected (lent .log) (lent .collect) b t m ≡ outgoing (bytesAt m) (sourceOf (t .variant))
     unfolding collects
     out-bytes held out short = collected-as ∙ rw (held, out) (own-bytes m (t .variant) short)
 
     -- a Setup Stage TRB has none, whatever the transfer before it was
     setup-bytes : dataOf (t .variant) ≡ noData → bytesCollected (lent .log) (lent .collect) b t m ≡ []
-    setup-bytes e = collected-as ∙ by-collects (collects (becomes (b .phase) (t .variant)) (b .direction))
+    setup-bytes e = collected-as ∙ by-collects (collects (trbOutcome (b .phase) (t .variant)) (b .direction))
       where
         by-collects : (c : Bool) → cond c (bytesOf m (dataOf (t .variant))) [] ≡ []
         by-collects true = ap (bytesOf m) e ∙ bytes-none m
@@ -145,9 +145,9 @@ module _ (lent : Lent) (m : Memory) (same : lent .regions ≡ regionsOf m) where
 
   last-bytes : (b : ControlBlock) (t : TransferTrb) → b .direction ≡ false → trbsLead (b .phase) (t ∷ []) ≡ true → EachAccepted lent b (t ∷ []) → all allowed (sourcesOf (t ∷ [])) ≡ true
       → collectedBy lent m b (t ∷ []) ≡ outgoing (bytesAt m) (sourcesOf (t ∷ []))
-  unfolding EachAccepted sourcesOf collectedBy becomes
+  unfolding EachAccepted sourcesOf collectedBy trbOutcome
   last-bytes b t out h none short =
-      let held : holds (becomes (b .phase) (t .variant)) ≡ true = ap holds (last-requests (becomes (b .phase) (t .variant)) h) in
+      let held : holds (trbOutcome (b .phase) (t .variant)) ≡ true = ap holds (last-requests (trbOutcome (b .phase) (t .variant)) h) in
       out-bytes b t none held out (all-append (sourceOf (t .variant)) [] short .0) ∙ ap (outgoing (bytesAt m)) (sym (append-nil (sourceOf (t .variant))))
 
   -- the TRBs behind the Setup Stage TRB
@@ -157,11 +157,11 @@ module _ (lent : Lent) (m : Memory) (same : lent .regions ≡ regionsOf m) where
   collected-behind b [] places out alone h accepts short = absurd (false≢true h)
   collected-behind b (t ∷ []) places out alone h accepts short = last-bytes b t out h accepts short
   collected-behind b (t ∷ u ∷ ts) places out alone h accepts short =
-      let k : Kept (becomes (b .phase) (t .variant)) = taken lent b (heldOf b) refl places t u ts h accepts in
+      let k : Kept (trbOutcome (b .phase) (t .variant)) = taken lent b (heldOf b) refl places t u ts h accepts in
       let parts = all-append (sourceOf (t .variant)) (sourcesOf (u ∷ ts)) short in
       let on : collecting lent b t .state .block .direction ≡ false =
       ap (λ (w : ControlTransfer). w .direction) (transfer-next lent b (heldOf b) refl places t u ts h accepts)
-      ∙ after-direction (becomes (b .phase) (t .variant)) (t .variant) (t .addr) (transferOf b) (or-false-left (isSetup (t .variant)) (anySetup (u ∷ ts)) alone) ∙ out in
+      ∙ after-direction (trbOutcome (b .phase) (t .variant)) (t .variant) (t .addr) (transferOf b) (or-false-left (isSetup (t .variant)) (anySetup (u ∷ ts)) alone) ∙ out in
       rw (
         out-bytes b t (first-yes lent b (heldOf b) refl places t u ts h accepts) (k .held) out (parts .0),
         collected-behind (collecting lent b t .state .block) (u ∷ ts) (places-next lent b (heldOf b) refl places t u ts h accepts) on
@@ -173,7 +173,7 @@ module _ (lent : Lent) (m : Memory) (same : lent .regions ≡ regionsOf m) where
   -- all of them: the Setup Stage TRB begins a transfer that goes out
   pub collected-all : (b : ControlBlock) (t u : TransferTrb) (ts : List TransferTrb) → length (b .trbs) ≡ maxHeld → dataOf (t .variant) ≡ noData → sourceOf (t .variant) ≡ []
       → (h : trbsLead (b .phase) (t ∷ u ∷ ts) ≡ true) (accepts : EachAccepted lent b (t ∷ u ∷ ts))
-      → transferAfter (becomes (b .phase) (t .variant)) (t .variant) (t .addr) (transferOf b) .direction ≡ false → anySetup (u ∷ ts) ≡ false → all allowed (sourcesOf (t ∷ u ∷ ts)) ≡ true
+      → transferAfter (trbOutcome (b .phase) (t .variant)) (t .variant) (t .addr) (transferOf b) .direction ≡ false → anySetup (u ∷ ts) ≡ false → all allowed (sourcesOf (t ∷ u ∷ ts)) ≡ true
       → collectedBy lent m b (t ∷ u ∷ ts) ≡ outgoing (bytesAt m) (sourcesOf (t ∷ u ∷ ts))
   unfolding sourcesOf collectedBy
   collected-all b t u ts places nothing no-source h accepts out alone short =
@@ -187,9 +187,9 @@ module _ (lent : Lent) (m : Memory) (same : lent .regions ≡ regionsOf m) where
   -- of a transfer from its Setup Stage TRB on
   pub collected-transfer : (b : ControlBlock) (s : SetupStageTrb) (a : ℕ) (cycle : Bool) (ts : List TransferTrb) → let us = at (SetupStage s) a cycle ∷ ts in
       length (b .trbs) ≡ maxHeld → trbsLead (b .phase) us ≡ true → EachAccepted lent b us
-      → transferAfter (becomes (b .phase) (SetupStage s)) (SetupStage s) a (transferOf b) .direction ≡ false → anySetup ts ≡ false → all allowed (sourcesOf us) ≡ true
+      → transferAfter (trbOutcome (b .phase) (SetupStage s)) (SetupStage s) a (transferOf b) .direction ≡ false → anySetup ts ≡ false → all allowed (sourcesOf us) ≡ true
       → collectedBy lent m b us ≡ outgoing (bytesAt m) (sourcesOf us)
-  unfolding becomes
+  unfolding trbOutcome
   collected-transfer b s a cycle [] places h accepts out alone short =
-      absurd (false≢true (sym (setup-silent (b .phase)) ∙ ap requests (last-requests (becomes (b .phase) (SetupStage s)) h)))
+      absurd (false≢true (sym (setup-silent (b .phase)) ∙ ap requests (last-requests (trbOutcome (b .phase) (SetupStage s)) h)))
   collected-transfer b s a cycle (u ∷ ts) places h accepts out alone short = collected-all b (at (SetupStage s) a cycle) u ts places refl refl h accepts out alone short

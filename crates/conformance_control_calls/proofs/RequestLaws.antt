@@ -25,7 +25,7 @@ use Rattle.log.specs.Calls.{Out}
 use Rattle.log.specs.Records.{controlRequest}
 use Rattle.phase_table.specs.Leads.{entryOf, leadsOn, trbsLead}
 use Rattle.phase_table.specs.Outcomes.{holds, restarts, requests, phaseAfter, stateAfter}
-use Rattle.phase_table.specs.Table.{dataTaken, setupStageIn, dataStageIn, normalIn, becomes}
+use Rattle.phase_table.specs.Table.{dataTaken, setupStageIn, dataStageIn, normalIn, trbOutcome}
 use Rattle.phase_table.proofs.LeadsLaws.{leads-rest}
 use Rattle.phase_table.specs.declared.Outcome.{Outcome}
 use Rattle.phase_table.specs.declared.Outcome.the-variants.{StartTransfer, RestartTransfer, TakeData, TakeLastData, TakeChainedStatus, SubmitRequest, Unexpected, Unsupported, Unrecognized}
@@ -82,7 +82,7 @@ last-requests Unrecognized h = absurd (false≢true h)
 module _ (lent : Lent) (b : ControlBlock) (t : TransferTrb) (places : length (b .trbs) ≡ maxHeld)
     (none : firstNo (submitting.questionsOf (lent .log) (lent .collect) b t (lent .regions)) ≡ 0) where
   abbrev o : Outcome
-  o = becomes (b .phase) (t .variant)
+  o = trbOutcome (b .phase) (t .variant)
 
   accepted-as : submitted lent b t ≡ submitting.accepted o b t
   unfolding submitting.submission
@@ -163,8 +163,8 @@ normal-silent MoreData chain = taken-silent chain
 normal-silent ExpectStatusStageTrb chain = refl
 normal-silent ExpectFinalEventDataTrb chain = refl
 
-last-request : (v : TransferTrbVariant) (a : ℕ) (w : ControlTransfer) → becomes (w .phase) v ≡ SubmitRequest → transferAfter (becomes (w .phase) v) v a w .request ≡ w .request
-unfolding transferAfter becomes
+last-request : (v : TransferTrbVariant) (a : ℕ) (w : ControlTransfer) → trbOutcome (w .phase) v ≡ SubmitRequest → transferAfter (trbOutcome (w .phase) v) v a w .request ≡ w .request
+unfolding transferAfter trbOutcome
 last-request (SetupStage t) a w e = absurd (false≢true (sym (setup-silent (w .phase)) ∙ ap requests e))
 last-request (DataStage t) a w e = absurd (false≢true (sym (data-silent (w .phase) (t .chain)) ∙ ap requests e))
 last-request (StatusStage t) a w e = rw e
@@ -190,9 +190,9 @@ record Behind (b : ControlBlock) (us ts : List TransferTrb) (ran : Ran) : Type 0
 
 module _ (lent : Lent) (b : ControlBlock) (us : List TransferTrb) (holds-us : heldOf b ≡ us) (places : length (b .trbs) ≡ maxHeld) (t : TransferTrb) where
   behind-last : trbsLead (b .phase) (t ∷ []) ≡ true → EachAccepted lent b (t ∷ []) → Behind b us (t ∷ []) (callsOf lent b (t ∷ []))
-  unfolding EachAccepted callsOf becomes transferAfter
+  unfolding EachAccepted callsOf trbOutcome transferAfter
   behind-last h none =
-      let this : becomes (b .phase) (t .variant) ≡ SubmitRequest = last-requests (becomes (b .phase) (t .variant)) h in
+      let this : trbOutcome (b .phase) (t .variant) ≡ SubmitRequest = last-requests (trbOutcome (b .phase) (t .variant)) h in
       let block = block-after lent b t places none (ap holds this) (ap restarts this) in
       record {
         held = ap heldOf block ∙ held-after lent b t places none (ap holds this) (ap restarts this) ∙ ap (λ (vs : List TransferTrb). vs ++ t ∷ []) holds-us;
@@ -211,9 +211,9 @@ module _ (lent : Lent) (b : ControlBlock) (us : List TransferTrb) (holds-us : he
     abbrev next : ControlBlock
     next = collecting lent b t .state .block
 
-    pub taken : Kept (becomes (b .phase) (t .variant))
-    unfolding becomes
-    taken = kept (becomes (b .phase) (t .variant)) (trbsLead (phaseAfter (b .phase) (becomes (b .phase) (t .variant))) (u ∷ ts)) h
+    pub taken : Kept (trbOutcome (b .phase) (t .variant))
+    unfolding trbOutcome
+    taken = kept (trbOutcome (b .phase) (t .variant)) (trbsLead (phaseAfter (b .phase) (trbOutcome (b .phase) (t .variant))) (u ∷ ts)) h
 
     pub first-yes : firstNo (submitting.questionsOf (lent .log) (lent .collect) b t (lent .regions)) ≡ 0
     unfolding EachAccepted
@@ -236,11 +236,11 @@ module _ (lent : Lent) (b : ControlBlock) (us : List TransferTrb) (holds-us : he
     pub places-next : length (next .trbs) ≡ maxHeld
     places-next = ap (λ (c : ControlBlock). length (c .trbs)) block-next ∙ places-after lent b t places first-yes (taken .held) (taken .goes-on)
 
-    pub transfer-next : transferOf next ≡ transferAfter (becomes (b .phase) (t .variant)) (t .variant) (t .addr) (transferOf b)
+    pub transfer-next : transferOf next ≡ transferAfter (trbOutcome (b .phase) (t .variant)) (t .variant) (t .addr) (transferOf b)
     transfer-next = ap transferOf block-next
 
     pub leads-next : trbsLead (next .phase) (u ∷ ts) ≡ true
-    unfolding becomes transferAfter
+    unfolding trbOutcome transferAfter
     leads-next = ap (λ (w : ControlTransfer). trbsLead (w .phase) (u ∷ ts)) transfer-next ∙ leads-rest (b .phase) (entryOf t) (entryOf u) (map entryOf ts) h
 
     behind-cons : Behind next (us ++ t ∷ []) (u ∷ ts) (callsOf lent next (u ∷ ts)) → Behind b us (t ∷ u ∷ ts) (callsOf lent b (t ∷ u ∷ ts))

@@ -24,7 +24,7 @@ use Rattle.log.specs.Calls.{Out}
 use Rattle.walks.specs.All.{all}
 use Rattle.guest_memory.specs.Places.{Memory, regionsOf, bytesAt}
 use Rattle.phase_table.specs.Leads.{trbsLead}
-use Rattle.phase_table.specs.Table.{becomes}
+use Rattle.phase_table.specs.Table.{trbOutcome}
 use Rattle.control_block.specs.Blocks.{freshBlock, heldOf, transferOf}
 use Rattle.control_block.specs.Endings.{requestEnding, endingOf, phaseBehind}
 use Rattle.control_block.specs.Facts.{factsOf}
@@ -84,7 +84,7 @@ module _ (c : Chain) where
   -- USB 2.0, 9.3
   packet-requested : (p : Setup) (ioc : Bool) → Sized p → c .setup ≡ setupTrb p ioc → (w : ControlTransfer) → w .phase ≡ ExpectSetupStageTrb
       → Requests p (c .setupAddress) (transferBehind (trbsOf c) w)
-  unfolding becomes transferAfter
+  unfolding trbOutcome transferAfter
   packet-requested p ioc fits same w phase =
       behind-requests p (c .setupAddress) behind-setup _ one-setup
       (rw (phase, same) (begun-requests p fits MaybeDataStageTrb ioc (c .setupAddress)))
@@ -92,8 +92,8 @@ module _ (c : Chain) where
   module _ (p : Setup) (ioc : Bool) (fits : Sized p) (same : c .setup ≡ setupTrb p ioc) (out : toHost p ≡ false) where
     -- a transfer that goes out begins
     goes-out : (w : ControlTransfer) → w .phase ≡ ExpectSetupStageTrb
-        → transferAfter (becomes (w .phase) (SetupStage (c .setup))) (SetupStage (c .setup)) (c .setupAddress) w .direction ≡ false
-    unfolding becomes transferAfter
+        → transferAfter (trbOutcome (w .phase) (SetupStage (c .setup))) (SetupStage (c .setup)) (c .setupAddress) w .direction ≡ false
+    unfolding trbOutcome transferAfter
     goes-out w phase = rw (phase, same) (begun-requests p fits MaybeDataStageTrb ioc (c .setupAddress) .direction ∙ out)
 
     bytes-out : (lent : Lent) (m : Memory) → lent .regions ≡ regionsOf m → (b : ControlBlock) → Ready b → trbsLead (b .phase) (trbsOf c) ≡ true → EachAccepted lent b (trbsOf c)

@@ -43,8 +43,8 @@ use Rattle.row_walk.specs.Rows.{RowTd, hasNormal, completed, ownLog}
 use Rattle.row_questions.specs.Questions.{eachTrb, isSuccess, supportedIn}
 use Rattle.row_questions.proofs.QuestionLaws.{PassedTrb, passed-trb}
 use Rattle.in_row.specs.SingleCalls.{Called}
-use Rattle.in_row.proofs.CallLaws.{TakesTd, takes-few, length-freed, tdOut, calls-td}
-use Rattle.in_row.proofs.FoldLaws.{takes-one}
+use Rattle.in_row.proofs.CallLaws.{AcceptedTd, accepted-few, length-freed, tdOut, calls-td}
+use Rattle.in_row.proofs.FoldLaws.{accepted-one}
 use Rattle.standard.specs.Usb.{Packets, total, endsShort}
 use Rattle.standard.proofs.UsbLaws.{total-≤-room, endsShort-total-<, total-<-endsShort}
 use Rattle.standard.specs.Xhci.{isTd, asked, anyOnBus, outcome, succeeded, repeatedResidual}
@@ -55,11 +55,11 @@ use Rattle.conformance_in_calls.specs.Tds.{chains, haltAnswered, Ready, 
 
 -- ---- A TD of 4.9.1 is one that a block takes
 
-takes-td : (regions : Regions) (h : ℕ) (ts : List TransferTrb) → isTd (chains ts) ≡ true → all supportedIn ts ≡ true → firstNo (eachTrb regions h ts) ≡ 0 → TakesTd regions h ts
+takes-td : (regions : Regions) (h : ℕ) (ts : List TransferTrb) → isTd (chains ts) ≡ true → all supportedIn ts ≡ true → firstNo (eachTrb regions h ts) ≡ 0 → AcceptedTd regions h ts
 unfolding all
 takes-td regions h [] td kinds none = absurd (true≢false (sym td))
 takes-td regions h (t ∷ []) td kinds none =
-    (takes-one regions h t [] (passed-trb regions h t [] none) (and-left (supportedIn t) true kinds), by-chain (chainOf (t .variant)) refl td)
+    (accepted-one regions h t [] (passed-trb regions h t [] none) (and-left (supportedIn t) true kinds), by-chain (chainOf (t .variant)) refl td)
   where
     by-chain : (c : Bool) → chainOf (t .variant) ≡ c → isTd (c ∷ []) ≡ true → chainOf (t .variant) ≡ false
     by-chain true e h = absurd (true≢false (sym h))
@@ -71,9 +71,9 @@ takes-td regions h (t ∷ u ∷ ts) td kinds none =
     y = passed-trb regions h t (u ∷ ts) none
 
     by-chain : (c : Bool) → chainOf (t .variant) ≡ c → isTd (c ∷ chains (u ∷ ts)) ≡ true → firstNo (eachTrb regions (cond c (h + 1) 0) (u ∷ ts)) ≡ 0
-        → (isTd (chains (u ∷ ts)) ≡ true → firstNo (eachTrb regions (h + 1) (u ∷ ts)) ≡ 0 → TakesTd regions (h + 1) (u ∷ ts)) → TakesTd regions h (t ∷ u ∷ ts)
+        → (isTd (chains (u ∷ ts)) ≡ true → firstNo (eachTrb regions (h + 1) (u ∷ ts)) ≡ 0 → AcceptedTd regions (h + 1) (u ∷ ts)) → AcceptedTd regions h (t ∷ u ∷ ts)
     by-chain true e more rest behind = (
-      takes-one regions h t (u ∷ ts) y (and-left (supportedIn t) (all supportedIn (u ∷ ts)) kinds),
+      accepted-one regions h t (u ∷ ts) y (and-left (supportedIn t) (all supportedIn (u ∷ ts)) kinds),
       (e, behind more rest),
     )
     by-chain false e more rest behind = absurd (true≢false (sym more))
@@ -144,7 +144,7 @@ module _ (l : ℕ) (b : InBlock) (regions : Regions) (ready : Ready l b regions)
     abbrev ts : List TransferTrb
     ts = x .trbs
 
-    taken : TakesTd regions 0 ts
+    taken : AcceptedTd regions 0 ts
     taken = takes-td regions 0 ts (sub .td) (sub .kinds) (sub .trbs)
 
     abbrev came : Out Called
@@ -168,7 +168,7 @@ module _ (l : ℕ) (b : InBlock) (regions : Regions) (ready : Ready l b regions)
       sound = rw ids;
       due = refl;
       empty = refl;
-      places = length-freed (b .trbs) ts (omega (arith, takes-few regions 0 ts taken, ready .places)) ∙ ready .places;
+      places = length-freed (b .trbs) ts (omega (arith, accepted-few regions 0 ts taken, ready .places)) ∙ ready .places;
       apart = ready .apart;
     }
 

@@ -388,7 +388,7 @@ pub fn put_head(
         request.length,
         held as u32,
     );
-    buffers::lay(block, 4, &cells);
+    buffers::copy_into(block, 4, &cells);
 }
 
 // The bytes of a fresh block's head.
@@ -409,7 +409,7 @@ pub fn make(block: &mut [u8], endpoint_id: u8, slot_id: u8, release: u8)
     ensures { λ _. ⌜ Made (now (block .entry)) «endpoint_id» «slot_id» release (now (block .exit)) ⌝ }
 {
     let cells = fresh_head(endpoint_id, slot_id, release);
-    buffers::lay(block, 0, &cells);
+    buffers::copy_into(block, 0, &cells);
 }
 
 // The TRB is in the place behind the `i` that are held.

@@ -25,10 +25,10 @@ pub move-by : (td : ControlTd) (w : TdProgress) (d : TrbDmaInfo) {b : Bool} → 
     → moveData td w d ≡ cond b (realizeDma (td .info) w d) (moveOut (td .info) w d)
 move-by td w d e = ap (λ (b : Bool). cond b (realizeDma (td .info) w d) (moveOut (td .info) w d)) e
 
-pub normal-by : (td : ControlTd) (w : TdProgress) (t : NormalTrb) (a : ℕ) {s : TdProcessingState} → w .state ≡ s
+pub normal-in-state : (td : ControlTd) (w : TdProgress) (t : NormalTrb) (a : ℕ) {s : TdProcessingState} → w .state ≡ s
     → realizeNormal td w t a ≡ normalIn s td w t a
 unfolding realizeNormal
-normal-by td w t a e = ap (λ (s : TdProcessingState). normalIn s td w t a) e
+normal-in-state td w t a e = ap (λ (s : TdProcessingState). normalIn s td w t a) e
 
 pub trb-by : (td : ControlTd) (w : TdProgress) (t : TransferTrb) {x : TransferTrbVariant} → t .variant ≡ x
     → realizeTrb td w t ≡ trbIn x td w (t .addr)

@@ -24,7 +24,7 @@ use Rattle.log.specs.Calls.{Out}
 use Rattle.guest_memory.specs.declared.Regions.{Regions}
 use Rattle.phase_table.specs.declared.Outcome.{Outcome}
 use Rattle.phase_table.specs.Outcomes.{holds, restarts, stateAfter}
-use Rattle.phase_table.specs.Table.{becomes}
+use Rattle.phase_table.specs.Table.{trbOutcome}
 use Rattle.control_block.specs.declared.ControlBlock.{ControlBlock}
 use Rattle.control_block.specs.declared.Ending.{Ending}
 use Rattle.control_block.specs.declared.Ending.the-variants.{KeepCollecting, ReportBadTrb, Fail, Realize}
@@ -173,9 +173,9 @@ module _ (one other : GuestRelease) (b : ControlBlock) (t : TransferTrb) where
       asked = firstNo (questionsOf log collect b t regions)
 
       by : (yes : Bool)
-          → submittedUnder other (cond yes (submits.accepted (becomes (b .phase) (t .variant)) (under one b) t) (submits.refused (under one b) asked))
-          ≡ submittedUnder other (cond yes (submits.accepted (becomes (b .phase) (t .variant)) (under other b) t) (submits.refused (under other b) asked))
-      by true = taken-under (becomes (b .phase) (t .variant))
+          → submittedUnder other (cond yes (submits.accepted (trbOutcome (b .phase) (t .variant)) (under one b) t) (submits.refused (under one b) asked))
+          ≡ submittedUnder other (cond yes (submits.accepted (trbOutcome (b .phase) (t .variant)) (under other b) t) (submits.refused (under other b) asked))
+      by true = taken-under (trbOutcome (b .phase) (t .variant))
       by false = refl
 
 -- ---- The rule is kept
@@ -200,7 +200,7 @@ module _ (b : ControlBlock) where
   submission-keeps t log collect regions = by (eqb asked 0)
     where
       o : Outcome
-      o = becomes (b .phase) (t .variant)
+      o = trbOutcome (b .phase) (t .variant)
 
       asked : ℕ
       asked = firstNo (questionsOf log collect b t regions)

@@ -32,7 +32,7 @@ use Rattle.guest_memory.specs.declared.Regions.{Regions}
 use Rattle.guest_memory.specs.Places.{Memory, regionsOf}
 use Rattle.phase_table.specs.declared.Outcome.{Outcome}
 use Rattle.phase_table.specs.Outcomes.{holds, restarts, requests, stateAfter}
-use Rattle.phase_table.specs.Table.{becomes}
+use Rattle.phase_table.specs.Table.{trbOutcome}
 use Rattle.control_block.specs.declared.ControlBlock.{ControlBlock}
 use Rattle.control_block.specs.declared.ControlTransfer.{ControlTransfer}
 use Rattle.control_block.specs.Blocks.{blockOf, transferOf, changed, heldOf, stored, emptied, advanced}
@@ -59,17 +59,17 @@ module _ (b : ControlBlock) (t : TransferTrb) (m : Memory) (l c : List ℕ) wher
       let first : numberOf (Refused q) ≡ firstNo questions = ap numberOf (sym no-to) ∙ numbered in
       record {
         number = numbered;
-        met = meets (answered-no questions (refused b) (accepted (becomes (b .phase) (t .variant)) b t) (Refused q) first refl) (meets-silent 0 l (rw (no-to, refusalOf-number q)));
-        collect = rw (answered-no questions nothingCollected (bytesTaken (becomes (b .phase) (t .variant)) (b .direction) (t .variant) m) (Refused q) first refl) (sym (patch-none c (b .collected)));
+        met = meets (answered-no questions (refused b) (accepted (trbOutcome (b .phase) (t .variant)) b t) (Refused q) first refl) (meets-silent 0 l (rw (no-to, refusalOf-number q)));
+        collect = rw (answered-no questions nothingCollected (bytesTaken (trbOutcome (b .phase) (t .variant)) (b .direction) (t .variant) m) (Refused q) first refl) (sym (patch-none c (b .collected)));
       }
 
-  pub submits-accepted : (o : Outcome) → o ≡ becomes (b .phase) (t .variant) → firstNo questions ≡ 0 → (r : Submitted) (l' c' : List ℕ) → r ≡ accepted o b t .state
+  pub submits-accepted : (o : Outcome) → o ≡ trbOutcome (b .phase) (t .variant) → firstNo questions ≡ 0 → (r : Submitted) (l' c' : List ℕ) → r ≡ accepted o b t .state
       → Put l 0 (recordsOf o b) l' → c' ≡ patch c (b .collected) (bytesTaken o (b .direction) (t .variant) m) → Submits b t m l c r l' c'
   unfolding submission bytesCollected accepted
   submits-accepted o same none r l' c' e p collected = record {
     number = ap (λ (x : Submitted). numberOf (x .answer)) e ∙ sym none;
-    met = meets (answered-yes questions (refused b) (accepted (becomes (b .phase) (t .variant)) b t) Accepted (sym none) refl ∙ ap (λ (y : Outcome). accepted y b t) (sym same)) (record { state = e; log = p .log; fits = p .fits });
-    collect = rw (answered-yes questions nothingCollected (bytesTaken (becomes (b .phase) (t .variant)) (b .direction) (t .variant) m) Accepted (sym none) refl)
+    met = meets (answered-yes questions (refused b) (accepted (trbOutcome (b .phase) (t .variant)) b t) Accepted (sym none) refl ∙ ap (λ (y : Outcome). accepted y b t) (sym same)) (record { state = e; log = p .log; fits = p .fits });
+    collect = rw (answered-yes questions nothingCollected (bytesTaken (trbOutcome (b .phase) (t .variant)) (b .direction) (t .variant) m) Accepted (sym none) refl)
         (collected ∙ ap (λ (y : Outcome). patch c (b .collected) (bytesTaken y (b .direction) (t .variant) m)) same);
   }
 
@@ -167,7 +167,7 @@ unfolding submission accepted
 length-submission log collect b t regions = by (firstNo (questionsOf log collect b t regions)) refl
   where
     o : Outcome
-    o = becomes (b .phase) (t .variant)
+    o = trbOutcome (b .phase) (t .variant)
 
     by : (n : ℕ) → firstNo (questionsOf log collect b t regions) ≡ n → length (cond (eqb n 0) (accepted o b t) (refused b n) .records) ≤ maxRecords
     by zero none = length-recordsOf b o (passed (factsOf b) o t regions log collect none .held)

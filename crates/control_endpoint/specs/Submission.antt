@@ -16,7 +16,7 @@ use Rattle.guest_memory.specs.declared.Regions.{Regions}
 use Rattle.guest_memory.specs.Places.{Memory, regionsOf}
 use Rattle.phase_table.specs.declared.Outcome.{Outcome}
 use Rattle.phase_table.specs.Outcomes.{holds, restarts, stateAfter}
-use Rattle.phase_table.specs.Table.{becomes}
+use Rattle.phase_table.specs.Table.{trbOutcome}
 use Rattle.control_block.specs.declared.ControlBlock.{ControlBlock}
 use Rattle.control_block.specs.Blocks.{transferOf, heldOf, stored, emptied, advanced}
 use Rattle.control_block.specs.Facts.{factsOf}
@@ -57,12 +57,12 @@ unfoldable pub accepted : Outcome → ControlBlock → TransferTrb → Out Submi
 accepted o b t = record { state = record { answer = Accepted; records = length (recordsOf o b); block = blockAfter o b t }; records = recordsOf o b }
 
 abbrev pub questionsOf : ℕ → ℕ → ControlBlock → TransferTrb → Regions → List (Bool × ℕ)
-questionsOf log collect b t regions = submissionQuestions log collect (factsOf b) (becomes (b .phase) (t .variant)) t regions
+questionsOf log collect b t regions = submissionQuestions log collect (factsOf b) (trbOutcome (b .phase) (t .variant)) t regions
 
 -- with a log and a collect buffer of these lengths, and guest memory in these regions
 unfoldable pub submission : ℕ → ℕ → ControlBlock → TransferTrb → Regions → Out Submitted
 submission log collect b t regions =
-    afterQuestions (questionsOf log collect b t regions) (refused b) (accepted (becomes (b .phase) (t .variant)) b t)
+    afterQuestions (questionsOf log collect b t regions) (refused b) (accepted (trbOutcome (b .phase) (t .variant)) b t)
 
 -- on OUT bytes are collected; a no leaves the collect buffer as it was
 abbrev pub nothingCollected : ℕ → List ℕ
@@ -71,7 +71,7 @@ nothingCollected n = []
 -- with guest memory m
 unfoldable pub bytesCollected : ℕ → ℕ → ControlBlock → TransferTrb → Memory → List ℕ
 bytesCollected log collect b t m =
-    afterQuestions (questionsOf log collect b t (regionsOf m)) nothingCollected (bytesTaken (becomes (b .phase) (t .variant)) (b .direction) (t .variant) m)
+    afterQuestions (questionsOf log collect b t (regionsOf m)) nothingCollected (bytesTaken (trbOutcome (b .phase) (t .variant)) (b .direction) (t .variant) m)
 
 -- a submission to the block b, with guest memory m, the log l and the collect buffer c, returned r and left l' and c'. The bytes collected stand just
 -- behind those already collected

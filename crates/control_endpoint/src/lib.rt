@@ -111,7 +111,7 @@ pub fn submit_trb<'a>(
         sound: sound,
     };
     let regions = guest_memory::guest_regions(low_base, low.len(), high_base, high.len());
-    let outcome = phase_table::becomes(phase, variant);
+    let outcome = phase_table::trb_outcome(phase, variant);
     let answer = control_questions::ask_submission(
         log.len(),
         collect.len(),

@@ -22,7 +22,7 @@ use Rattle.guest_memory.specs.Places.{Memory, regionsOf}
 use Rattle.guest_memory.specs.Regions.{shareAnAddress}
 use Rattle.phase_table.specs.declared.Outcome.{Outcome}
 use Rattle.phase_table.specs.Outcomes.{holds, restarts}
-use Rattle.phase_table.specs.Table.{becomes}
+use Rattle.phase_table.specs.Table.{trbOutcome}
 use Rattle.control_block.specs.declared.BlockFacts.{BlockFacts}
 use Rattle.control_block.specs.Facts.{factsOf, soundBlock, submissionDue}
 use Rattle.control_questions.specs.Submission.{longEnough, submissionQuestions}
@@ -37,8 +37,8 @@ never : {A : Type 0} → false ≡ true → A
 never e = let z : _≡_ {A = ℕ} 0 1 = ap (λ (x : Bool). cond x 1 0) e in absurd (omega arith)
 
 -- a TRB that is held is of a kind that is
-held-supported : (phase : ControlTransferState) (v : TransferTrbVariant) → holds (becomes phase v) ≡ true → supported Control v ≡ true
-unfolding becomes
+held-supported : (phase : ControlTransferState) (v : TransferTrbVariant) → holds (trbOutcome phase v) ≡ true → supported Control v ≡ true
+unfolding trbOutcome
 held-supported phase (SetupStage t) h = refl
 held-supported phase (DataStage t) h = refl
 held-supported phase (StatusStage t) h = refl

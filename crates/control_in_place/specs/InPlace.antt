@@ -18,7 +18,7 @@ use Rattle.log.specs.Calls.{Out, Meets, counted}
 use Rattle.guest_memory.specs.Places.{Memory, regionsOf}
 use Rattle.guest_memory.specs.declared.Regions.{Regions}
 use Rattle.phase_table.specs.declared.Outcome.{Outcome}
-use Rattle.phase_table.specs.Table.{becomes}
+use Rattle.phase_table.specs.Table.{trbOutcome}
 use Rattle.raw_trb.specs.Raw.{decodeTrb}
 use Rattle.answer_numbers.specs.Numbers.{answeredAs, completionAnswered}
 use Rattle.answer_numbers.specs.declared.Answered.{Answered}
@@ -47,13 +47,13 @@ pub record Beyond (b b' : List ℕ) : Type 0 where
 
 -- what becomes of the TRB t, and the answer to the questions
 pub record Asked (log collect : ℕ) (b : List ℕ) (t : TransferTrb) (regions : Regions) (r : AskedSubmission) : Type 0 where
-  pub outcome : r .outcome ≡ becomes (blockOf b .phase) (t .variant)
+  pub outcome : r .outcome ≡ trbOutcome (blockOf b .phase) (t .variant)
   pub number : numberOf (r .answer) ≡ firstNo (questionsOf log collect (blockOf b) t regions)
 
 -- no question of the TRB t, which becomes o, is answered no
 pub record Acceptable (l c b : List ℕ) (t : TransferTrb) (m : Memory) (o : Outcome) : Type 0 where
   pub long : blockLength ≤ length b
-  pub outcome : o ≡ becomes (blockOf b .phase) (t .variant)
+  pub outcome : o ≡ trbOutcome (blockOf b .phase) (t .variant)
   pub none : firstNo (questionsOf (length l) (length c) (blockOf b) t (regionsOf m)) ≡ 0
 
 -- what it then logs, collects and stores

@@ -47,7 +47,7 @@ fn ask_submission(
     let facts = control_bytes::facts(block);
     let phase = facts.phase;
     let variant = t.variant;
-    let outcome = phase_table::becomes(phase, variant);
+    let outcome = phase_table::trb_outcome(phase, variant);
     let answer = control_questions::ask_submission(
         log_length,
         collect_length,

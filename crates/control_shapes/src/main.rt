@@ -110,7 +110,7 @@ fn put_refused(text: &mut [u8]) -> usize
     ensures { λ r. ⌜ Written maxText (now (text .entry)) 0 refusedText r (now (text .exit)) ⌝ }
 {
     let refused = b"refused 16\n";
-    buffers::lay(text, 0, refused);
+    buffers::copy_into(text, 0, refused);
     refused.len()
 }
 

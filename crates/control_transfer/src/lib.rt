@@ -132,7 +132,7 @@ fn collect_immediate(collect: &mut [u8], at: usize, pointer: u64, count: usize)
     ensures { λ _. ⌜ now (collect .exit) ≡ patch (now (collect .entry)) at (leBytes count pointer) ⌝ }
 {
     let cells = le_bytes(pointer);
-    buffers::lay(collect, at, &cells[..count]);
+    buffers::copy_into(collect, at, &cells[..count]);
 }
 
 // Lays the `count` bytes of guest memory from `pointer` on over `collect` from index `at` on.
@@ -150,7 +150,7 @@ fn collect_memory<'a>(
     ensures { λ _. ⌜ now (collect .exit) ≡ patch (now (collect .entry)) at (bytesAt (memoryOf «low_base» (now (low .entry)) «high_base» (now (high .entry))) pointer count) ⌝ }
 {
     let part = guest_memory::get_slice(low_base, low, high_base, high, pointer, count);
-    buffers::lay(collect, at, part);
+    buffers::copy_into(collect, at, part);
 }
 
 // Lays the bytes of a TRB of an OUT transfer over `collect` from index `at` on; ports `collect_transfer_data`.

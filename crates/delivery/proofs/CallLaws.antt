@@ -24,9 +24,9 @@ use Rattle.carry_out.specs.CarryOut.{answerOf, memoryAfter, Carried}
 use Rattle.carry_out.proofs.CarryOutLaws.{answerOf-encodeAll, memoryAfter-encodeAll}
 use Rattle.in_block.specs.Outcomes.{endingOf}
 use Rattle.in_block.specs.declared.InBlock.{InBlock}
-use Rattle.in_endpoint.specs.Completion.{refused, answerTo, isAccepted, Completes}
+use Rattle.in_endpoint.specs.Completion.{refused, completionAnswer, isAccepted, Completes}
 use Rattle.in_endpoint.specs.declared.Completed.{Completed}
-use Rattle.in_endpoint.proofs.CompletionLaws.{answerTo-number, answerTo-refused}
+use Rattle.in_endpoint.proofs.CompletionLaws.{completionAnswer-number, completionAnswer-refused}
 use Rattle.delivery.specs.Completing.{completed, deliveryQuestions, delivery, DeliveredWhole, Delivers}
 use Rattle.delivery.proofs.CompletionLaws.{kinds-ended, done-meets, done-fits, done-bytes, delivered-done}
 use Rattle.delivery.proofs.QuestionLaws.{PassedDelivery, passed-delivery}
@@ -44,18 +44,18 @@ module _ (b : InBlock) (s : InTrbProcessingResult) (bytes l : List ℕ) (m : Mem
   -- ---- A no
 
   module _ (a : Answer) (x : TrbProcessingResult) (number : numberOf a ≡ firstNo questions) (failed : asked.isAccepted a ≡ false) where
-    not-accepted : isAccepted (answerTo a x) ≡ true → ⊥
-    not-accepted accepts = true≢false (sym accepts ∙ ap isAccepted (answerTo-refused a x failed))
+    not-accepted : isAccepted (completionAnswer a x) ≡ true → ⊥
+    not-accepted accepts = true≢false (sym accepts ∙ ap isAccepted (completionAnswer-refused a x failed))
 
     refused-call : called ≡ refused b (numberOf a)
     unfolding delivery
     refused-call = answered-no questions (refused b) done a number failed
 
-    pub delivers-no : Delivers b s bytes l m (record { answer = answerTo a x; records = 0; block = b }) l m
+    pub delivers-no : Delivers b s bytes l m (record { answer = completionAnswer a x; records = 0; block = b }) l m
     delivers-no =
-        let met : Meets called 0 l (record { answer = answerTo a x; records = 0; block = b }) l = meets refused-call (record { state = rw (answerTo-refused a x failed); log = sym (logged-none l 0); fits = tt }) in
+        let met : Meets called 0 l (record { answer = completionAnswer a x; records = 0; block = b }) l = meets refused-call (record { state = rw (completionAnswer-refused a x failed); log = sym (logged-none l 0); fits = tt }) in
         record {
-          number = answerTo-number a x ∙ number;
+          number = completionAnswer-number a x ∙ number;
           met = met;
           result = ap (λ (c : Completed). said (c .answer)) (met .state);
           memory = ap (λ (o : Out Completed). written bytes m (o .records)) (sym refused-call);

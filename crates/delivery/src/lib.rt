@@ -197,7 +197,7 @@ pub fn complete_and_carry_out(
     let regions = guest_memory::guest_regions(low_base, low.len(), high_base, high.len());
     let asked = ask(log.len(), block, result, data.len(), regions);
     if !trb::is_accepted(asked) {
-        let answer = in_endpoint::answer_to(asked, TrbProcessingResult::Ok);
+        let answer = in_endpoint::completion_answer(asked, TrbProcessingResult::Ok);
         return Completed {
             answer: answer,
             records: 0,

@@ -1,4 +1,4 @@
--- Question 11 of a TD's log, told by the TRBs held: its writes lie in range exactly where each Normal's min(its length, bytes left) does. By induction over the
+-- Question 11 of a TD's log, agree by the TRBs held: its writes lie in range exactly where each Normal's min(its length, bytes left) does. By induction over the
 -- list, as the account goes: a full Normal leaves so many bytes less, behind a short one nothing is left to write. Assumes nothing.
 use Prim.Native.Nat.{ℕ, zero, suc, _+_, _-_, _<_, _≤_, min}
 use mathlib.Core.Path.{_≡_, refl, sym, ap, _∙_}
@@ -85,13 +85,13 @@ module _ (regions : Regions) where
 -- ---- The log of a TD, from the device's byte `start` on
 
 module _ (td : InTd) (n : ℕ) (regions : Regions) (enough : td .info .«data_length» ≤ n) where
-  abbrev Told : ℕ → List TransferTrb → Type 0
-  Told start ts = (edtla count left : ℕ) → left ≡ normals ts → start ≤ td .info .«data_length»
+  abbrev WritesAgree : ℕ → List TransferTrb → Type 0
+  WritesAgree start ts = (edtla count left : ℕ) → left ≡ normals ts → start ≤ td .info .«data_length»
       → writesInRange n regions (logFrom td start edtla count left ts) ≡ writesInside regions (leftFrom td start) ts
 
   module _ (start : ℕ) (t : TransferTrb) (ts : List TransferTrb) where
-    told-other : normalOf (t .variant) ≡ none → Told start ts → Told start (t ∷ ts)
-    told-other other more edtla count left counted within =
+    agree-other : normalOf (t .variant) ≡ none → WritesAgree start ts → WritesAgree start (t ∷ ts)
+    agree-other other more edtla count left counted within =
         let o : OtherLog td start left ts (logFrom td start edtla count left (t ∷ ts)) = other-log td start edtla count left t ts other in
         let behind : left ≡ normals ts = omega (arith, normalCount-other (t .variant) other) in
         rw (o .log, other, writesInRange-append n regions (o .own) (logFrom td start (o .edtla) (o .count) left ts), writesInRange-none n regions (o .own) (o .writeless), sub-zero)
@@ -104,8 +104,8 @@ module _ (td : InTd) (n : ℕ) (regions : Regions) (enough : td .info .«data_le
       abbrev size : ℕ
       size = m .«transfer_length»
 
-      told-full : size ≤ leftFrom td start → Told (start + size) ts → Told start (t ∷ ts)
-      told-full h more edtla count left counted within = by-failure (failsAtLast (td .mode) (td .status) left) refl
+      agree-full : size ≤ leftFrom td start → WritesAgree (start + size) ts → WritesAgree start (t ∷ ts)
+      agree-full h more edtla count left counted within = by-failure (failsAtLast (td .mode) (td .status) left) refl
         where
           one : normals (t ∷ ts) ≡ 1 + normals ts
           one = rw kind
@@ -135,8 +135,8 @@ module _ (td : InTd) (n : ℕ) (regions : Regions) (enough : td .info .«data_le
               )
               (ap (λ (b : Bool). rangeInside regions pointer size && b) (more (edtlaAfter edtla size) (count + length (fullRecords td start m (t .addr))) (left - 1) behind (omega arith)))
 
-      told-short : leftFrom td start < size → Told start (t ∷ ts)
-      told-short h edtla count left counted within =
+      agree-short : leftFrom td start < size → WritesAgree start (t ∷ ts)
+      agree-short h edtla count left counted within =
           let l : ShortLog td start m (t .addr) (logFrom td start edtla count left (t ∷ ts)) = short-log td start edtla count left t ts m kind h in
           let event : List Record = when (shortDue (td .status) m) (shortEvent td start m (t .addr)) in
           let quiet : writesInRange n regions event ≡ true =
@@ -149,22 +149,22 @@ module _ (td : InTd) (n : ℕ) (regions : Regions) (enough : td .info .«data_le
           ap (writesInRange n regions) (l .log)
           ∙ rw (write, writesInRange-append n regions event (l .behind), quiet, writesInRange-none n regions (l .behind) (l .writeless)) (sym asked)
 
-    told-cons : ((from : ℕ) → Told from ts) → Told start (t ∷ ts)
-    told-cons more =
+    agree-cons : ((from : ℕ) → WritesAgree from ts) → WritesAgree start (t ∷ ts)
+    agree-cons more =
         ⊎-elim
         (λ k. ⊎-elim
-        (λ h. told-full (k .0) (k .1) h (more (start + k .0 .«transfer_length»)))
-        (λ h. told-short (k .0) (k .1) h)
+        (λ h. agree-full (k .0) (k .1) h (more (start + k .0 .«transfer_length»)))
+        (λ h. agree-short (k .0) (k .1) h)
         (le-or-lt (k .0 .«transfer_length») (leftFrom td start)))
-        (λ other. told-other other (more start))
+        (λ other. agree-other other (more start))
         (normal-or-other (t .variant))
 
-  told : (start : ℕ) (ts : List TransferTrb) → Told start ts
-  told start [] edtla count left counted within = rw (log-none td start edtla count left)
-  told start (t ∷ ts) edtla count left counted within = told-cons start t ts (λ from. told from ts) edtla count left counted within
+  agree : (start : ℕ) (ts : List TransferTrb) → WritesAgree start ts
+  agree start [] edtla count left counted within = rw (log-none td start edtla count left)
+  agree start (t ∷ ts) edtla count left counted within = agree-cons start t ts (λ from. agree from ts) edtla count left counted within
 
 -- 01, Carry-out, question 11: of the log of a TD, in either mode, under any status, with k of the device's n bytes
 pub writesInRange-processTd : (e : EndpointId) (s : SlotId) (mode : InMode) (st : InTrbProcessingStatus) (k n : ℕ) (regions : Regions) (ts : List TransferTrb) → k ≤ n
     → writesInRange n regions (processTd (inTd e s mode st k) ts .records) ≡ writesInside regions k ts
 writesInRange-processTd e s mode st k n regions ts h =
-    told (inTd e s mode st k) n regions h 0 ts 0 0 (normals ts) refl (omega arith) ∙ ap (λ (left : ℕ). writesInside regions left ts) (sub-zero k)
+    agree (inTd e s mode st k) n regions h 0 ts 0 0 (normals ts) refl (omega arith) ∙ ap (λ (left : ℕ). writesInside regions left ts) (sub-zero k)

@@ -49,7 +49,7 @@ use Rattle.control_questions.specs.Submission.{hasRoom, reaches, submissionQues
 use Rattle.control_transfer.specs.Data.{inReach, bytesOf}
 use Rattle.control_transfer.specs.Transfers.{transferAfter}
 use Rattle.control_transfer.specs.Transfers as transfers
-use Rattle.phase_table.specs.Table.{becomes}
+use Rattle.phase_table.specs.Table.{trbOutcome}
 use Rattle.examples.specs.Control as onControlEndpoint
 use Rattle.examples.specs.Control.{onControl, onControlFor, setup, dataStage, status}
 use Rattle.examples.specs.Texts.{line, lines}
@@ -199,5 +199,5 @@ examples =
 
 -- the definitions say of every example what the documents say
 bench : map (λ (e : Example). e .found) examples ≡ map (λ (e : Example). e .expected) examples
-unfolding examples lines line completionLog logText printable wellFormed kindKnown encodeAll linesIn lineOf fieldsOf kindFields idFields numberFields decimalOf hexOf bytesHex byteHex digits trimmed digitChar wrote event eventDataOf requested asked collects ends normal eventData noOp setup dataStage status walk cleared all soundTrb placeOf inRegion regions.shareAnAddress regions.sharesAt regions.holds idsInRange putDma realizeDma onIn onStrict play creation submission inQuestions.submissionQuestions outcomeOf completion inQuestions.completionQuestions transferred soundBlock rangeInside processTrb handleNormal onControl onControlFor onControlEndpoint.play becomes transferAfter controlBlock.soundBlock firstNo submissionQuestions hasRoom reaches transfers.collects inReach bytesAt bytesOf submits.submission submits.bytesCollected submits.accepted submits.recordsOf submits.blockAfter completionQuestions completes.completion completes.accepted completes.blockBehind endingRecords successes moveOut realizeDataStage realizeNormal realizeTrb
+unfolding examples lines line completionLog logText printable wellFormed kindKnown encodeAll linesIn lineOf fieldsOf kindFields idFields numberFields decimalOf hexOf bytesHex byteHex digits trimmed digitChar wrote event eventDataOf requested asked collects ends normal eventData noOp setup dataStage status walk cleared all soundTrb placeOf inRegion regions.shareAnAddress regions.sharesAt regions.holds idsInRange putDma realizeDma onIn onStrict play creation submission inQuestions.submissionQuestions outcomeOf completion inQuestions.completionQuestions transferred soundBlock rangeInside processTrb handleNormal onControl onControlFor onControlEndpoint.play trbOutcome transferAfter controlBlock.soundBlock firstNo submissionQuestions hasRoom reaches transfers.collects inReach bytesAt bytesOf submits.submission submits.bytesCollected submits.accepted submits.recordsOf submits.blockAfter completionQuestions completes.completion completes.accepted completes.blockBehind endingRecords successes moveOut realizeDataStage realizeNormal realizeTrb
 bench = refl

@@ -25,7 +25,7 @@ use Rattle.walks.specs.All.{all}
 use Rattle.walks.specs.Walk.{walk}
 use Rattle.guest_memory.specs.Regions as regions
 use Rattle.guest_memory.specs.Places.{inRegion, placeOf, rangeInside, bytesAt}
-use Rattle.phase_table.specs.Table.{becomes}
+use Rattle.phase_table.specs.Table.{trbOutcome}
 use Rattle.control_block.specs.declared.GuestRelease.{GuestRelease}
 use Rattle.control_block.specs.declared.GuestRelease.the-variants.{Release4, Release5}
 use Rattle.control_block.specs.Blocks.{blockOf, noTransfer}
@@ -133,7 +133,7 @@ expected f a = record { records = f .before ++ (event (f .code) a ∷ []); answe
 -- the definitions say of every case, under either rule, what document 02 says
 failed-there :
     map (λ (f : Failure). found Release4 f ∷ found Release5 f ∷ []) failures ≡ map (λ (f : Failure). expected f (f .release4) ∷ expected f (f .release5) ∷ []) failures
-unfolding failures found expected event asked getDescriptor chainedStatus unrecognized eventData setup dataStage status onControlFor play submits.submission submits.bytesCollected submits.accepted submits.recordsOf submits.blockAfter submissionQuestions hasRoom reaches collects inReach rangeInside placeOf inRegion regions.shareAnAddress regions.sharesAt regions.holds bytesAt bytesOf becomes transferAfter completes.completion completes.accepted completes.blockBehind completionQuestions endingRecords successes errorAddress firstAt firstNo idsInRange soundBlock soundTrb all cleared walk
+unfolding failures found expected event asked getDescriptor chainedStatus unrecognized eventData setup dataStage status onControlFor play submits.submission submits.bytesCollected submits.accepted submits.recordsOf submits.blockAfter submissionQuestions hasRoom reaches collects inReach rangeInside placeOf inRegion regions.shareAnAddress regions.sharesAt regions.holds bytesAt bytesOf trbOutcome transferAfter completes.completion completes.accepted completes.blockBehind completionQuestions endingRecords successes errorAddress firstAt firstNo idsInRange soundBlock soundTrb all cleared walk
 failed-there = refl
 
 -- a Data Stage TRB counts even where a block, made up, has it behind a Status Stage TRB

@@ -166,5 +166,5 @@ pub fn write_bulk(region: &mut [u8], offset: usize, data: &[u8], start: usize, c
     ensures { λ _. ⌜ now (region .exit) ≡ patch (now (region .entry)) offset (take count (drop start (now («data» .entry)))) ⌝ }
 {
     let end = start + count;
-    buffers::lay(region, offset, &data[start..end]);
+    buffers::copy_into(region, offset, &data[start..end]);
 }

@@ -365,7 +365,7 @@ pub fn put_place(block: &mut [u8], at: usize, numbers: TrbNumbers)
         numbers.kind,
         numbers.flags,
     );
-    buffers::lay(block, at, &cells);
+    buffers::copy_into(block, at, &cells);
 }
 
 // The `count` bytes from index `at` on become zero: blank places, where they are places.

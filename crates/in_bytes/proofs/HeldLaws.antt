@@ -30,11 +30,11 @@ use Rattle.in_bytes.specs.Layout.{headLength, places}
 -- ---- What a place can say
 
 module _ (flags value len : ℕ) where
-  normal-by : (n e : Bool) → isNormal (variantOf (cond n normalType (cond e eventDataType noOpType)) flags value len) ≡ n
+  normal-read : (n e : Bool) → isNormal (variantOf (cond n normalType (cond e eventDataType noOpType)) flags value len) ≡ n
   unfolding variantOf
-  normal-by true e = refl
-  normal-by false true = refl
-  normal-by false false = refl
+  normal-read true e = refl
+  normal-read false true = refl
+  normal-read false false = refl
 
   sound-by : (n e : Bool) → len ≤ maxTransferLength → soundIn (variantOf (cond n normalType (cond e eventDataType noOpType)) flags value len) ≡ true
   unfolding variantOf
@@ -51,7 +51,7 @@ module _ (flags value len : ℕ) where
 -- a Normal, by its type
 pub normal-place : (l : List ℕ) → isNormal (placeOf In l .variant) ≡ eqb (getD l 20 0) normalType
 unfolding placeOf
-normal-place l = normal-by _ _ _ (eqb (getD l 20 0) normalType) (eqb (getD l 20 0) eventDataType)
+normal-place l = normal-read _ _ _ (eqb (getD l 20 0) normalType) (eqb (getD l 20 0) eventDataType)
 
 -- its length
 pub length-place : (l : List ℕ) → lengthOf (normalOf (placeOf In l .variant)) ≡ cond (isNormal (placeOf In l .variant)) (leField 16 4 l % (maxTransferLength + 1)) 0

@@ -254,7 +254,7 @@ pub fn put_address(block: &mut [u8], addr: u64)
     ensures { λ _. ⌜ now (block .exit) ≡ patch (now (block .entry)) 8 (leBytes 8 addr) ⌝ }
 {
     let cells = encoded_address(addr);
-    buffers::lay(block, 8, &cells);
+    buffers::copy_into(block, 8, &cells);
 }
 
 // The first `held` places become blank.
@@ -271,5 +271,5 @@ pub fn put_ids(block: &mut [u8], endpoint_id: u8, slot_id: u8, mode: u8)
     ensures { λ _. ⌜ now (block .exit) ≡ patch (now (block .entry)) 0 (inLayout ∷ «endpoint_id» ∷ «slot_id» ∷ mode ∷ []) ⌝ }
 {
     let cells = [held_bytes::IN_LAYOUT, endpoint_id, slot_id, mode];
-    buffers::lay(block, 0, &cells);
+    buffers::copy_into(block, 0, &cells);
 }

@@ -39,7 +39,7 @@ use Rattle.in_block.specs.declared.Ending.the-variants.{KeepCollecting, Transfe
 use Rattle.in_block.specs.declared.InBlock.{InBlock}
 use Rattle.in_questions.specs.Questions.{isGiven, completionQuestions}
 use Rattle.in_questions.proofs.PassedLaws.{PassedCompletion, passed-completion}
-use Rattle.in_endpoint.specs.Completion.{refused, answerTo, transferred, completedAs, completion, isAccepted, Accounted, Completes}
+use Rattle.in_endpoint.specs.Completion.{refused, completionAnswer, transferred, completedAs, completion, isAccepted, Accounted, Completes}
 use Rattle.in_endpoint.specs.declared.Completed as call
 
 -- a walk counts its records
@@ -52,18 +52,18 @@ completedAs-by b e = ap (λ (x : Ending). completedAs x b) e
 -- ---- The answer
 
 module _ (a : Answer) (r : TrbProcessingResult) where
-  pub answerTo-number : completionNumber (answerTo a r) ≡ numberOf a
-  answerTo-number = by-answer a
+  pub completionAnswer-number : completionNumber (completionAnswer a r) ≡ numberOf a
+  completionAnswer-number = by-answer a
     where
-      by-answer : (a : Answer) → completionNumber (answerTo a r) ≡ numberOf a
+      by-answer : (a : Answer) → completionNumber (completionAnswer a r) ≡ numberOf a
       by-answer Accepted = refl
       by-answer (Refused q) = refl
 
-  pub answerTo-accepted : passed a ≡ true → answerTo a r ≡ Completed r
-  answerTo-accepted e = ap (λ (x : Answer). answerTo x r) (accepted-is a e)
+  pub completionAnswer-accepted : passed a ≡ true → completionAnswer a r ≡ Completed r
+  completionAnswer-accepted e = ap (λ (x : Answer). completionAnswer x r) (accepted-is a e)
 
-  pub answerTo-refused : passed a ≡ false → answerTo a r ≡ RefusedCompletion (refusalOf (numberOf a))
-  answerTo-refused e = ap (λ (x : Answer). answerTo x r) (sym (refused-is a e))
+  pub completionAnswer-refused : passed a ≡ false → completionAnswer a r ≡ RefusedCompletion (refusalOf (numberOf a))
+  completionAnswer-refused e = ap (λ (x : Answer). completionAnswer x r) (sym (refused-is a e))
 
 completedAs-number : (x : Ending) (b : InBlock) → completionNumber (completedAs x b .state .answer) ≡ 0
 unfolding transferred
@@ -134,8 +134,8 @@ real-walk b AwaitingLocalCompletion r n d e P p = absurd (true≢false (sym d))
 real-walk b (UnsupportedTrb a) r n d e P p = absurd (true≢false (sym d))
 
 -- what the guest is told, and how many records tell it
-abbrev Told : InBlock → ℕ → Out call.Completed → Type 0
-Told b n o = (o .state .records ≡ length (o .records)) × Account n (heldOf b) (o .records)
+abbrev CountedAndAccounted : InBlock → ℕ → Out call.Completed → Type 0
+CountedAndAccounted b n o = (o .state .records ≡ length (o .records)) × Account n (heldOf b) (o .records)
 
 -- what the guest reads off the log of an accepted completion is the account of what the device did
 pub accounted-completion : (l l' : List ℕ) (b : InBlock) (res : InTrbProcessingResult) (n : ℕ) (r : call.Completed) → Meets (completion (length l) b res n) 0 l r l'
@@ -147,8 +147,8 @@ accounted-completion l l' b res n r m waits accepts distinct isp last =
     let e : Passed o ≡ true = ap (λ (c : call.Completed). isAccepted (c .answer)) (sym (m .state)) ∙ accepts in
     let none : firstNo qs ≡ 0 = accepted-none (length l) b res n e in
     let known : PassedCompletion (length l) (factsOf b) res n = passed-completion (length l) (factsOf b) res n none in
-    let told : Told b n o = rw none
-    (real-walk b (b .state) res n waits (known .agreed) (Told b n)
+    let told : CountedAndAccounted b n o = rw none
+    (real-walk b (b .state) res n waits (known .agreed) (CountedAndAccounted b n)
     (λ st. (refl, accounted (b .«endpoint_id») (b .«slot_id») (b .mode) st n (heldOf b) distinct isp last))) in
     rw (m .state, m .log, told .0, recordsIn-logged l 0 (o .records) (omega arith) (m .fits)) (told .1)
 

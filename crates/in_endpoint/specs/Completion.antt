@@ -40,9 +40,9 @@ abbrev pub refused : InBlock → ℕ → Out Completed
 refused b n = silent (record { answer = answer.Refused (refusalOf n); records = 0; block = b })
 
 -- what a completion answers to the questions, where its result is r
-abbrev pub answerTo : Answer → TrbProcessingResult → CompletionAnswer
-answerTo asked.Accepted r = answer.Completed r
-answerTo (asked.Refused q) r = answer.Refused q
+abbrev pub completionAnswer : Answer → TrbProcessingResult → CompletionAnswer
+completionAnswer asked.Accepted r = answer.Completed r
+completionAnswer (asked.Refused q) r = answer.Refused q
 
 -- with this result and so many records, nothing is held any more, and a submission is due
 abbrev pub completed : TrbProcessingResult → ℕ → InBlock → Completed

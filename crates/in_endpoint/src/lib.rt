@@ -25,7 +25,7 @@ ghost use Rattle.guest_memory.specs.Regions.{guestRegions};
 ghost use Rattle.in_td.specs.Normals.{requested};
 ghost use Rattle.in_endpoint.specs.Creation.{Creates, cancelled};
 ghost use Rattle.in_endpoint.specs.Submission.{requestOf, Submits};
-ghost use Rattle.in_endpoint.specs.Completion.{unsupportedEvent, answerTo, Completes};
+ghost use Rattle.in_endpoint.specs.Completion.{unsupportedEvent, completionAnswer, Completes};
 
 pub struct Created {
     pub answer: Answer,
@@ -187,8 +187,8 @@ pub fn report_unsupported(log: &mut [u8], addr: u64, endpoint_id: EndpointId, sl
 }
 
 // What a completion answers to the questions, where its result is this.
-pub fn answer_to(asked: Answer, result: TrbProcessingResult) -> CompletionAnswer
-    ensures { λ r. ⌜ r ≡ answerTo asked result ⌝ }
+pub fn completion_answer(asked: Answer, result: TrbProcessingResult) -> CompletionAnswer
+    ensures { λ r. ⌜ r ≡ completionAnswer asked result ⌝ }
 {
     match asked {
         Answer::Accepted => CompletionAnswer::Completed(result),
@@ -233,7 +233,7 @@ pub fn next_completion(
     let asked = in_questions::ask_completion(log.len(), facts, result, data.len());
     let mut walked = TrbProcessingResult::Ok;
     if !trb::is_accepted(asked) {
-        let answer = answer_to(asked, walked);
+        let answer = completion_answer(asked, walked);
         return Completed {
             answer: answer,
             records: 0,
@@ -268,7 +268,7 @@ pub fn next_completion(
             held = 0;
         }
     }
-    let answer = answer_to(asked, walked);
+    let answer = completion_answer(asked, walked);
     let next = InBlock {
         endpoint_id: endpoint_id,
         slot_id: slot_id,

@@ -41,7 +41,7 @@ use Rattle.in_endpoint.specs.Completion as completions
 use Rattle.account.specs.Guest.{Account}
 use Rattle.in_endpoint.specs.declared.Completed.{Completed}
 use Rattle.in_endpoint.specs.declared.Submitted.{Submitted}
-use Rattle.in_endpoint.proofs.CompletionLaws.{accounted-completion, completion-number, answerTo-refused, processTd-counts}
+use Rattle.in_endpoint.proofs.CompletionLaws.{accounted-completion, completion-number, completionAnswer-refused, processTd-counts}
 use Rattle.answer_numbers.specs.Numbers.{answeredAs, completedWith, completionAnswered}
 use Rattle.answer_numbers.specs.declared.Answered.{Answered}
 use Rattle.answer_numbers.specs.declared.CompletionAnswered.{CompletionAnswered}
@@ -173,11 +173,11 @@ module _ (s : InTrbProcessingResult) (n : ℕ) (l b : List ℕ) where
 
   -- a no leaves all as it was
   pub completes-refused : (a : Answer) (x : TrbProcessingResult) {r : CompletionAnswered} → numberOf a ≡ firstNo asked-completion → isAccepted a ≡ false
-      → r ≡ completionAnswered (completions.answerTo a x) 0 → CompletesInPlace (length l) s n l b r l b
+      → r ≡ completionAnswered (completions.completionAnswer a x) 0 → CompletesInPlace (length l) s n l b r l b
   unfolding completions.completion
   completes-refused a x e failed er =
       completes-as (completions.refused (blockOf b) (numberOf a)) (answered-no asked-completion (completions.refused (blockOf b)) ended a e failed)
-      (record { state = er ∙ ap (λ (y : CompletionAnswer). completionAnswered y 0) (answerTo-refused a x failed); log = sym (logged-none l 0); fits = tt }) (becomes-same b) (λ h. refl)
+      (record { state = er ∙ ap (λ (y : CompletionAnswer). completionAnswered y 0) (completionAnswer-refused a x failed); log = sym (logged-none l 0); fits = tt }) (becomes-same b) (λ h. refl)
 
   -- what an accepted completion comes to, by its ending
   pub completes-accepted : (a : Answer) {r : CompletionAnswered} {l' b' : List ℕ} → numberOf a ≡ firstNo asked-completion → isAccepted a ≡ true

@@ -238,7 +238,7 @@ fn complete(
     let held = buffers::le16(block, 4);
     let asked = ask_completion(log.len(), block, result, data_length);
     if !trb::is_accepted(asked) {
-        let refused = in_endpoint::answer_to(asked, TrbProcessingResult::Ok);
+        let refused = in_endpoint::completion_answer(asked, TrbProcessingResult::Ok);
         return answer_numbers::completed_as(refused, 0);
     }
     let state = state_of(block);

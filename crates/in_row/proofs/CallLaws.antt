@@ -55,22 +55,22 @@ use Rattle.in_row.specs.SingleCalls.{Called, completedBehind, twoCalls, 
 -- ---- TRBs that a block takes
 
 -- behind h others of its TD
-pub record Takes (regions : Regions) (h : ℕ) (t : TransferTrb) : Type 0 where
+pub record AcceptedTrb (regions : Regions) (h : ℕ) (t : TransferTrb) : Type 0 where
   pub kind : supported In (t .variant) ≡ true
   pub own : firstNo (trbQuestions h (t .variant) regions) ≡ 0
   pub short : leb (transferLength (t .variant)) maxTransferLength ≡ true
   pub place : h < maxHeld
 
 -- the TRBs of a TD: chained, but for the last
-abbrev pub TakesTd : Regions → ℕ → List TransferTrb → Type 0
-TakesTd regions h [] = ⊥
-TakesTd regions h (t ∷ []) = Takes regions h t × (chainOf (t .variant) ≡ false)
-TakesTd regions h (t ∷ u ∷ ts) = Takes regions h t × ((chainOf (t .variant) ≡ true) × TakesTd regions (h + 1) (u ∷ ts))
+abbrev pub AcceptedTd : Regions → ℕ → List TransferTrb → Type 0
+AcceptedTd regions h [] = ⊥
+AcceptedTd regions h (t ∷ []) = AcceptedTrb regions h t × (chainOf (t .variant) ≡ false)
+AcceptedTd regions h (t ∷ u ∷ ts) = AcceptedTrb regions h t × ((chainOf (t .variant) ≡ true) × AcceptedTd regions (h + 1) (u ∷ ts))
 
-pub takes-few : (regions : Regions) (h : ℕ) (ts : List TransferTrb) → TakesTd regions h ts → h + length ts ≤ maxHeld
-takes-few regions h [] k = absurd k
-takes-few regions h (t ∷ []) k = omega (arith, k .0 .place)
-takes-few regions h (t ∷ u ∷ ts) k = omega (arith, takes-few regions (h + 1) (u ∷ ts) (k .1 .1))
+pub accepted-few : (regions : Regions) (h : ℕ) (ts : List TransferTrb) → AcceptedTd regions h ts → h + length ts ≤ maxHeld
+accepted-few regions h [] k = absurd k
+accepted-few regions h (t ∷ []) k = omega (arith, k .0 .place)
+accepted-few regions h (t ∷ u ∷ ts) k = omega (arith, accepted-few regions (h + 1) (u ∷ ts) (k .1 .1))
 
 -- ---- Lists with one TRB more
 
@@ -152,7 +152,7 @@ module _ (e : EndpointId) (s : SlotId) (mode : InMode) (ids : idsInRange e s ≡
   -- ---- The calls
 
   module _ (l : ℕ) (long : leb minLog l ≡ true) (regions : Regions) (apart : shareAnAddress regions ≡ false) where
-    module _ (us : List TransferTrb) (sound : heldSound In us ≡ true) (t : TransferTrb) (k : Takes regions (length us) t) where
+    module _ (us : List TransferTrb) (sound : heldSound In us ≡ true) (t : TransferTrb) (k : AcceptedTrb regions (length us) t) where
       abbrev more : List TransferTrb
       more = us ++ t ∷ []
 
@@ -284,7 +284,7 @@ module _ (e : EndpointId) (s : SlotId) (mode : InMode) (ids : idsInRange e s ≡
     success-is TransactionError h = absurd (true≢false (sym h))
     success-is Success h = refl
 
-    module _ (us : List TransferTrb) (sound : heldSound In us ≡ true) (t : TransferTrb) (k : Takes regions (length us) t) (off : chainOf (t .variant) ≡ false) (given : TdResult) where
+    module _ (us : List TransferTrb) (sound : heldSound In us ≡ true) (t : TransferTrb) (k : AcceptedTrb regions (length us) t) (off : chainOf (t .variant) ≡ false) (given : TdResult) where
       abbrev whole : RowTd
       whole = record { trbs = us ++ t ∷ []; given = given }
 
@@ -304,7 +304,7 @@ module _ (e : EndpointId) (s : SlotId) (mode : InMode) (ids : idsInRange e s ≡
       calls-last right small = calls-by (eqb (normals (us ++ t ∷ [])) 0) refl right small
 
     -- 02, R-7: the log of a TD is what the single calls would have logged, and so is its result
-    pub calls-td : (us ts : List TransferTrb) (x : RowTd) → heldSound In us ≡ true → TakesTd regions (length us) ts → x .trbs ≡ us ++ ts → givenRightly x ≡ true
+    pub calls-td : (us ts : List TransferTrb) (x : RowTd) → heldSound In us ≡ true → AcceptedTd regions (length us) ts → x .trbs ≡ us ++ ts → givenRightly x ≡ true
         → leb (x .given .length) maxData ≡ true → tdCalls l regions (holding SubmissionDue us) ts (resultFor x) (x .given .length) ≡ tdOut x
     unfolding tdCalls
     calls-td us [] x sound k same right small = absurd k
@@ -315,6 +315,6 @@ module _ (e : EndpointId) (s : SlotId) (mode : InMode) (ids : idsInRange e s ≡
         ∙ calls-last us sound t (k .0) (k .1) (x .given) right-last small
         ∙ ap (λ (ts : List TransferTrb). tdOut (record { trbs = ts; given = x .given })) (sym same)
     calls-td us (t ∷ u ∷ ts) x sound k same right small =
-        let next : TakesTd regions (length (us ++ t ∷ [])) (u ∷ ts) = subst (λ (h : ℕ). TakesTd regions h (u ∷ ts)) (sym (length-snoc us t)) (k .1 .1) in
+        let next : AcceptedTd regions (length (us ++ t ∷ [])) (u ∷ ts) = subst (λ (h : ℕ). AcceptedTd regions h (u ∷ ts)) (sym (length-snoc us t)) (k .1 .1) in
         ap (λ (o : Out Called). onward o (tdCalls l regions (o .state .block) (u ∷ ts) (resultFor x) (x .given .length))) (calls-chained us sound t (k .0) (k .1 .0))
         ∙ calls-td (us ++ t ∷ []) (u ∷ ts) x (more-sound us sound t (k .0)) next (same ∙ sym (append-assoc us (t ∷ []) (u ∷ ts))) right small

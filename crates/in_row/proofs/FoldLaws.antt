@@ -42,7 +42,7 @@ use Rattle.in_row.specs.Completion.{walked, rowCompletion}
 use Rattle.in_row.specs.SingleCalls.{Called, tdCalls, resultFor, RowCalled, behindTd, tdCalled, endedBadly, uncalled, rowCalls, FoldOfCalls}
 use Rattle.in_row.specs.declared.TdsCompleted.{TdsCompleted}
 use Rattle.in_row.proofs.RowLaws.{state-due, none-held, emptied-same}
-use Rattle.in_row.proofs.CallLaws.{Takes, TakesTd, takes-few, length-freed, freed-blank, tdOut, calls-td}
+use Rattle.in_row.proofs.CallLaws.{AcceptedTrb, AcceptedTd, accepted-few, length-freed, freed-blank, tdOut, calls-td}
 
 -- ---- Two walks that keep together
 
@@ -80,17 +80,17 @@ module _ {S S' T : Type 0} (step : S → T → Out S) (step' : S' → T → Out 
 -- the first behind h TRBs of its own
 abbrev EachTakes : Regions → ℕ → List (List TransferTrb) → Type 0
 EachTakes regions h [] = Unit {0}
-EachTakes regions h (td ∷ tds) = TakesTd regions h td × EachTakes regions 0 tds
+EachTakes regions h (td ∷ tds) = AcceptedTd regions h td × EachTakes regions 0 tds
 
-takes-front : (regions : Regions) (h : ℕ) (t : TransferTrb) (tds : List (List TransferTrb)) → 0 < length tds → Takes regions h t → chainOf (t .variant) ≡ true
+accepted-front : (regions : Regions) (h : ℕ) (t : TransferTrb) (tds : List (List TransferTrb)) → 0 < length tds → AcceptedTrb regions h t → chainOf (t .variant) ≡ true
     → EachTakes regions (h + 1) tds → EachTakes regions h (inFront t tds)
-takes-front regions h t [] some k on f = absurd (not-suc-le-zero some)
-takes-front regions h t ([] ∷ tds) some k on f = absurd (f .0)
-takes-front regions h t ((u ∷ us) ∷ tds) some k on f = ((k, (on, f .0)), f .1)
+accepted-front regions h t [] some k on f = absurd (not-suc-le-zero some)
+accepted-front regions h t ([] ∷ tds) some k on f = absurd (f .0)
+accepted-front regions h t ((u ∷ us) ∷ tds) some k on f = ((k, (on, f .0)), f .1)
 
 -- a TRB of a supported kind that no question refuses
-pub takes-one : (regions : Regions) (h : ℕ) (t : TransferTrb) (ts : List TransferTrb) → PassedTrb regions h t ts → supportedIn t ≡ true → Takes regions h t
-takes-one regions h t ts y kind =
+pub accepted-one : (regions : Regions) (h : ℕ) (t : TransferTrb) (ts : List TransferTrb) → PassedTrb regions h t ts → supportedIn t ≡ true → AcceptedTrb regions h t
+accepted-one regions h t ts y kind =
     let place : leb (h + 1) maxHeld ≡ true = rw kind at (y .place) in
     record { kind = kind; own = y .own; short = y .short; place = omega (arith, leb-true (h + 1) maxHeld place) }
 
@@ -106,16 +106,16 @@ takes-each regions h (t ∷ ts) none kinds whole =
     kind : supportedIn t ≡ true
     kind = and-left (supportedIn t) (all supportedIn ts) kinds
 
-    own : Takes regions h t
-    own = takes-one regions h t ts y kind
+    own : AcceptedTrb regions h t
+    own = accepted-one regions h t ts y kind
 
     by-chain : (b : Bool) → chainOf (t .variant) ≡ b → EachTakes regions (cond b (h + 1) 0) (tdsOf ts) → EachTakes regions h (cond b (inFront t (tdsOf ts)) ((t ∷ []) ∷ tdsOf ts))
-    by-chain true on f = takes-front regions h t (tdsOf ts) (some-tds ts (goes-on t ts whole on)) own on f
+    by-chain true on f = accepted-front regions h t (tdsOf ts) (some-tds ts (goes-on t ts whole on)) own on f
     by-chain false off f = ((own, off), f)
 
 -- a TD with its result
 pub record Taken (regions : Regions) (x : RowTd) : Type 0 where
-  pub trbs : TakesTd regions 0 (x .trbs)
+  pub trbs : AcceptedTd regions 0 (x .trbs)
   pub right : givenRightly x ≡ true
   pub small : leb (x .given .length) maxData ≡ true
 
@@ -171,7 +171,7 @@ module _ (e : EndpointId) (s : SlotId) (mode : InMode) (ids : idsInRange e s ≡
         ∙ calls-td e s mode ids places-before (k .places) l long regions apart [] (x .trbs) x refl (f .trbs) refl (f .right) (f .small)
 
     few : length (x .trbs) ≤ length places-before
-    few = omega (arith, takes-few regions 0 (x .trbs) (f .trbs), k .places)
+    few = omega (arith, accepted-few regions 0 (x .trbs) (f .trbs), k .places)
 
     abbrev calledAs : Out Called → Out RowCalled
     calledAs c = record { state = behindTd v (x .given .length) (c .state); records = map (movedBy (v .start)) (c .records) }

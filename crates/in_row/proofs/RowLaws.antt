@@ -27,8 +27,8 @@ use Rattle.held.specs.Places.{cleared}
 use Rattle.in_block.specs.Blocks.{inBlock, emptied}
 use Rattle.in_block.specs.Facts.{submissionDue, factsOf}
 use Rattle.in_block.specs.declared.InBlock.{InBlock}
-use Rattle.in_endpoint.specs.Completion.{answerTo, isAccepted}
-use Rattle.in_endpoint.proofs.CompletionLaws.{answerTo-number, answerTo-accepted, answerTo-refused}
+use Rattle.in_endpoint.specs.Completion.{completionAnswer, isAccepted}
+use Rattle.in_endpoint.proofs.CompletionLaws.{completionAnswer-number, completionAnswer-accepted, completionAnswer-refused}
 use Rattle.row_walk.specs.Rows.{processRow}
 use Rattle.row_walk.proofs.AccountLaws.{row-accounted}
 use Rattle.row_walk.specs.declared.RowProgress.{RowProgress}
@@ -80,12 +80,12 @@ module _ (b : InBlock) (k : ℕ) (ts : List TransferTrb) (m : ℕ) (rs : List Td
   known-row accepts = passed-row (length l) regions (factsOf b) k ts m rs n (answered-all a questions e accepts)
 
   abbrev accepted-as : RowProgress → TdsCompleted
-  accepted-as w = record { answer = answerTo a (w .result); finished = w .finished; records = w .records; block = b }
+  accepted-as w = record { answer = completionAnswer a (w .result); finished = w .finished; records = w .records; block = b }
 
   module _ (accepts : isPassed a ≡ true) (w : RowProgress) (l' : List ℕ) (met : Meets done 0 l w l') where
     same-state : accepted-as w ≡ walked b done .state
     same-state =
-        ap (λ (x : CompletionAnswer). record { answer = x; finished = w .finished; records = w .records; block = b }) (answerTo-accepted a (w .result) accepts)
+        ap (λ (x : CompletionAnswer). record { answer = x; finished = w .finished; records = w .records; block = b }) (completionAnswer-accepted a (w .result) accepts)
         ∙ ap (λ (v : RowProgress). record { answer = Completed (v .result); finished = v .finished; records = v .records; block = b }) (met .state)
         ∙ ap (λ (c : InBlock). record { answer = Completed (done .state .result); finished = done .state .finished; records = done .state .records; block = c }) (sym (emptied-same b (known-row accepts .due)))
 
@@ -95,14 +95,14 @@ module _ (b : InBlock) (k : ℕ) (ts : List TransferTrb) (m : ℕ) (rs : List Td
 
     pub accepted-row : CompletesTds b k ts m rs n regions l (accepted-as w) l'
     accepted-row = record {
-      number = answerTo-number a (w .result) ∙ e;
+      number = completionAnswer-number a (w .result) ∙ e;
       met = completes-met;
       result = ap (λ (x : TdsCompleted). said (x .answer)) (completes-met .state);
-      account = λ z. rw (answerTo-accepted a (w .result) accepts) (row-accounted (b .«endpoint_id») (b .«slot_id») (b .mode) ts rs l l' w met);
+      account = λ z. rw (completionAnswer-accepted a (w .result) accepts) (row-accounted (b .«endpoint_id») (b .«slot_id») (b .mode) ts rs l l' w met);
     }
 
   abbrev refused-as : TdsCompleted
-  refused-as = record { answer = answerTo a Ok; finished = 0; records = 0; block = b }
+  refused-as = record { answer = completionAnswer a Ok; finished = 0; records = 0; block = b }
 
   module _ (refuses : isPassed a ≡ false) where
     refused-met : Meets (rowCompletion (length l) b k ts m rs n regions) 0 l refused-as l
@@ -110,15 +110,15 @@ module _ (b : InBlock) (k : ℕ) (ts : List TransferTrb) (m : ℕ) (rs : List Td
     refused-met =
         meets (answered-no questions (refused b) (walked b done) a e refuses)
         (record {
-          state = ap (λ (x : CompletionAnswer). record { answer = x; finished = 0; records = 0; block = b }) (answerTo-refused a Ok refuses);
+          state = ap (λ (x : CompletionAnswer). record { answer = x; finished = 0; records = 0; block = b }) (completionAnswer-refused a Ok refuses);
           log = sym (logged-none l 0);
           fits = tt;
         })
 
     pub refused-row : CompletesTds b k ts m rs n regions l refused-as l
     refused-row = record {
-      number = answerTo-number a Ok ∙ e;
+      number = completionAnswer-number a Ok ∙ e;
       met = refused-met;
       result = ap (λ (x : TdsCompleted). said (x .answer)) (refused-met .state);
-      account = λ z. absurd (true≢false (sym z ∙ ap isAccepted (answerTo-refused a Ok refuses)));
+      account = λ z. absurd (true≢false (sym z ∙ ap isAccepted (completionAnswer-refused a Ok refuses)));
     }

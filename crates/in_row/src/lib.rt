@@ -72,7 +72,7 @@ pub fn complete_tds(
     }
     let asked = row_questions::ask_row(log.len(), regions, facts, count, test, tds, data.len());
     if !trb::is_accepted(asked) {
-        let answer = in_endpoint::answer_to(asked, TrbProcessingResult::Ok);
+        let answer = in_endpoint::completion_answer(asked, TrbProcessingResult::Ok);
         return TdsCompleted {
             answer: answer,
             finished: 0,
@@ -82,7 +82,7 @@ pub fn complete_tds(
     }
     let walked = row_walk::walk_row(log, endpoint_id, slot_id, mode, row, count, results, tds);
     let result = walked.result;
-    let answer = in_endpoint::answer_to(asked, result);
+    let answer = in_endpoint::completion_answer(asked, result);
     TdsCompleted {
         answer: answer,
         finished: walked.finished,

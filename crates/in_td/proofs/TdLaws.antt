@@ -39,17 +39,17 @@ module _ (td : InTd) (p : TdProcessed) (n : NormalTrb) (a : ℕ) (cycle : Bool) 
   abbrev residual : ℕ
   residual = residualOf (td .info) (p .progress) (n .«transfer_length»)
 
-  pub normal-by : {s : TdProcessingState} → p .progress .state ≡ s → handleNormal td p n a cycle ≡ normalIn s td (p .«normals_left») (p .progress) n a cycle
+  pub normal-in-state : {s : TdProcessingState} → p .progress .state ≡ s → handleNormal td p n a cycle ≡ normalIn s td (p .«normals_left») (p .progress) n a cycle
   unfolding handleNormal
-  normal-by e = ap (λ (s : TdProcessingState). normalIn s td (p .«normals_left») (p .progress) n a cycle) e
+  normal-in-state e = ap (λ (s : TdProcessingState). normalIn s td (p .«normals_left») (p .progress) n a cycle) e
 
   pub normal-done : p .progress .state ≡ Default → isDone td (p .«normals_left») residual ≡ true
       → handleNormal td p n a cycle ≡ goesOn (p .«normals_left» - 1) (realizeDma (td .info) (p .progress) (ofNormal n a))
-  normal-done e d = normal-by e ∙ rw d
+  normal-done e d = normal-in-state e ∙ rw d
 
   pub normal-ending : p .progress .state ≡ Default → isDone td (p .«normals_left») residual ≡ false
       → handleNormal td p n a cycle ≡ endingNormal (td .status) (td .info) (p .«normals_left» - 1) (p .progress) n a cycle
-  normal-ending e d = normal-by e ∙ rw d
+  normal-ending e d = normal-in-state e ∙ rw d
 
 pub trb-by : (td : InTd) (p : TdProcessed) (t : TransferTrb) {x : TransferTrbVariant} → t .variant ≡ x
     → processTrb td p t ≡ trbIn x td p (t .addr) (t .«cycle_bit»)

@@ -30,7 +30,7 @@ use denote.Triple.Entry.{onEntry}
 use denote.Triple.Statement.{Contract, Triple}
 use denote.Triple.Walked.{Stays, stay-ref, walkOf, goes-ref, ends-at, walked}
 use Rattle.lent_laws.proofs.LentLaws.{gives, reads, stores, returned}
-use Rattle.lent_laws.proofs.Layers.{Ensures, ensuring, Called, Hands, Told, Gone, Walk, Shape, ensures-from, and-local, owned-struct, frees, mirOf}
+use Rattle.lent_laws.proofs.Layers.{Ensures, ensuring, Called, Hands, Follows, Gone, Walk, Shape, ensures-from, and-local, owned-struct, frees, mirOf}
 
 module _ (T : Declared) (L : LL.Laws T) (P : Plains (fields T)) where
   -- ---- The callee and the layer
@@ -67,7 +67,7 @@ module _ (T : Declared) (L : LL.Laws T) (P : Plains (fields T)) where
   -- ---- The walk
 
   module _ {M : Type 1} (𝓤 : URA M) (H : Heap 𝓤) (A : Atoms 𝓤) (W : Given 𝓤 H A) (E : Ensures 𝓤 by-value) (F : Ensures 𝓤 by-reference)
-      (told : Told 𝓤 handed E F) where
+      (told : Follows 𝓤 handed E F) where
     abbrev Walked : Contract 𝓤
     Walked = walkOf 𝓤 H A by-reference stayed (ensuring 𝓤 by-reference F)
 

@@ -37,12 +37,12 @@ use denote.Triple.Entry.{Args, Vals, onEntry}
 use denote.Triple.Statement.{Contract, Triple}
 use denote.Triple.Walked.{Stays, stay-ref, stay-none, stay-none-slice, gave-slice, walkOf, goes-none, goes-none-slice, goes-ref, goes-gave-slice, ends-at, walked}
 use Rattle.lent_laws.proofs.LentLaws.{gives}
-use Rattle.lent_laws.proofs.Layers.{Takes, returning, Ensures, ensuring, Called, Hands, Told, Gone, Walk, Shape, ensures-from, and-local, owned-struct, owned-passed, frees, mirOf, Passed, Layer, slice-passed, called-and-stored, passes-slice, calls-and-stores}
+use Rattle.lent_laws.proofs.Layers.{Parameters, returning, Ensures, ensuring, Called, Hands, Follows, Gone, Walk, Shape, ensures-from, and-local, owned-struct, owned-passed, frees, mirOf, Passed, Layer, slice-passed, called-and-stored, passes-slice, calls-and-stores}
 
 module _ (L : Layer) (X Y Z : Passed) where
   -- ---- The callee and the layer
 
-  abbrev pub passed-on : Takes
+  abbrev pub passed-on : Parameters
   passed-on = record { lifetimes = 3; params = mutSlice 0 tt (λ _. u8) ∷ mutSlice 1 tt (λ _. u8) ∷ plain (λ _. row (L .Block)) ∷ plain (λ _. X .type) ∷ plain (λ _. Y .type) ∷ shrSlice 2 tt (λ _. u8) ∷ plain (λ _. Z .type) ∷ shrSlice 2 tt (λ _. u8) ∷ []; kept = (yes, (yes, (yes, (yes, (yes, (yes, (yes, (yes, tt)))))))) }
 
   abbrev pub by-value : Ended
@@ -106,7 +106,7 @@ module _ (L : Layer) (X Y Z : Passed) where
 
   -- ---- The walk
 
-  module _ {M : Type 1} (𝓤 : URA M) (H : Heap 𝓤) (A : Atoms 𝓤) (W : Given 𝓤 H A) (E : Ensures 𝓤 by-value) (F : Ensures 𝓤 by-reference) (told : Told 𝓤 handed E F)
+  module _ {M : Type 1} (𝓤 : URA M) (H : Heap 𝓤) (A : Atoms 𝓤) (W : Given 𝓤 H A) (E : Ensures 𝓤 by-value) (F : Ensures 𝓤 by-reference) (told : Follows 𝓤 handed E F)
       (κ0 κ1 κ2 κ3 : Lft) (q0 q1 q2 q3 : Share) (log : RefT (List ℕ)) (collect : RefT (List ℕ)) (block : RefT (L .Block .D)) (x : X .type .Denot) (y : Y .type .Denot) (low : RefT (List ℕ))
       (z : Z .type .Denot) (high : RefT (List ℕ))
       (log-room : Room u8 (length (now log))) (collect-room : Room u8 (length (now collect))) (low-room : Room u8 (length (now low))) (high-room : Room u8 (length (now high))) (x-is : Is (X .type) x (X .val x ∷ []))

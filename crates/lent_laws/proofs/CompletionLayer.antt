@@ -37,12 +37,12 @@ use denote.Triple.Entry.{Args, Vals, onEntry}
 use denote.Triple.Statement.{Contract, Triple}
 use denote.Triple.Walked.{Stays, stay-ref, stay-none, stay-none-slice, gave-slice, walkOf, goes-none, goes-none-slice, goes-ref, goes-gave-slice, ends-at, walked}
 use Rattle.lent_laws.proofs.LentLaws.{gives}
-use Rattle.lent_laws.proofs.Layers.{Takes, returning, Ensures, ensuring, Called, Hands, Told, Gone, Walk, Shape, ensures-from, and-local, owned-struct, owned-passed, frees, mirOf, Passed, Layer, slice-passed, called-and-stored, passes-slice, calls-and-stores}
+use Rattle.lent_laws.proofs.Layers.{Parameters, returning, Ensures, ensuring, Called, Hands, Follows, Gone, Walk, Shape, ensures-from, and-local, owned-struct, owned-passed, frees, mirOf, Passed, Layer, slice-passed, called-and-stored, passes-slice, calls-and-stores}
 
 module _ (L : Layer) (X : Passed) where
   -- ---- The callee and the layer
 
-  abbrev pub passed-on : Takes
+  abbrev pub passed-on : Parameters
   passed-on = record { lifetimes = 2; params = mutSlice 0 tt (λ _. u8) ∷ plain (λ _. row (L .Block)) ∷ plain (λ _. X .type) ∷ shrSlice 1 tt (λ _. u8) ∷ []; kept = (yes, (yes, (yes, (yes, tt)))) }
 
   abbrev pub by-value : Ended
@@ -91,7 +91,7 @@ module _ (L : Layer) (X : Passed) where
 
   -- ---- The walk
 
-  module _ {M : Type 1} (𝓤 : URA M) (H : Heap 𝓤) (A : Atoms 𝓤) (W : Given 𝓤 H A) (E : Ensures 𝓤 by-value) (F : Ensures 𝓤 by-reference) (told : Told 𝓤 handed E F)
+  module _ {M : Type 1} (𝓤 : URA M) (H : Heap 𝓤) (A : Atoms 𝓤) (W : Given 𝓤 H A) (E : Ensures 𝓤 by-value) (F : Ensures 𝓤 by-reference) (told : Follows 𝓤 handed E F)
       (κ0 κ1 κ2 : Lft) (q0 q1 q2 : Share) (log : RefT (List ℕ)) (block : RefT (L .Block .D)) (x : X .type .Denot) (bytes : RefT (List ℕ))
       (log-room : Room u8 (length (now log))) (bytes-room : Room u8 (length (now bytes))) (x-is : Is (X .type) x (X .val x ∷ [])) where
     abbrev lfts : Lfts 3

@@ -52,12 +52,12 @@ use Rattle.lent_laws.proofs.LentLaws.{Known, reads, stores, returned, b
 -- ---- Contracts
 
 -- what a function takes, at lifetimes none of which is bound by another
-pub record Takes : Type 2 where
+pub record Parameters : Type 2 where
   pub lifetimes : ℕ
   pub params : List (Slot lifetimes)
   pub kept : Kepts params
 
-abbrev pub returning : Takes → RattleType → Ended
+abbrev pub returning : Parameters → RattleType → Ended
 returning P R = record { signature = record { lifetimes = P .lifetimes; outlives = []; params = P .params; result = plain (λ _. R) }; kept = P .kept }
 
 -- a contract that asks nothing and ensures E
@@ -80,8 +80,8 @@ pub record Hands (S T : Ended) : Type 2 where
   pub lasts : (κs : Lfts (T .signature .lifetimes)) (a : Args (T .signature) κs) → Res (S .signature) (lfts κs) → Lasts S (lfts κs) (args κs a) → Lasts T κs a
 
 -- what the layer ensures, F, follows from what the function by value ensures, E
-abbrev pub Told : {M : Type 1} (𝓤 : URA M) {S T : Ended} → Hands S T → Ensures 𝓤 S → Ensures 𝓤 T → Type 1
-Told 𝓤 {S} {T} h E F =
+abbrev pub Follows : {M : Type 1} (𝓤 : URA M) {S T : Ended} → Hands S T → Ensures 𝓤 S → Ensures 𝓤 T → Type 1
+Follows 𝓤 {S} {T} h E F =
     (κs : Lfts (T .signature .lifetimes)) (a : Args (T .signature) κs) (r : Res (S .signature) (h .lfts κs)) (ws : Lasts S (h .lfts κs) (h .args κs a))
     → ent 𝓤 (E (h .lfts κs) (h .args κs a) r (atExit S (h .lfts κs) (h .args κs a) ws)) (F κs a (h .result κs r) (atExit T κs a (h .lasts κs a r ws)))
 
@@ -92,7 +92,7 @@ Gone T stayed = (M : Type 1) (𝓤 : URA M) (H : Heap 𝓤) (A : Atoms 𝓤) (W 
 -- the walk of the layer's code
 abbrev pub Walk : {S T : Ended} → Hands S T → Stays (T .signature .params) (T .kept) → (Name → Fn) → Type 2
 Walk {S} {T} h stayed code =
-    (M : Type 1) (𝓤 : URA M) (H : Heap 𝓤) (A : Atoms 𝓤) (W : Given 𝓤 H A) (E : Ensures 𝓤 S) (F : Ensures 𝓤 T) → Told 𝓤 h E F → (C : Calls 𝓤 H) (Λ : Loops 𝓤 H) (callee : Name)
+    (M : Type 1) (𝓤 : URA M) (H : Heap 𝓤) (A : Atoms 𝓤) (W : Given 𝓤 H A) (E : Ensures 𝓤 S) (F : Ensures 𝓤 T) → Follows 𝓤 h E F → (C : Calls 𝓤 H) (Λ : Loops 𝓤 H) (callee : Name)
     → FmC 𝓤 H (W .laws) C → Triple 𝓤 (C callee) (Called 𝓤 H A S E) → Walks 𝓤 H A T stayed (WpFn 𝓤 H C Λ (code callee)) (ensuring 𝓤 T F)
 
 -- a shape of layers
@@ -105,7 +105,7 @@ pub record Shape (S T : Ended) : Type 2 where
 
 module _ {S T : Ended} (shape : Shape S T) {M : Type 1} (𝓤 : URA M) (H : Heap 𝓤) (𝓜 : Model 𝓤 H) (𝓖 : GhostRules 𝓤 H) (𝓡 : Running 𝓤 H 𝓜) (γ : Routines) (layer callee : Name) where
   -- a layer of the shape meets its contract
-  pub meets : (E : Ensures 𝓤 S) (F : Ensures 𝓤 T) → Told 𝓤 (shape .hands) E F → (routine : Routine) → γ callee ≡ routine → Triple 𝓤 (𝓡 .run routine) (Called 𝓤 H (𝓖 .A) S E)
+  pub meets : (E : Ensures 𝓤 S) (F : Ensures 𝓤 T) → Follows 𝓤 (shape .hands) E F → (routine : Routine) → γ callee ≡ routine → Triple 𝓤 (𝓡 .run routine) (Called 𝓤 H (𝓖 .A) S E)
       → Closed 𝓤 H (tables 𝓤 H 𝓜 𝓡 γ .C) (tables 𝓤 H 𝓜 𝓡 γ .Λ) layer (shape .code callee) → Triple 𝓤 (tables 𝓤 H 𝓜 𝓡 γ .C layer) (Called 𝓤 H (𝓖 .A) T F)
   unfolding tablesOf
   meets E F told routine bound met closed =
@@ -164,9 +164,9 @@ pub record Parts (B O : Declared) (b : B .D) (o : O .D) (v : Val) : Type 0 where
   pub answer-val : Val
   pub records-val : Val
   pub block-val : Val
-  pub whole-is : v ≡ vstruct (ofList (answer-val ∷ records-val ∷ block-val ∷ []))
-  pub outcome-is : Is (row O) o (vstruct (ofList (answer-val ∷ records-val ∷ [])) ∷ [])
-  pub block-is : Is (row B) b (block-val ∷ [])
+  pub whole-value : v ≡ vstruct (ofList (answer-val ∷ records-val ∷ block-val ∷ []))
+  pub outcome-value : Is (row O) o (vstruct (ofList (answer-val ∷ records-val ∷ [])) ∷ [])
+  pub block-value : Is (row B) b (block-val ∷ [])
 
 -- the function by value returns `Returned { answer, records, block }`, the layer `Outcome { answer, records }`
 pub record Layer : Type 2 where
@@ -232,10 +232,10 @@ module _ (B : Declared) (block-laws : LL.Laws B) (block-plain : Plains (fields B
         answer-val = answer-laws .val (A .into (returned r .0));
         records-val = vint w64 (returned r .1 .0);
         block-val = LL.val B block-laws (returned r .1 .1 .0);
-        whole-is = ap only (LL.tells Answered answered-laws r (v ∷ []) is);
-        outcome-is = subst (λ (o : Values (A ∷ usize-field ∷ [])). Is (Struct (struct-shape Answer)) (intos (A ∷ usize-field ∷ []) o) (vstruct (ofList (answer-laws .val (A .into (returned r .0)) ∷ vint w64 (returned r .1 .0) ∷ [])) ∷ []))
+        whole-value = ap only (LL.tells Answered answered-laws r (v ∷ []) is);
+        outcome-value = subst (λ (o : Values (A ∷ usize-field ∷ [])). Is (Struct (struct-shape Answer)) (intos (A ∷ usize-field ∷ []) o) (vstruct (ofList (answer-laws .val (A .into (returned r .0)) ∷ vint w64 (returned r .1 .0) ∷ [])) ∷ []))
             (sym (outcome-has r)) ((_, (_, tt)), (refl, (each .0, (each .1 .0, tt))));
-        block-is = each .1 .1 .0;
+        block-value = each .1 .1 .0;
       }
 
   abbrev pub answering : (τ : Ty) (m n : ℕ) → fieldOf (mirOf Answered) 0 ≡ some (τ, 0) → fieldOf (mirOf Answered) 1 ≡ some (tyInt w64, m) → fieldOf (mirOf Answered) 2 ≡ some (mirOf B, n) → Layer
@@ -291,7 +291,7 @@ module _ {M : Type 1} {𝓤 : URA M} {H : Heap 𝓤} {A : Atoms 𝓤} {K : Type 
       assigns t (agg t (and-then t (load t (local-at t ej (stop t)) (look t 1 refl)) (and-then t (load t (local-at t ei (fld t refl (stop t))) (look-in t 0 (sub t 1 refl (whole t)))) (no-more t))))
       (local-at t ek (stop t)) (init t 2 refl (tt, (tt, (record { fits = room .0 }, tt)))) $ s)
 
-module _ (L : Layer) (P : Takes) where
+module _ (L : Layer) (P : Parameters) where
   abbrev S : Ended
   S = returning P (row (L .Returned))
 
@@ -327,10 +327,10 @@ module _ (L : Layer) (P : Takes) where
         let p = L .parts r w r-is in
         move t (3 ∷ 4 ∷ 5 ∷ 6 ∷ 7 ∷ 8 ∷ 9 ∷ 10 ∷ []) $
         land t (local-at t ei (stop t)) (init t 4 refl (LL.lawful (L .Returned) (L .returned-laws) 𝓤 H A W .typed r _ r-is .0)) $
-        rewrite t 4 (λ (u : Val). ‵ (fat fullShare (mirOf (L .Returned)) lr 0 u)) (p .whole-is) refl $
+        rewrite t 4 (λ (u : Val). ‵ (fat fullShare (mirOf (L .Returned)) lr 0 u)) (p .whole-value) refl $
         assigns t (of-opd t (load t (local-at t ei (fld t (L .block-place) (stop t))) (look-in t 4 (sub t 2 (L .block-place) (whole t))))) (local-at t ej (hop t (look t 5 refl) (stop t)))
-        (store-raw t 0 refl (LL.lawful (L .Block) (L .block-laws) 𝓤 H A W .typed (L .block r) _ (p .block-is) .0)) $
+        (store-raw t 0 refl (LL.lawful (L .Block) (L .block-laws) 𝓤 H A W .typed (L .block r) _ (p .block-value) .0)) $
         assigns t (agg t (and-then t (load t (local-at t ei (fld t (L .answer-place) (stop t))) (look-in t 4 (sub t 0 (L .answer-place) (whole t))))
         (and-then t (load t (local-at t ei (fld t (L .records-place) (stop t))) (look-in t 4 (sub t 1 (L .records-place) (whole t)))) (no-more t))))
-        (local-at t eo (stop t)) (init t 6 refl (LL.lawful (L .Outcome) (L .outcome-laws) 𝓤 H A W .typed (L .outcome r) _ (p .outcome-is) .0)) $
-        stores t tt (L .Block) (L .block-plain) (L .block r) (p .block-val) b o (p .block-is) $ forget t 3 refl $ go v r ws (vstruct (ofList (p .answer-val ∷ p .records-val ∷ []))) (p .outcome-is)))))
+        (local-at t eo (stop t)) (init t 6 refl (LL.lawful (L .Outcome) (L .outcome-laws) 𝓤 H A W .typed (L .outcome r) _ (p .outcome-value) .0)) $
+        stores t tt (L .Block) (L .block-plain) (L .block r) (p .block-val) b o (p .block-value) $ forget t 3 refl $ go v r ws (vstruct (ofList (p .answer-val ∷ p .records-val ∷ []))) (p .outcome-value)))))

@@ -1,5 +1,5 @@
 pub mod LentLaws
-pub mod Again
+pub mod Lending
 pub mod Local
 pub mod Layers
 pub mod CancelLayer

@@ -194,7 +194,7 @@ pub fn put_record(log: &mut [u8], index: usize, record: Record)
     ensures { λ _. ⌜ Put (now (log .entry)) index («record» ∷ []) (now (log .exit)) ⌝ }
 {
     let cells = encoded(record);
-    buffers::lay(log, trb::RECORD_LENGTH * index, &cells);
+    buffers::copy_into(log, trb::RECORD_LENGTH * index, &cells);
 }
 
 // Writes a record where it is due, behind `count` records, and returns how many there are then.

@@ -39,7 +39,7 @@ fn row_at(log: &[u8], index: usize) -> [u8; 32]
     let start = trb::RECORD_LENGTH * index;
     let end = start + trb::RECORD_LENGTH;
     let mut row = [0u8; 32];
-    buffers::lay(&mut row, 0, &log[start..end]);
+    buffers::copy_into(&mut row, 0, &log[start..end]);
     row
 }
 
@@ -49,7 +49,7 @@ fn copy_row(log: &mut [u8], from: usize, to: usize)
     ensures { λ _. ⌜ now (log .exit) ≡ patch (now (log .entry)) (recordLength * to) (rowAt (now (log .entry)) from) ⌝ }
 {
     let row = row_at(log, from);
-    buffers::lay(log, trb::RECORD_LENGTH * to, &row);
+    buffers::copy_into(log, trb::RECORD_LENGTH * to, &row);
 }
 
 // Makes `count` the length of row number `index`.
@@ -67,7 +67,7 @@ fn set_length(log: &mut [u8], index: usize, count: u32)
         (n2 % 256) as u8,
         (n3 % 256) as u8,
     ];
-    buffers::lay(log, trb::RECORD_LENGTH * index + LENGTH_OFFSET, &cells);
+    buffers::copy_into(log, trb::RECORD_LENGTH * index + LENGTH_OFFSET, &cells);
 }
 
 // Joins the record to the last of the first `kept` rows.

@@ -21,7 +21,7 @@ fn put_refused(buffer: &mut [u8]) -> usize
     ensures { λ r. ⌜ Leads refusedText r (now (buffer .exit)) ⌝ }
 {
     let refused = b"refused 10\n";
-    buffers::lay(buffer, 0, refused);
+    buffers::copy_into(buffer, 0, refused);
     refused.len()
 }
 

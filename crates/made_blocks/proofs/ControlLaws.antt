@@ -36,7 +36,7 @@ use Rattle.guest_memory.specs.Regions.{shareAnAddress}
 use Rattle.phase_table.specs.declared.Outcome.{Outcome}
 use Rattle.phase_table.specs.declared.Outcome.the-variants as outcome
 use Rattle.phase_table.specs.Outcomes.{holds, restarts, phaseAfter, stateAfter}
-use Rattle.phase_table.specs.Table.{setupStageIn, becomes}
+use Rattle.phase_table.specs.Table.{setupStageIn, trbOutcome}
 use Rattle.control_block.specs.declared.BlockFacts.{BlockFacts}
 use Rattle.control_block.specs.declared.ControlBlock.{ControlBlock}
 use Rattle.control_block.specs.declared.ControlTransfer.{ControlTransfer}
@@ -216,8 +216,8 @@ module _ (b : ControlBlock) (n : ℕ) (k : Kept b n) where
 
   -- a Setup finds nothing held, where a submission is due
   setup-first : submissionDue (b .state) ≡ true → (v : TransferTrbVariant) (s : SetupStageTrb) → v ≡ SetupStage s
-      → submitting.droppedBefore (becomes (b .phase) v) b .held ≡ 0
-  unfolding becomes
+      → submitting.droppedBefore (trbOutcome (b .phase) v) b .held ≡ 0
+  unfolding trbOutcome
   setup-first due v s e = rw e (by (b .phase) (k .nothing-held due))
     where
       by : (phase : ControlTransferState) → (expectsSetup phase ≡ true → b .held ≡ 0) → submitting.droppedBefore (setupStageIn phase) b .held ≡ 0
@@ -227,7 +227,7 @@ module _ (b : ControlBlock) (n : ℕ) (k : Kept b n) where
       by ExpectStatusStageTrb none = refl
       by ExpectFinalEventDataTrb none = refl
 
-  module _ (t : TransferTrb) (o : Outcome) (same : o ≡ becomes (b .phase) (t .variant)) (due : submissionDue (b .state) ≡ true)
+  module _ (t : TransferTrb) (o : Outcome) (same : o ≡ trbOutcome (b .phase) (t .variant)) (due : submissionDue (b .state) ≡ true)
       (flag : holds o ≡ true → b .direction ≡ true → dataOf (t .variant) .«immediate_data» ≡ false) where
     abbrev dropped : ControlBlock
     dropped = submitting.droppedBefore o b
@@ -254,7 +254,7 @@ module _ (b : ControlBlock) (n : ℕ) (k : Kept b n) where
       (submitting.questionsOf l c b t regions) (submitting.refused b) (submitting.accepted o b t) (λ m. k) (λ none. kept-taken t o refl (submission-due l c (factsOf b) o t regions none) (flag none))
     where
       o : Outcome
-      o = becomes (b .phase) (t .variant)
+      o = trbOutcome (b .phase) (t .variant)
 
       flag : firstNo (submissionQuestions l c (factsOf b) o t regions) ≡ 0 → holds o ≡ true → b .direction ≡ true → dataOf (t .variant) .«immediate_data» ≡ false
       flag none h input = not-true _ (rw (h, input) at (submission-questions.passed (factsOf b) o t regions l c none .from-memory))

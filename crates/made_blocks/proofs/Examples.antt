@@ -28,7 +28,7 @@ use Rattle.walks.specs.All.{all}
 use Rattle.walks.specs.Walk.{walk}
 use Rattle.td_part.specs.Parts.{putDma, realizeDma}
 use Rattle.account.specs.Guest.{writeLengths}
-use Rattle.phase_table.specs.Table.{becomes}
+use Rattle.phase_table.specs.Table.{trbOutcome}
 use Rattle.control_block.specs.declared.ControlBlock.{ControlBlock}
 use Rattle.control_block.specs.declared.ControlTransfer.{ControlTransfer}
 use Rattle.control_block.specs.Blocks.{freshBlock, heldOf, stored, advanced}
@@ -102,7 +102,7 @@ submitted t cs = submit minLog maxCollected t regions ∷ complete minLog NoneGi
 
 -- what calls leave, with all that they are defined by
 unfoldable run : List ControlCall → ControlBlock → ControlBlock
-unfolding submission submissionQuestions hasRoom reaches inReach rangeInside placeOf inRegion shareAnAddress sharesAt holds collects firstNo idsInRange soundBlock soundTrb all becomes acceptedSubmission blockAfter recordsOf transferAfter completion completionQuestions acceptedCompletion blockBehind cleared
+unfolding submission submissionQuestions hasRoom reaches inReach rangeInside placeOf inRegion shareAnAddress sharesAt holds collects firstNo idsInRange soundBlock soundTrb all trbOutcome acceptedSubmission blockAfter recordsOf transferAfter completion completionQuestions acceptedCompletion blockBehind cleared
 run cs b = afterAll cs b
 
 -- an IN transfer in this phase, with a request for n bytes

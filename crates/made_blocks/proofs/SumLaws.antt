@@ -20,7 +20,7 @@ use Rattle.guest_memory.specs.declared.Regions.{Regions}
 use Rattle.guest_memory.specs.Regions.{shareAnAddress}
 use Rattle.phase_table.specs.declared.Outcome.{Outcome}
 use Rattle.phase_table.specs.Outcomes.{holds}
-use Rattle.phase_table.specs.Table.{becomes}
+use Rattle.phase_table.specs.Table.{trbOutcome}
 use Rattle.control_block.specs.declared.BlockFacts.{BlockFacts}
 use Rattle.control_block.specs.declared.ControlBlock.{ControlBlock}
 use Rattle.control_block.specs.Facts.{submissionDue, factsOf, soundBlock}
@@ -62,7 +62,7 @@ asked-submission l c t regions b n =
     (refused b) (accepted o b t) (λ q. omega arith) (λ none. by (holds o) (short-enough l c (factsOf b) o t regions none))
   where
     o : Outcome
-    o = becomes (b .phase) (t .variant)
+    o = trbOutcome (b .phase) (t .variant)
 
     by : (hold : Bool) → transferLength (t .variant) ≤ maxTransferLength → cond hold (askedBy (t .variant) n) n ≤ n + maxTransferLength
     by true short = omega (arith, askedBy-length (t .variant) n)

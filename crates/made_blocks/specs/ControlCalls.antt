@@ -11,7 +11,7 @@ use Rattle.trb.specs.declared.TransferTrbVariant.{TransferTrbVariant}
 use Rattle.trb.specs.declared.TransferTrbVariant.the-variants.{SetupStage, DataStage, StatusStage, Normal, EventData, NoOp, Isoch, Unrecognized}
 use Rattle.guest_memory.specs.declared.Regions.{Regions}
 use Rattle.phase_table.specs.Outcomes.{holds}
-use Rattle.phase_table.specs.Table.{becomes}
+use Rattle.phase_table.specs.Table.{trbOutcome}
 use Rattle.control_block.specs.declared.ControlBlock.{ControlBlock}
 use Rattle.control_block.specs.declared.GuestRelease.{GuestRelease}
 use Rattle.control_transfer.specs.Data.{dataOf, sizeOf}
@@ -56,7 +56,7 @@ askedBy Unrecognized n = n
 -- a TRB is taken where its submission is accepted and the phase table takes it
 abbrev pub askedAfter : ControlCall → ControlBlock → ℕ → ℕ
 askedAfter (submit l c t regions) b n =
-    cond (isAccepted (submission l c b t regions .state .answer) && holds (becomes (b .phase) (t .variant))) (askedBy (t .variant) n) n
+    cond (isAccepted (submission l c b t regions .state .answer) && holds (trbOutcome (b .phase) (t .variant))) (askedBy (t .variant) n) n
 askedAfter (complete l r m) b n = n
 askedAfter cancel b n = n
 

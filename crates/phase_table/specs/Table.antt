@@ -80,5 +80,5 @@ outcomeOf phase kind.Isoch chain = Unsupported
 outcomeOf phase kind.Unrecognized chain = Unrecognized
 
 -- of a TRB
-unfoldable pub becomes : ControlTransferState → TransferTrbVariant → Outcome
-becomes phase v = outcomeOf phase (kindOf v) (chainOf v)
+unfoldable pub trbOutcome : ControlTransferState → TransferTrbVariant → Outcome
+trbOutcome phase v = outcomeOf phase (kindOf v) (chainOf v)

@@ -4,7 +4,7 @@ use trb::ControlSubmissionState;
 use trb::ControlTransferState;
 use trb::TransferTrbVariant;
 ghost use mathlib.Core.Path.{_≡_};
-ghost use Rattle.phase_table.specs.Table.{kindOf, dataTaken, statusTaken, setupStageIn, dataStageIn, statusStageIn, normalIn, eventDataIn, outcomeOf, becomes};
+ghost use Rattle.phase_table.specs.Table.{kindOf, dataTaken, statusTaken, setupStageIn, dataStageIn, statusStageIn, normalIn, eventDataIn, outcomeOf, trbOutcome};
 ghost use Rattle.phase_table.specs.Outcomes.{holds, restarts, requests, phaseAfter, stateAfter};
 
 pub enum TrbKind {
@@ -154,8 +154,8 @@ pub fn outcome_of(phase: ControlTransferState, kind: TrbKind, chain: bool) -> Ou
 }
 
 // What becomes of this TRB in this phase.
-pub fn becomes(phase: ControlTransferState, variant: TransferTrbVariant) -> Outcome
-    ensures { λ r. ⌜ r ≡ becomes phase variant ⌝ }
+pub fn trb_outcome(phase: ControlTransferState, variant: TransferTrbVariant) -> Outcome
+    ensures { λ r. ⌜ r ≡ trbOutcome phase variant ⌝ }
 {
     outcome_of(phase, kind_of(variant), trb::chain_of(variant))
 }

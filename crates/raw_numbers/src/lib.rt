@@ -17,7 +17,7 @@ fn put_raw(raw: &mut [u8], bytes: [u8; RAW])
     requires { ⌜ rawLength ≤ length (now raw) ⌝ }
     ensures { λ _. ⌜ now (raw .exit) ≡ patch (now (raw .entry)) 0 bytes ⌝ }
 {
-    buffers::lay(raw, 0, &bytes);
+    buffers::copy_into(raw, 0, &bytes);
 }
 
 // Questions 23 and 4, and the bytes of a TRB that passes them.

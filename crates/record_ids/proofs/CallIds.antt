@@ -43,7 +43,7 @@ use Rattle.control_block.specs.declared.ControlBlock.{ControlBlock}
 use Rattle.control_block.specs.declared.Ending as ending
 use Rattle.control_block.specs.declared.Ending.the-variants as does
 use Rattle.phase_table.specs.Outcomes.{restarts, requests}
-use Rattle.phase_table.specs.Table.{becomes}
+use Rattle.phase_table.specs.Table.{trbOutcome}
 use Rattle.phase_table.specs.declared.Outcome as table
 use Rattle.control_chain.specs.Dropped.{interruptOf, successOf, successes}
 use Rattle.control_chain.specs.Endings.{endingRecords}
@@ -164,7 +164,7 @@ module _ (b : ControlBlock) where
   unfolding controlSubmitting.submission controlSubmitting.accepted
   control-submission-ids log collect t regions =
       after-ids (b .«endpoint_id») (b .«slot_id») (controlSubmitting.questionsOf log collect b t regions) (controlSubmitting.refused b)
-      (controlSubmitting.accepted (becomes (b .phase) (t .variant)) b t) (λ n. refl) (records-ids (becomes (b .phase) (t .variant)))
+      (controlSubmitting.accepted (trbOutcome (b .phase) (t .variant)) b t) (λ n. refl) (records-ids (trbOutcome (b .phase) (t .variant)))
 
   ending-ids : (x : ending.Ending) (a : ℕ) → OwnControl (endingRecords x a (b .«endpoint_id») (b .«slot_id») (heldControl b))
   unfolding endingRecords

@@ -13,7 +13,7 @@ use Rattle.trb.specs.declared.TdBasedNormalSubmissionState.the-variants.{Awaiti
 use Rattle.in_block.specs.declared.BlockFacts.{BlockFacts}
 use Rattle.in_block.specs.declared.HeldTest.{HeldTest}
 use Rattle.in_questions.specs.Questions.{completionQuestions}
-use Rattle.in_endpoint.specs.Completion.{answerTo}
+use Rattle.in_endpoint.specs.Completion.{completionAnswer}
 use Rattle.in_td.specs.Td.{inTd, unprocessed}
 use Rattle.in_td.specs.declared.InMode.{InMode}
 use Rattle.in_td.specs.declared.TdProcessed.{TdProcessed}
@@ -47,4 +47,4 @@ rowPlan l e s mode k found r n =
 -- ---- The answer
 
 abbrev pub rowAnswer : RowPlan → TdProcessed → RowCompleted
-rowAnswer plan p = record { answer = answerTo (plan .asked) (p .result); records = p .progress .records }
+rowAnswer plan p = record { answer = completionAnswer (plan .asked) (p .result); records = p .progress .records }

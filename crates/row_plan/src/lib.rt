@@ -108,7 +108,7 @@ pub fn answer(plan: RowPlan, processed: TdProcessed) -> RowCompleted
     let asked = plan.asked;
     let progress = processed.progress;
     let result = processed.result;
-    let answer = in_endpoint::answer_to(asked, result);
+    let answer = in_endpoint::completion_answer(asked, result);
     RowCompleted {
         answer: answer,
         records: progress.records,

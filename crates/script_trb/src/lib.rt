@@ -209,7 +209,7 @@ fn no_op(fields: TrbFields) -> ScriptTrb
 }
 
 // Isoch and Unrecognized have the cycle bit alone.
-fn bare(fields: TrbFields, variant: TransferTrbVariant) -> ScriptTrb
+fn without_fields(fields: TrbFields, variant: TransferTrbVariant) -> ScriptTrb
     ensures { λ r. ⌜ r ≡ bareTrb variant fields ⌝ }
 {
     if !has_only(fields, CYCLE, 0, 0) {
@@ -224,12 +224,12 @@ pub fn script_trb(fields: TrbFields) -> ScriptTrb
 {
     let kind = fields.kind;
     match kind {
-        0 => bare(fields, TransferTrbVariant::Unrecognized),
+        0 => without_fields(fields, TransferTrbVariant::Unrecognized),
         1 => normal(fields),
         2 => setup_stage(fields),
         3 => data_stage(fields),
         4 => status_stage(fields),
-        5 => bare(fields, TransferTrbVariant::Isoch),
+        5 => without_fields(fields, TransferTrbVariant::Isoch),
         7 => event_data(fields),
         8 => no_op(fields),
         _ => ScriptTrb::Bad,

@@ -18,11 +18,11 @@ pub const MAX_SHAPE: usize = 12;
 pub const MAX_TEXT: usize = 24579;
 
 // The first `size` letters of the word and a line feed.
-fn lay_line(text: &mut [u8], at: usize, word: [u8; MAX_SHAPE], size: usize) -> usize
+fn copy_line(text: &mut [u8], at: usize, word: [u8; MAX_SHAPE], size: usize) -> usize
     requires { ⌜ (size ≤ maxShape) × (at + (size + 1) ≤ length (now text)) ⌝ }
     ensures { λ r. ⌜ Written (size + 1) (now (text .entry)) at (take size word ++ (lineFeed ∷ [])) r (now (text .exit)) ⌝ }
 {
-    buffers::lay(text, at, &word[..size]);
+    buffers::copy_into(text, at, &word[..size]);
     numerals::put_char(text, at + size, b'\n')
 }
 
@@ -38,7 +38,7 @@ fn put_line(text: &mut [u8], at: usize, word: [u8; MAX_SHAPE], size: usize) -> u
     if text.len() - length < at {
         return at;
     }
-    lay_line(text, at, word, size)
+    copy_line(text, at, word, size)
 }
 
 // The request is made: a line, if no letter is left.

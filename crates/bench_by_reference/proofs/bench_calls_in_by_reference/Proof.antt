@@ -45,7 +45,7 @@ use denote.Triple.Table.{cited}
 use denote.Triple.Walked.{Stays, stay-none, stay-none-slice, stay-slice, walkOf, AllGo, goes-none, goes-none-slice, goes-slice, Walks, ends-at, walked}
 use denote.Exit.{yes}
 use Rattle.lent_laws.proofs.LentLaws.{gives, returned, calls-plain, calls-plain-last, from-nothing, says-nothing, by-walk}
-use Rattle.lent_laws.proofs.Again.{lends-to-call, back-from-call}
+use Rattle.lent_laws.proofs.Lending.{lends-to-call, back-from-call}
 use Rattle.lent_laws.proofs.Local.{lends-local, local-back}
 use Rattle.in_block.specs.declared.InBlock.{InBlock}
 use Rattle.trb.specs.declared.InTrbProcessingResult.{InTrbProcessingResult}
@@ -235,7 +235,7 @@ record Turn (turns : ℕ) (ys : List ℕ) : Type 0 where
   most : k ≤ turns
   fits : sum < 2 ^ 64
   same : length zs ≡ length ys
-  block-is : Is B.the-row block (block-val ∷ [])
+  block-value : Is B.the-row block (block-val ∷ [])
   nxt-is : Is X.the-row nxt (nxt-val ∷ [])
 
 abbrev start : (turns : ℕ) (ys : List ℕ) (b : InBlock) (v : Val) (x : NextTrb) (w : Val) → Is B.the-row b (v ∷ []) → Is X.the-row x (w ∷ []) → Turn turns ys
@@ -250,7 +250,7 @@ start turns ys b v x w b-is x-is = record {
   most = omega arith;
   fits = lit< tt;
   same = refl;
-  block-is = b-is;
+  block-value = b-is;
   nxt-is = x-is;
 }
 
@@ -267,7 +267,7 @@ left-by u sum fits ws long b v b-is = record {
   most = u .most;
   fits = fits;
   same = long ∙ u .same;
-  block-is = b-is;
+  block-value = b-is;
   nxt-is = u .nxt-is;
 }
 
@@ -284,7 +284,7 @@ next u small x w x-is = record {
   most = omega arith;
   fits = u .fits;
   same = u .same;
-  block-is = u .block-is;
+  block-value = u .block-value;
   nxt-is = x-is;
 }
 
@@ -502,16 +502,16 @@ module _ {M : Type 1} (𝓤 : URA M) (H : Heap 𝓤) (A : Atoms 𝓤) (W : Given
       cancels : (v u : Turn turns ys) → u .k ≡ v .k → u .k < turns → Sq W (At u) (runs C Λ En cancelling (anyQ (Branched v)))
       cancels v u here small =
           assigns ! (addr ! (from ! (stop !))) (from ! (stop !)) (init ! 32 refl (tt, tt)) $
-          move ! (17 ∷ []) $ lends-local ! tt B.the-type B′.the-plain (named 0) (u .block) (u .block-val) l11 (u .block-is) (λ ν γ.
+          move ! (17 ∷ []) $ lends-local ! tt B.the-type B′.the-plain (named 0) (u .block) (u .block-val) l11 (u .block-value) (λ ν γ.
           move ! (0 ∷ 1 ∷ []) $ gives W (HandedCancel ν γ u) (raw (Cancel 𝓤 H A at-mem run .pre (to-cancel ν γ u))) (hands-cancel ν γ u) $
           calls-at-last ! fm (Cancel 𝓤 H A at-mem run) (known .cancel) (to-cancel ν γ u) (and-then ! (load ! (from ! (stop !)) (look ! 33 refl)) (no-more !)) (λ w.
           returned ! tt cancel.ended (cancel.clauses 𝓤 H A at-mem run) (to-cancel ν γ u) w (λ r lasts. drop ! $ fsplit ! $ move ! (1 ∷ []) $ drop ! $
           move ! (1 ∷ []) $ use1 W (‵ (flft (ν ∷ []) fullShare) ⊛ ‵ ftrue) (id⊢ 𝓤 _) $ split ! $ move ! (1 ∷ []) $ drop ! $
           move ! (2 ∷ []) $ facts ! Nothing (Is Nothing) (shows 𝓤 H A Nothing) r (w ∷ []) (λ r-is.
           land-last ! (from ! (stop !)) (init ! 33 refl (nothing-lawful 𝓤 H A W .typed r _ r-is .0)) $ exec ! C Λ En advance (anyQ (Turned v)) $
-          move ! (0 ∷ 2 ∷ 1 ∷ []) $ local-back ! tt B.the-type B′.the-laws (lasts .0) l11 (λ block-val block-is.
+          move ! (0 ∷ 2 ∷ 1 ∷ []) $ local-back ! tt B.the-type B′.the-laws (lasts .0) l11 (λ block-val block-value.
           forget ! 31 refl $ forget ! 32 refl $ keep ! (1 ∷ 2 ∷ 3 ∷ 4 ∷ 5 ∷ 6 ∷ 7 ∷ 8 ∷ 9 ∷ 10 ∷ 11 ∷ 12 ∷ 13 ∷ 14 ∷ 15 ∷ 16 ∷ 17 ∷ 0 ∷ 18 ∷ 19 ∷ 20 ∷ 21 ∷ 22 ∷ 23 ∷ 24 ∷ 25 ∷ 26 ∷ 27 ∷ 28 ∷ 29 ∷ 30 ∷ 31 ∷ 32 ∷ 33 ∷ 34 ∷ 35 ∷ 36 ∷ 37 ∷ 38 ∷ 39 ∷ 40 ∷ 41 ∷ 42 ∷ 43 ∷ 44 ∷ 45 ∷ 46 ∷ 47 ∷ 48 ∷ 49 ∷ 50 ∷ 51 ∷ 52 ∷ 53 ∷ 54 ∷ 55 ∷ 56 ∷ 57 ∷ 58 ∷ 59 ∷ 60 ∷ 61 ∷ 62 ∷ 63 ∷ 64 ∷ 65 ∷ []) $
-          advances v (left-by u (u .sum) (u .fits) (u .zs) refl (lasts .0) block-val block-is) here small)))))
+          advances v (left-by u (u .sum) (u .fits) (u .zs) refl (lasts .0) block-val block-value) here small)))))
 
       -- the TRB's completion is asked for
       completes-td : (v u : Turn turns ys) → u .k ≡ v .k → u .k < turns → Sq W (At u) (runs C Λ En completing (anyQ (Branched v)))
@@ -523,7 +523,7 @@ module _ {M : Type 1} (𝓤 : URA M) (H : Heap 𝓤) (A : Atoms 𝓤) (W : Given
           assigns ! (addr ! (from ! (stop !))) (from ! (stop !)) (init ! 35 refl (tt, tt)) $
           move ! (4 ∷ []) $ use1 W (‵ OwnData ⊛ ‵ OwnData) (shr-slice-copy 𝓤 H A W (named 1) κ2 u8 .twice bytes-ref (bytes-val ∷ [])) $ split ! $
           move ! (2 ∷ 3 ∷ []) $ lends-to-call u8 (named 0) (name log-ref) (ptr log-ref .0) (ptr log-ref .1) (length ys) ! tt (u .zs) (u .same) (λ ν₁ δ.
-          move ! (19 ∷ []) $ lends-local ! tt B.the-type B′.the-plain (named 1) (u .block) (u .block-val) l11 (u .block-is) (λ ν₂ γ.
+          move ! (19 ∷ []) $ lends-local ! tt B.the-type B′.the-plain (named 1) (u .block) (u .block-val) l11 (u .block-value) (λ ν₂ γ.
           move ! (3 ∷ 0 ∷ 10 ∷ 4 ∷ 1 ∷ 7 ∷ []) $ gives W (HandedComplete ν₁ ν₂ δ γ u) (raw (Complete 𝓤 H A at-mem run .pre (to-complete ν₁ ν₂ δ γ u result result-val))) (hands-complete ν₁ ν₂ δ γ u result result-val result-is) $
           calls-at ! fm (Complete 𝓤 H A at-mem run) (known .complete) (to-complete ν₁ ν₂ δ γ u result result-val) (and-then ! (load ! (from ! (stop !)) (look ! 33 refl)) (and-then ! (load ! (from ! (stop !)) (look ! 34 refl)) (and-then ! (load ! (from ! (stop !)) (look ! 22 refl)) (and-then ! (load ! (from ! (stop !)) (look ! 9 refl)) (no-more !))))) (λ w.
           returned ! tt complete.ended (complete.clauses 𝓤 H A at-mem run) (to-complete ν₁ ν₂ δ γ u result result-val) w (λ outcome lasts. drop ! $
@@ -532,12 +532,12 @@ module _ {M : Type 1} (𝓤 : URA M) (H : Heap 𝓤) (A : Atoms 𝓤) (W : Given
           move ! (5 ∷ []) $ facts ! O.the-row (Is O.the-row) (shows 𝓤 H A O.the-row) outcome (w ∷ []) (λ outcome-is.
           land ! (from ! (stop !)) (init ! 27 refl (LL.lawful O.the-type O′.the-laws 𝓤 H A W .typed outcome _ outcome-is .0)) $
           move ! (2 ∷ 6 ∷ 4 ∷ []) $ back-from-call u8 (named 0) (name log-ref) (ptr log-ref .0) (ptr log-ref .1) (length ys) ! tt (u .zs) (lasts .0) (u .same) long log-room $
-          move ! (3 ∷ 5 ∷ 4 ∷ []) $ local-back ! tt B.the-type B′.the-laws (lasts .1 .0) l11 (λ block-val block-is.
+          move ! (3 ∷ 5 ∷ 4 ∷ []) $ local-back ! tt B.the-type B′.the-laws (lasts .1 .0) l11 (λ block-val block-value.
           calls-plain-last ! fm add-completion.ended (add-completion.clauses 𝓤 H A at-mem run) (known .add-completion) (to-add-completion (u .sum) outcome w) (hands-add-completion (u .sum) outcome w (u .fits) outcome-is) (and-then ! (load ! (from ! (stop !)) (look ! 20 refl)) (and-then ! (load ! (from ! (stop !)) (look ! 25 refl)) (no-more !))) (λ sum-val sum ws₁ sum-is. drop ! $
           land-last ! (from ! (stop !)) (store ! 19 refl (uint-lawful 𝓤 H A W w64 .typed sum _ sum-is .0)) $ exec ! C Λ En advance (anyQ (Turned v)) $
           rewrite ! 19 (λ (z : Val). ‵ (fat fullShare (tyInt w64) l13 0 z)) (ap only (sum-is .0)) refl $
           forget ! 23 refl $ forget ! 24 refl $ forget ! 33 refl $ forget ! 34 refl $ forget ! 35 refl $ keep ! (1 ∷ 2 ∷ 5 ∷ 6 ∷ 4 ∷ 3 ∷ 7 ∷ 8 ∷ 9 ∷ 10 ∷ 11 ∷ 12 ∷ 13 ∷ 14 ∷ 15 ∷ 16 ∷ 17 ∷ 0 ∷ 18 ∷ 19 ∷ 20 ∷ 21 ∷ 22 ∷ 23 ∷ 24 ∷ 25 ∷ 26 ∷ 27 ∷ 28 ∷ 29 ∷ 30 ∷ 31 ∷ 32 ∷ 33 ∷ 34 ∷ 35 ∷ 36 ∷ 37 ∷ 38 ∷ 39 ∷ 40 ∷ 41 ∷ 42 ∷ 43 ∷ 44 ∷ 45 ∷ 46 ∷ 47 ∷ 48 ∷ 49 ∷ 50 ∷ 51 ∷ 52 ∷ 53 ∷ 54 ∷ 55 ∷ 56 ∷ 57 ∷ 58 ∷ 59 ∷ 60 ∷ 61 ∷ 62 ∷ 63 ∷ 64 ∷ 65 ∷ []) $
-          advances v (left-by u sum (sum-is .1) (lasts .0) long (lasts .1 .0) block-val block-is) here small)))))))))
+          advances v (left-by u sum (sum-is .1) (lasts .0) long (lasts .1 .0) block-val block-value) here small)))))))))
 
       -- a turn that goes on
       more : (u : Turn turns ys) → u .k < turns → Sq W (At u) (runs C Λ En steps.turn-1 (anyQ (Turned u)))
@@ -555,7 +555,7 @@ module _ {M : Type 1} (𝓤 : URA M) (H : Heap 𝓤) (A : Atoms 𝓤) (W : Given
           move ! (4 ∷ []) $ use1 W (‵ OwnWindow ⊛ ‵ OwnWindow) (shr-slice-copy 𝓤 H A W (named 1) κ1 u8 .twice window-ref (window-val ∷ [])) $ split ! $
           use1 W (‵ OwnWindow ⊛ ‵ OwnWindow) (shr-slice-copy 𝓤 H A W (named 1) κ1 u8 .twice window-ref (window-val ∷ [])) $ split ! $
           move ! (5 ∷ 6 ∷ []) $ lends-to-call u8 (named 0) (name log-ref) (ptr log-ref .0) (ptr log-ref .1) (length ys) ! tt (u .zs) (u .same) (λ ν₁ δ.
-          move ! (21 ∷ []) $ lends-local ! tt B.the-type B′.the-plain (named 1) (u .block) (u .block-val) l11 (u .block-is) (λ ν₂ γ.
+          move ! (21 ∷ []) $ lends-local ! tt B.the-type B′.the-plain (named 1) (u .block) (u .block-val) l11 (u .block-value) (λ ν₂ γ.
           move ! (3 ∷ 0 ∷ 9 ∷ 10 ∷ 4 ∷ 1 ∷ 7 ∷ 8 ∷ []) $ gives W (HandedSubmit ν₁ ν₂ δ γ u) (raw (Submit 𝓤 H A at-mem run .pre (to-submit ν₁ ν₂ δ γ u t t-val))) (hands-submit ν₁ ν₂ δ γ u t t-val t-is) $
           calls-at ! fm (Submit 𝓤 H A at-mem run) (known .submit) (to-submit ν₁ ν₂ δ γ u t t-val) (and-then ! (load ! (from ! (stop !)) (look ! 27 refl)) (and-then ! (load ! (from ! (stop !)) (look ! 28 refl)) (and-then ! (load ! (from ! (stop !)) (look ! 20 refl)) (and-then ! (lit ! tt) (and-then ! (load ! (from ! (stop !)) (look ! 8 refl)) (and-then ! (record { go = λ Kt h. via 𝓤 (Kt (vint w64 highBase)) h (guardI 𝓤 (Fits w64 highBase) (Kt (vint w64 highBase)) (record { fits = lit< tt })) }) (and-then ! (load ! (from ! (stop !)) (look ! 8 refl)) (no-more !)))))))) (λ w.
           returned ! tt submit.ended (submit.clauses 𝓤 H A at-mem run) (to-submit ν₁ ν₂ δ γ u t t-val) w (λ outcome lasts. drop ! $
@@ -565,7 +565,7 @@ module _ {M : Type 1} (𝓤 : URA M) (H : Heap 𝓤) (A : Atoms 𝓤) (W : Given
           move ! (5 ∷ []) $ facts ! S.the-row (Is S.the-row) (shows 𝓤 H A S.the-row) outcome (w ∷ []) (λ outcome-is.
           land ! (from ! (stop !)) (init ! 25 refl (LL.lawful S.the-type S′.the-laws 𝓤 H A W .typed outcome _ outcome-is .0)) $
           move ! (2 ∷ 6 ∷ 4 ∷ []) $ back-from-call u8 (named 0) (name log-ref) (ptr log-ref .0) (ptr log-ref .1) (length ys) ! tt (u .zs) (lasts .0) (u .same) long log-room $
-          move ! (3 ∷ 5 ∷ 4 ∷ []) $ local-back ! tt B.the-type B′.the-laws (lasts .1 .0) l11 (λ block-val block-is.
+          move ! (3 ∷ 5 ∷ 4 ∷ []) $ local-back ! tt B.the-type B′.the-laws (lasts .1 .0) l11 (λ block-val block-value.
           calls-plain ! fm add-submission.ended (add-submission.clauses 𝓤 H A at-mem run) (known .add-submission) (to-add-submission (u .sum) outcome w) (hands-add-submission (u .sum) outcome w (u .fits) outcome-is) (and-then ! (load ! (from ! (stop !)) (look ! 20 refl)) (and-then ! (load ! (from ! (stop !)) (look ! 23 refl)) (no-more !))) (λ sum-val sum ws₁ sum-is. drop ! $
           land ! (from ! (stop !)) (store ! 19 refl (uint-lawful 𝓤 H A W w64 .typed sum _ sum-is .0)) $
           rewrite ! 19 (λ (z : Val). ‵ (fat fullShare (tyInt w64) l13 0 z)) (ap only (sum-is .0)) refl $
@@ -575,7 +575,7 @@ module _ {M : Type 1} (𝓤 : URA M) (H : Heap 𝓤) (A : Atoms 𝓤) (W : Given
           rewrite ! 30 (λ (z : Val). ‵ (fat fullShare tyBool l24 0 z)) (ap only asked-is) refl $
           forget ! 21 refl $ forget ! 22 refl $ forget ! 26 refl $ forget ! 27 refl $ forget ! 28 refl $ forget ! 29 refl $
           keep ! (1 ∷ 2 ∷ 4 ∷ 3 ∷ 5 ∷ 6 ∷ 7 ∷ 8 ∷ 9 ∷ 10 ∷ 11 ∷ 12 ∷ 13 ∷ 14 ∷ 15 ∷ 16 ∷ 17 ∷ 0 ∷ 18 ∷ 19 ∷ 20 ∷ 21 ∷ 22 ∷ 23 ∷ 24 ∷ 25 ∷ 26 ∷ 27 ∷ 28 ∷ 29 ∷ 30 ∷ 31 ∷ 32 ∷ 33 ∷ 34 ∷ 35 ∷ 36 ∷ 37 ∷ 38 ∷ 39 ∷ 40 ∷ 41 ∷ 42 ∷ 43 ∷ 44 ∷ 45 ∷ 46 ∷ 47 ∷ 48 ∷ 49 ∷ 50 ∷ 51 ∷ 52 ∷ 53 ∷ 54 ∷ 55 ∷ 56 ∷ 57 ∷ 58 ∷ 59 ∷ 60 ∷ 61 ∷ 62 ∷ 63 ∷ 64 ∷ 65 ∷ []) $
-          first ! $ branches ! (load ! (from ! (stop !)) (look ! 30 refl)) (λ _. forget ! 30 refl $ cancels u (left-by u sum (sum-is .1) (lasts .0) long (lasts .1 .0) block-val block-is) refl small) (λ _. forget ! 30 refl $ completes-td u (left-by u sum (sum-is .1) (lasts .0) long (lasts .1 .0) block-val block-is) refl small)))))))))))
+          first ! $ branches ! (load ! (from ! (stop !)) (look ! 30 refl)) (λ _. forget ! 30 refl $ cancels u (left-by u sum (sum-is .1) (lasts .0) long (lasts .1 .0) block-val block-value) refl small) (λ _. forget ! 30 refl $ completes-td u (left-by u sum (sum-is .1) (lasts .0) long (lasts .1 .0) block-val block-value) refl small)))))))))))
 
       -- the turn that leaves the loop, and the rest of the body
       ends : (u : Turn turns ys) → turns ≤ u .k → Sq W (At u) (runs C Λ En steps.turn-1 (anyQ (Turned u)))
@@ -611,15 +611,15 @@ module _ {M : Type 1} (𝓤 : URA M) (H : Heap 𝓤) (A : Atoms 𝓤) (W : Given
         calls-plain ! fm turns-of.ended (turns-of.clauses 𝓤 H A at-mem run) (known .turns-of) to-turns-of hands-turns-of (and-then ! (load ! (from ! (stop !)) (look ! 11 refl)) (and-then ! (load ! (from ! (stop !)) (look ! 15 refl)) (no-more !))) (λ turns-val turns ws₁ turns-is. drop ! $
         land ! (from ! (stop !)) (init ! 16 refl (uint-lawful 𝓤 H A W w64 .typed turns _ turns-is .0)) $
         rewrite ! 16 (λ (z : Val). ‵ (fat fullShare (tyInt w64) l10 0 z)) (ap only (turns-is .0)) refl $
-        calls-plain ! fm fresh.ended (fresh.clauses 𝓤 H A at-mem run) (known .fresh) to-fresh (from-nothing 𝓤 H A [] tt tt tt tt) (no-more !) (λ block-val block ws₂ block-is. drop ! $
-        land ! (from ! (stop !)) (init ! 25 refl (LL.lawful B.the-type B′.the-laws 𝓤 H A W .typed block _ block-is .0)) $
-        assigns ! (of-opd ! (load ! (from ! (stop !)) (look ! 25 refl))) (from ! (stop !)) (init ! 17 refl (LL.lawful B.the-type B′.the-laws 𝓤 H A W .typed block _ block-is .0)) $
+        calls-plain ! fm fresh.ended (fresh.clauses 𝓤 H A at-mem run) (known .fresh) to-fresh (from-nothing 𝓤 H A [] tt tt tt tt) (no-more !) (λ block-val block ws₂ block-value. drop ! $
+        land ! (from ! (stop !)) (init ! 25 refl (LL.lawful B.the-type B′.the-laws 𝓤 H A W .typed block _ block-value .0)) $
+        assigns ! (of-opd ! (load ! (from ! (stop !)) (look ! 25 refl))) (from ! (stop !)) (init ! 17 refl (LL.lawful B.the-type B′.the-laws 𝓤 H A W .typed block _ block-value .0)) $
         forget ! 25 refl $
         calls-plain ! fm first-trb.ended (first-trb.clauses 𝓤 H A at-mem run) (known .first-trb) to-first-trb (from-nothing 𝓤 H A [] tt tt tt tt) (no-more !) (λ nxt-val nxt ws₃ nxt-is. drop ! $
         land ! (from ! (stop !)) (init ! 18 refl (LL.lawful X.the-type X′.the-laws 𝓤 H A W .typed nxt _ nxt-is .0)) $
         assigns ! (of-opd ! (lit ! tt)) (from ! (stop !)) (init ! 19 refl (tt, record { fits = lit< tt })) $
         assigns ! (of-opd ! (lit ! tt)) (from ! (stop !)) (init ! 20 refl (tt, record { fits = lit< tt })) $
-        looped work work-val turns work-is (turns-is .1) (start turns ys block block-val nxt nxt-val block-is nxt-is)))))
+        looped work work-val turns work-is (turns-is .1) (start turns ys block block-val nxt nxt-val block-value nxt-is)))))
 
   walk : (𝓣 : Tables 𝓤 H) → Known 𝓤 H A at-mem run (𝓣 .C)
       → ent 𝓤 (onEntry 𝓤 H A stated.signature (κ0, (κ1, (κ2, tt))) (q0, (q1, (q2, tt))) args vals)

@@ -47,7 +47,7 @@ use denote.Triple.Table.{cited}
 use denote.Triple.Walked.{Stays, stay-none, stay-none-slice, stay-slice, walkOf, AllGo, goes-none, goes-none-slice, goes-slice, Walks, ends-at, walked}
 use denote.Exit.{yes}
 use Rattle.lent_laws.proofs.LentLaws.{gives, returned, calls-plain, from-nothing, says-nothing, by-walk}
-use Rattle.lent_laws.proofs.Again.{lends-to-call, back-from-call}
+use Rattle.lent_laws.proofs.Lending.{lends-to-call, back-from-call}
 use Rattle.lent_laws.proofs.Local.{LentFirst, lends-first, first-back}
 use Rattle.trb.specs.Limits.{maxHeld}
 use Rattle.trb.specs.declared.EndpointId.{EndpointId}

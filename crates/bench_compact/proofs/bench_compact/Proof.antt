@@ -19,8 +19,8 @@ returns c = search needs
 loop-holds : tie.Need-loop-holds Inv-loop μ-loop
 loop-holds c = search needs
 
-lay-requires : tie.Need-lay-requires Inv-loop μ-loop
-lay-requires c κs = search needs
+copy-into-requires : tie.Need-copy-into-requires Inv-loop μ-loop
+copy-into-requires c κs = search needs
 
 compact-requires : tie.Need-compact-requires Inv-loop μ-loop
 compact-requires c κs = search needs
@@ -54,7 +54,7 @@ bench-compact-spec =
     μ-loop
     returns
     loop-holds
-    lay-requires
+    copy-into-requires
     compact-requires
     kept-requires
     wrapping-add-u64-requires

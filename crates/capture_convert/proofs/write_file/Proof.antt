@@ -34,11 +34,11 @@ le32-requires-4 c κs = omega (arith, file-headed 16 (c .before .before .before 
 file-head-requires : tie.Need-file-head-requires
 file-head-requires c κs = search needs
 
-slice-aggregate-lay : tie.Need-slice-aggregate-lay
-slice-aggregate-lay c = search needs
+slice-aggregate-copy-into : tie.Need-slice-aggregate-copy-into
+slice-aggregate-copy-into c = search needs
 
-lay-requires : tie.Need-lay-requires
-lay-requires c κs =
+copy-into-requires : tie.Need-copy-into-requires
+copy-into-requires c κs =
     let s = c .before .before .before .before .before .before .before .before .before .before in
     omega (arith, s .pre .1, length-converted (s .args .src .now))
 
@@ -101,7 +101,7 @@ returns c =
     let long = length-fileHead (leField 8 4 l) (leField 12 4 l) (leField 16 4 l) (otherLink (leField 20 4 l)) in
     let wrote = rw (part-from l 24, from, to) at (w .write-records .ensures) in
     wrote
-    ∙ patch-behind d _ 0 24 front bytes (y .lay .ensures ∙ ap (patch d 0) cells) (omega (arith, long)) (omega (arith, long, s .pre .1, length-converted l))
+    ∙ patch-behind d _ 0 24 front bytes (y .copy-into .ensures ∙ ap (patch d 0) cells) (omega (arith, long)) (omega (arith, long, s .pre .1, length-converted l))
     ∙ ap (patch d 0) (sym (convertedBytes-are l))
 
 pub write-file-spec : {M : Type 1} → statement M
@@ -114,8 +114,8 @@ write-file-spec =
     le32-requires-3
     le32-requires-4
     file-head-requires
-    slice-aggregate-lay
-    lay-requires
+    slice-aggregate-copy-into
+    copy-into-requires
     sub-write-records
     part-write-records-start
     part-write-records-end

@@ -38,11 +38,11 @@ le32-requires-5 c κs = omega (arith, file-headed noGrowth (c .before .before .b
 file-head-requires : tie.Need-file-head-requires
 file-head-requires c κs = search needs
 
-slice-aggregate-lay : tie.Need-slice-aggregate-lay
-slice-aggregate-lay c = search needs
+slice-aggregate-copy-into : tie.Need-slice-aggregate-copy-into
+slice-aggregate-copy-into c = search needs
 
-lay-requires : tie.Need-lay-requires
-lay-requires c κs =
+copy-into-requires : tie.Need-copy-into-requires
+copy-into-requires c κs =
     let s = c .before .before .before .before .before .before .before .before .before .before .before .before in
     omega (arith, file-headed noGrowth (s .args .a .now) (s .pre .0) .long, s .pre .3)
 
@@ -116,7 +116,7 @@ returns c =
     let wrote = rw (part-from a 24, part-from b 24, extra) at (w .merge-records .ensures) in
     let long = file-headed noGrowth a (s .pre .0) .long in
     wrote
-    ∙ patch-behind d _ 0 24 front bytes (y .lay .ensures ∙ ap (patch d 0) cells) (omega (arith, size)) (omega (arith, size, long, s .pre .3))
+    ∙ patch-behind d _ 0 24 front bytes (y .copy-into .ensures ∙ ap (patch d 0) cells) (omega (arith, size)) (omega (arith, size, long, s .pre .3))
     ∙ ap (patch d 0) (sym (mergedFileBytes-are a b (s .pre .2)))
 
 pub write-merged-spec : {M : Type 1} → statement M
@@ -130,8 +130,8 @@ write-merged-spec =
     le32-requires-4
     le32-requires-5
     file-head-requires
-    slice-aggregate-lay
-    lay-requires
+    slice-aggregate-copy-into
+    copy-into-requires
     sub-merge-records
     part-merge-records-start
     part-merge-records-end

@@ -26,20 +26,20 @@ record-head-requires c κs = search needs
 header-bytes-requires : tie.Need-header-bytes-requires
 header-bytes-requires c κs = search needs
 
-slice-aggregate-lay : tie.Need-slice-aggregate-lay
-slice-aggregate-lay c = search needs
+slice-aggregate-copy-into : tie.Need-slice-aggregate-copy-into
+slice-aggregate-copy-into c = search needs
 
-lay-requires : tie.Need-lay-requires
-lay-requires c κs = search needs
+copy-into-requires : tie.Need-copy-into-requires
+copy-into-requires c κs = search needs
 
-slice-aggregate-lay-2 : tie.Need-slice-aggregate-lay-2
-slice-aggregate-lay-2 c = search needs
+slice-aggregate-copy-into-2 : tie.Need-slice-aggregate-copy-into-2
+slice-aggregate-copy-into-2 c = search needs
 
-lay-requires-2 : tie.Need-lay-requires-2
-lay-requires-2 c κs = search needs
+copy-into-requires-2 : tie.Need-copy-into-requires-2
+copy-into-requires-2 c κs = search needs
 
-lay-requires-3 : tie.Need-lay-requires-3
-lay-requires-3 c κs = search needs
+copy-into-requires-3 : tie.Need-copy-into-requires-3
+copy-into-requires-3 c κs = search needs
 
 same-length : tie.Need-same-length
 same-length c = search needs
@@ -57,10 +57,10 @@ returns c =
     let front = head (s .args .seconds) (s .args .microseconds) n n in
     let link = headerBytes (s .args .header) in
     let sized : length (front ++ link) ≡ 64 = rw (length-append, length-headerBytes) in
-    let one : first .lay .last .0 ≡ patch d 0 front = first .lay .ensures ∙ ap (patch d 0) (cells .before .record-head .ensures) in
-    let two : second .lay2 .last .0 ≡ patch d 0 (front ++ link) =
-    second .lay2 .ensures ∙ ap (patch (first .lay .last .0) 16) (cells .header-bytes .ensures) ∙ patch-behind d _ 0 16 front link one refl (omega (arith, s .pre .0)) in
-    third .lay3 .ensures ∙ patch-behind d _ 0 64 (front ++ link) (s .args .payload .now) two (omega (arith, sized)) (omega (arith, sized, s .pre .0))
+    let one : first .copy-into .last .0 ≡ patch d 0 front = first .copy-into .ensures ∙ ap (patch d 0) (cells .before .record-head .ensures) in
+    let two : second .copy-into2 .last .0 ≡ patch d 0 (front ++ link) =
+    second .copy-into2 .ensures ∙ ap (patch (first .copy-into .last .0) 16) (cells .header-bytes .ensures) ∙ patch-behind d _ 0 16 front link one refl (omega (arith, s .pre .0)) in
+    third .copy-into3 .ensures ∙ patch-behind d _ 0 64 (front ++ link) (s .args .payload .now) two (omega (arith, sized)) (omega (arith, sized, s .pre .0))
 
 pub put-record-spec : {M : Type 1} → statement M
 put-record-spec =
@@ -70,10 +70,10 @@ put-record-spec =
     cast-captured
     record-head-requires
     header-bytes-requires
-    slice-aggregate-lay
-    lay-requires
-    slice-aggregate-lay-2
-    lay-requires-2
-    lay-requires-3
+    slice-aggregate-copy-into
+    copy-into-requires
+    slice-aggregate-copy-into-2
+    copy-into-requires-2
+    copy-into-requires-3
     same-length
     returns)

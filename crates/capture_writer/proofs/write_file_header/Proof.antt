@@ -19,11 +19,11 @@ returns c =
 file-head-requires : tie.Need-file-head-requires
 file-head-requires c κs = search needs
 
-slice-aggregate-lay : tie.Need-slice-aggregate-lay
-slice-aggregate-lay c = search needs
+slice-aggregate-copy-into : tie.Need-slice-aggregate-copy-into
+slice-aggregate-copy-into c = search needs
 
-lay-requires : tie.Need-lay-requires
-lay-requires c κs = search needs
+copy-into-requires : tie.Need-copy-into-requires
+copy-into-requires c κs = search needs
 
 same-length : tie.Need-same-length
 same-length c = search needs
@@ -33,7 +33,7 @@ returns-2 c =
     let w = c .before .before in
     let k = w .before .before .before .before in
     let d = k .before .before .args .output .now in
-    rw (w .lay .ensures, w .before .before .before .file-head .ensures) (writes _ writerHead d 24 (sym length-writerHead) (whole-head (length d) (k .if1 .left)))
+    rw (w .copy-into .ensures, w .before .before .before .file-head .ensures) (writes _ writerHead d 24 (sym length-writerHead) (whole-head (length d) (k .if1 .left)))
 
 pub write-file-header-spec : {M : Type 1} → statement M
 write-file-header-spec =
@@ -42,7 +42,7 @@ write-file-header-spec =
     refused-requires
     returns
     file-head-requires
-    slice-aggregate-lay
-    lay-requires
+    slice-aggregate-copy-into
+    copy-into-requires
     same-length
     returns-2)

@@ -28,11 +28,11 @@ cast-encoded c = search needs
 encoded-requires : tie.Need-encoded-requires
 encoded-requires c κs = search needs
 
-slice-aggregate-lay : tie.Need-slice-aggregate-lay
-slice-aggregate-lay c = search needs
+slice-aggregate-copy-into : tie.Need-slice-aggregate-copy-into
+slice-aggregate-copy-into c = search needs
 
-lay-requires : tie.Need-lay-requires
-lay-requires c κs = search needs
+copy-into-requires : tie.Need-copy-into-requires
+copy-into-requires c κs = search needs
 
 same-length : tie.Need-same-length
 same-length c = search needs
@@ -61,7 +61,7 @@ returns c =
     e .encoded .ensures
     ∙ (λ j. headCells (p .phase-number .ensures j) (n .state-number .ensures j) (d .direction-number .ensures j) (a .state-address .ensures j) (w .request .address) (w .request .«request_type»)
     (w .request .request) (w .request .value) (w .request .index) (w .collected) (w .request .length) (s .args .held)) in
-    headed b w (s .args .state) (s .args .held) (s .pre .0) fit _ (l .lay .ensures ∙ ap (λ (vs : List ℕ). patch b 4 vs) cells)
+    headed b w (s .args .state) (s .args .held) (s .pre .0) fit _ (l .copy-into .ensures ∙ ap (λ (vs : List ℕ). patch b 4 vs) cells)
 
 pub put-head-spec : {M : Type 1} → statement M
 put-head-spec =
@@ -73,7 +73,7 @@ put-head-spec =
     state-address-requires
     cast-encoded
     encoded-requires
-    slice-aggregate-lay
-    lay-requires
+    slice-aggregate-copy-into
+    copy-into-requires
     same-length
     returns)

@@ -1,6 +1,6 @@
 -- `control_chain::realize_normal` meets its contract, by whether a TRB before it was short. Assumes nothing.
 use Rattle.log.proofs.CallLaws.{meets}
-use Rattle.control_chain.proofs.ChainLaws.{normal-by}
+use Rattle.control_chain.proofs.ChainLaws.{normal-in-state}
 use borrow.Author.Needs.{needs}
 use Rattle.control_chain.proofs.realize_normal.Statement.{statement}
 use Rattle.control_chain.proofs.realize_normal.Tie as tie
@@ -27,7 +27,7 @@ returns : tie.Need-returns
 returns c =
     let s = c .before .before .before .before .before .before .before .before .before .args in
     let m = rw (c .before .before .before .before .of-normal .ensures) at (c .before .before .move-data .ensures) in
-    meets (normal-by (s .td) (s .progress) (s .normal) (s .addr) (c .before .before .before .before .before .enum-told .given .1)) m
+    meets (normal-in-state (s .td) (s .progress) (s .normal) (s .addr) (c .before .before .before .before .before .enum-told .given .1)) m
 
 same-length-2 : tie.Need-same-length-2
 same-length-2 c = search needs
@@ -35,7 +35,7 @@ same-length-2 c = search needs
 returns-2 : tie.Need-returns-2
 returns-2 c =
     let s = c .before .before .before .before .before .before .before .before .before .args in
-    meets (normal-by (s .td) (s .progress) (s .normal) (s .addr) (c .before .before .before .before .before .state .given .1)) (c .before .before .repeat-short .ensures)
+    meets (normal-in-state (s .td) (s .progress) (s .normal) (s .addr) (c .before .before .before .before .before .state .given .1)) (c .before .before .repeat-short .ensures)
 
 pub realize-normal-spec : {M : Type 1} → statement M
 realize-normal-spec =

@@ -70,7 +70,7 @@ abbrev start : AtAsked → Start
 start k = k .before .before .before .before .before .before .before .before .before .before .before .before .before .before
 
 abbrev outcome : AtAsked → Outcome
-outcome k = k .before .becomes .result
+outcome k = k .before .trb-outcome .result
 
 abbrev asked-before : AtDropped → AtAsked
 asked-before f = f .before .before .before .before .before
@@ -103,7 +103,7 @@ numbered : (k : AtAsked) → let s = start k .args in
 numbered k =
     let s = start k .args in
     numbered-by k
-    ∙ ap (λ (o : Outcome). firstNo (submissionQuestions (length (s .log .now)) (length (s .collect .now)) (factsOf (s .block)) o (s .t) (regionsOf (memory (start k))))) (k .before .becomes .ensures)
+    ∙ ap (λ (o : Outcome). firstNo (submissionQuestions (length (s .log .now)) (length (s .collect .now)) (factsOf (s .block)) o (s .t) (regionsOf (memory (start k))))) (k .before .trb-outcome .ensures)
 
 pass : (k : AtAsked) → k .ask-submission .result ≡ Accepted → let s = start k .args in
     Passed (length (s .log .now)) (length (s .collect .now)) (factsOf (s .block)) (outcome k) (s .t)
@@ -195,8 +195,8 @@ loop-again c =
 guest-regions-requires : tie.Need-guest-regions-requires Inv-loop μ-loop Inv-loop2 μ-loop2
 guest-regions-requires c κs = search needs
 
-becomes-requires : tie.Need-becomes-requires Inv-loop μ-loop Inv-loop2 μ-loop2
-becomes-requires c κs = search needs
+trb-outcome-requires : tie.Need-trb-outcome-requires Inv-loop μ-loop Inv-loop2 μ-loop2
+trb-outcome-requires c κs = search needs
 
 ask-submission-requires : tie.Need-ask-submission-requires Inv-loop μ-loop Inv-loop2 μ-loop2
 ask-submission-requires c κs = search needs
@@ -318,7 +318,7 @@ returns-2 c =
     (λ w. leaves-stored b (s .t) o (j .held) (l .trbs) (j .trbs) (sym (c .before .before .before .before .is-held .ensures) ∙ w .0 .taken) blank (w .1 ∙ ap (λ (d : ℕ). b .held - d + 1) (dropped-by f)) (w .2 ∙ ap (λ (d : ℕ). set (l .trbs) (b .held - d) (s .t)) (dropped-by f)))
     (λ w. leaves-kept b (s .t) o (j .held) (l .trbs) (j .trbs) (sym (c .before .before .before .before .is-held .ensures) ∙ w .0 .left) blank (w .1 ∙ ap (λ (d : ℕ). b .held - d) (dropped-by f)) (w .2))
     (j .came) in
-    submits-accepted b (s .t) (memory (start k)) (s .log .now) (s .collect .now) o (k .before .becomes .ensures) (sym (numbered k) ∙ ap numberOf told) _ _ _
+    submits-accepted b (s .t) (memory (start k)) (s .log .now) (s .collect .now) o (k .before .trb-outcome .ensures) (sym (numbered k) ∙ ap numberOf told) _ _ _
     (submitted-by b (s .t) o (k .ask-submission .result) (h .log-request .result) (c .before .before .transfer-after .result) (c .before .state-after .result) (j .held) (j .trbs) told (logged h .1) (c .before .before .transfer-after .ensures) (c .before .state-after .ensures) places)
     (logged h .0) (c .before .before .before .before .before .before .before .collect-trb .ensures)
 
@@ -339,7 +339,7 @@ submit-trb-spec =
     loop-less
     loop-again
     guest-regions-requires
-    becomes-requires
+    trb-outcome-requires
     ask-submission-requires
     enum-told
     enum-told-2

@@ -1,7 +1,7 @@
 -- `control_in_place::ask_submission` meets its contract. Assumes nothing.
 use mathlib.Core.Path.{_∙_}
 use Rattle.trb.specs.Questions.{firstNo}
-use Rattle.phase_table.specs.Table.{becomes}
+use Rattle.phase_table.specs.Table.{trbOutcome}
 use Rattle.control_questions.specs.Submission.{submissionQuestions}
 use borrow.Author.Needs.{needs}
 use Rattle.control_in_place.proofs.ask_submission.Statement.{statement}
@@ -10,8 +10,8 @@ use Rattle.control_in_place.proofs.ask_submission.Tie as tie
 facts-requires : tie.Need-facts-requires
 facts-requires c κs = search needs
 
-becomes-requires : tie.Need-becomes-requires
-becomes-requires c κs = search needs
+trb-outcome-requires : tie.Need-trb-outcome-requires
+trb-outcome-requires c κs = search needs
 
 ask-submission-requires : tie.Need-ask-submission-requires
 ask-submission-requires c κs = search needs
@@ -22,7 +22,7 @@ returns c =
     let f = o .before in
     let a = f .before .before .args in
     let facts = f .facts .ensures in
-    let outcome = o .becomes .ensures ∙ (λ j. becomes (facts j .phase) (a .t .variant)) in
+    let outcome = o .trb-outcome .ensures ∙ (λ j. trbOutcome (facts j .phase) (a .t .variant)) in
     record {
       outcome = outcome;
       number = c .ask-submission .ensures ∙ (λ j. firstNo (submissionQuestions (a .log-length) (a .collect-length) (facts j) (outcome j) (a .t) (a .regions)));
@@ -30,4 +30,4 @@ returns c =
 
 pub ask-submission-spec : {M : Type 1} → statement M
 ask-submission-spec =
-    tie.close (tie.spec facts-requires becomes-requires ask-submission-requires returns)
+    tie.close (tie.spec facts-requires trb-outcome-requires ask-submission-requires returns)

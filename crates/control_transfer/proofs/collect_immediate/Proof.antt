@@ -14,11 +14,11 @@ le-bytes-requires c κs = search needs
 array-share-prefix-cells : tie.Need-array-share-prefix-cells
 array-share-prefix-cells c = search needs
 
-slice-aggregate-lay : tie.Need-slice-aggregate-lay
-slice-aggregate-lay c = rw (c .before .before .le-bytes .ensures) (sym (length-take-le _ _ (omega (arith, c .before .before .before .before .pre))))
+slice-aggregate-copy-into : tie.Need-slice-aggregate-copy-into
+slice-aggregate-copy-into c = rw (c .before .before .le-bytes .ensures) (sym (length-take-le _ _ (omega (arith, c .before .before .before .before .pre))))
 
-lay-requires : tie.Need-lay-requires
-lay-requires c κs =
+copy-into-requires : tie.Need-copy-into-requires
+copy-into-requires c κs =
     let s = c .before .before .before .before in
     rw (c .before .before .le-bytes .ensures) (omega (arith, s .pre, length-take-le (s .args .count) (leBytes 8 (s .args .pointer)) (s .pre .1)))
 
@@ -28,7 +28,7 @@ same-length c = search needs
 returns : tie.Need-returns
 returns c =
     let s = c .before .before .before .before .before .before .before in
-    rw (c .before .before .before .before .before .le-bytes .ensures, take-leBytes (s .args .count) 8 (s .args .pointer) (s .pre .1)) at (c .before .before .lay .ensures)
+    rw (c .before .before .before .before .before .le-bytes .ensures, take-leBytes (s .args .count) 8 (s .args .pointer) (s .pre .1)) at (c .before .before .copy-into .ensures)
 
 pub collect-immediate-spec : {M : Type 1} → statement M
 collect-immediate-spec =
@@ -36,7 +36,7 @@ collect-immediate-spec =
     (tie.spec
     le-bytes-requires
     array-share-prefix-cells
-    slice-aggregate-lay
-    lay-requires
+    slice-aggregate-copy-into
+    copy-into-requires
     same-length
     returns)

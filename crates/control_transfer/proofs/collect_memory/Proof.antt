@@ -13,8 +13,8 @@ use Rattle.control_transfer.proofs.collect_memory.Tie as tie
 get-slice-requires : tie.Need-get-slice-requires
 get-slice-requires c κs = search needs
 
-lay-requires : tie.Need-lay-requires
-lay-requires c κs =
+copy-into-requires : tie.Need-copy-into-requires
+copy-into-requires c κs =
     let s = c .before .before .before .before .before in
     let m = memoryOf (s .args .low-base) (s .args .low .now) (s .args .high-base) (s .args .high .now) in
     omega (arith, s .pre, ap (λ (l : List ℕ). length l) (c .before .get-slice .ensures), length-bytesAt m (s .args .pointer) (s .args .count))
@@ -23,7 +23,7 @@ same-length : tie.Need-same-length
 same-length c = search needs
 
 returns : tie.Need-returns
-returns c = rw (← c .before .before .before .before .get-slice .ensures) (c .before .before .lay .ensures)
+returns c = rw (← c .before .before .before .before .get-slice .ensures) (c .before .before .copy-into .ensures)
 
 pub collect-memory-spec : {M : Type 1} → statement M
-collect-memory-spec = tie.close (tie.spec get-slice-requires lay-requires same-length returns)
+collect-memory-spec = tie.close (tie.spec get-slice-requires copy-into-requires same-length returns)

@@ -44,14 +44,14 @@ ask-requires c κs = search needs
 is-accepted-requires : tie.Need-is-accepted-requires
 is-accepted-requires c κs = search needs
 
-answer-to-requires : tie.Need-answer-to-requires
-answer-to-requires c κs = search needs
+completion-answer-requires : tie.Need-completion-answer-requires
+completion-answer-requires c κs = search needs
 
 returns : tie.Need-returns
 returns c =
     let asked = c .before .before .before in
     let s = call asked in
-    rw (c .answer-to .ensures)
+    rw (c .completion-answer .ensures)
     (delivers-no (s .args .block) (s .args .result) (s .args .data .now) (s .args .log .now) (memory s) (asked .ask .result) _ (number asked)
     (sym (c .before .before .is-accepted .ensures) ∙ not-true (c .before .before .is-accepted .result) (c .before .if1 .taken)))
 
@@ -90,7 +90,7 @@ complete-and-carry-out-spec =
     guest-regions-requires
     ask-requires
     is-accepted-requires
-    answer-to-requires
+    completion-answer-requires
     returns
     next-completion-requires
     carry-out-first-requires

@@ -6,11 +6,11 @@ use Rattle.held_bytes.proofs.put_place.Tie as tie
 encoded-requires : tie.Need-encoded-requires
 encoded-requires c κs = search needs
 
-slice-aggregate-lay : tie.Need-slice-aggregate-lay
-slice-aggregate-lay c = search needs
+slice-aggregate-copy-into : tie.Need-slice-aggregate-copy-into
+slice-aggregate-copy-into c = search needs
 
-lay-requires : tie.Need-lay-requires
-lay-requires c κs = search needs
+copy-into-requires : tie.Need-copy-into-requires
+copy-into-requires c κs = search needs
 
 same-length : tie.Need-same-length
 same-length c = search needs
@@ -20,4 +20,4 @@ returns c = cc
 
 pub put-place-spec : {M : Type 1} → statement M
 put-place-spec =
-    tie.close (tie.spec encoded-requires slice-aggregate-lay lay-requires same-length returns)
+    tie.close (tie.spec encoded-requires slice-aggregate-copy-into copy-into-requires same-length returns)

@@ -32,7 +32,7 @@ use Rattle.in_block.proofs.TestLaws.{Testing, testing-none, testing-turn, held-
 use Rattle.in_questions.specs.Questions.{completionQuestions}
 use Rattle.in_questions.proofs.PassedLaws.{PassedCompletion, passed-completion}
 use Rattle.in_endpoint.specs.Completion.{refused, transferred, completedAs, completion}
-use Rattle.in_endpoint.proofs.CompletionLaws.{answerTo-number, answerTo-accepted, answerTo-refused, completedAs-by, processTd-counts, completes}
+use Rattle.in_endpoint.proofs.CompletionLaws.{completionAnswer-number, completionAnswer-accepted, completionAnswer-refused, completedAs-by, processTd-counts, completes}
 use borrow.Author.Needs.{needs}
 use Rattle.in_endpoint.proofs.next_completion.Statement.{statement}
 use Rattle.in_endpoint.proofs.next_completion.Tie as tie
@@ -134,8 +134,8 @@ ask-completion-requires c κs = search needs
 is-accepted-requires : tie.Need-is-accepted-requires Inv-loop μ-loop Inv-loop2 μ-loop2
 is-accepted-requires c κs = search needs
 
-answer-to-requires : tie.Need-answer-to-requires Inv-loop μ-loop Inv-loop2 μ-loop2
-answer-to-requires c κs = search needs
+completion-answer-requires : tie.Need-completion-answer-requires Inv-loop μ-loop Inv-loop2 μ-loop2
+completion-answer-requires c κs = search needs
 
 returns : tie.Need-returns Inv-loop μ-loop Inv-loop2 μ-loop2
 unfolding completion
@@ -144,9 +144,9 @@ returns c =
     let s = call (asked .before) .args in
     let failed : isAccepted (asked .ask-completion .result) ≡ false = sym (c .before .before .is-accepted .ensures) ∙ not-true (c .before .before .is-accepted .result) (c .before .if1 .taken) in
     completes (s .log .now) _ (s .block) (s .result) (length (s .data .now)) _
-    (ap completionNumber (c .answer-to .ensures) ∙ answerTo-number (asked .ask-completion .result) _ ∙ number asked)
+    (ap completionNumber (c .completion-answer .ensures) ∙ completionAnswer-number (asked .ask-completion .result) _ ∙ number asked)
     (meets (answered-no (questions (call (asked .before))) (refused (s .block)) (completedAs (endingOf (s .block .state) (s .result) (length (s .data .now))) (s .block)) (asked .ask-completion .result) (number asked) failed)
-    (record { state = rw (c .answer-to .ensures, answerTo-refused (asked .ask-completion .result) _ failed); log = sym (logged-none (s .log .now) 0); fits = tt }))
+    (record { state = rw (c .completion-answer .ensures, completionAnswer-refused (asked .ask-completion .result) _ failed); log = sym (logged-none (s .log .now) 0); fits = tt }))
 
 cast-ending-of : tie.Need-cast-ending-of Inv-loop μ-loop Inv-loop2 μ-loop2
 cast-ending-of c = let k = known c .short in search needs
@@ -254,8 +254,8 @@ report-unsupported-requires c κs = known (c .before .before .before .before .be
 clear-requires : tie.Need-clear-requires Inv-loop μ-loop Inv-loop2 μ-loop2
 clear-requires c κs = search needs
 
-answer-to-requires-2 : tie.Need-answer-to-requires-2 Inv-loop μ-loop Inv-loop2 μ-loop2
-answer-to-requires-2 c κs = search needs
+completion-answer-requires-2 : tie.Need-completion-answer-requires-2 Inv-loop μ-loop Inv-loop2 μ-loop2
+completion-answer-requires-2 c κs = search needs
 
 same-length : tie.Need-same-length Inv-loop μ-loop Inv-loop2 μ-loop2
 same-length c = ⊎-elim (λ w. search needs) (⊎-elim (λ w. ap (λ (l : List ℕ). length l) (w .9) ∙ w .6 .inv .0 .long) (λ w. ap (λ (l : List ℕ). length l) (w .8) ∙ w .5 .given)) (c .before .match .came)
@@ -267,9 +267,9 @@ returns-2 c =
     let asked = o .before .before .before in
     let s = call (asked .before) .args in
     let b = s .block in
-    let result-is = c .answer-to2 .ensures ∙ answerTo-accepted (asked .ask-completion .result) _ (passed (o .before)) in
+    let result-is = c .completion-answer2 .ensures ∙ completionAnswer-accepted (asked .ask-completion .result) _ (passed (o .before)) in
     completes (s .log .now) _ b (s .result) (length (s .data .now)) _
-    (ap completionNumber (c .answer-to2 .ensures) ∙ answerTo-number (asked .ask-completion .result) _ ∙ number asked)
+    (ap completionNumber (c .completion-answer2 .ensures) ∙ completionAnswer-number (asked .ask-completion .result) _ ∙ number asked)
     (⊎-elim (λ w. meets (ended o ∙ completedAs-by b (w .1 .given .1)) (record { state = rw (result-is, w .3, w .4, w .5, w .6); log = w .2 ∙ sym (logged-none (s .log .now) 0); fits = tt }))
     (⊎-elim
     (λ w. let few = walk-few o in
@@ -297,7 +297,7 @@ next-completion-spec =
     loop-again
     ask-completion-requires
     is-accepted-requires
-    answer-to-requires
+    completion-answer-requires
     returns
     cast-ending-of
     ending-of-requires
@@ -318,6 +318,6 @@ next-completion-spec =
     enum-known-ending-2
     report-unsupported-requires
     clear-requires
-    answer-to-requires-2
+    completion-answer-requires-2
     same-length
     returns-2)

@@ -1,7 +1,7 @@
 -- `in_normal::handle_normal_trb` meets its contract, by whether a Normal before was short and whether this one is done. Assumes nothing.
 use mathlib.Core.Path.{sym, _∙_}
 use Rattle.log.proofs.CallLaws.{meets}
-use Rattle.in_td.proofs.TdLaws.{normal-by, normal-done, normal-ending, meets-goesOn}
+use Rattle.in_td.proofs.TdLaws.{normal-in-state, normal-done, normal-ending, meets-goesOn}
 use borrow.Author.Needs.{needs}
 use Rattle.in_normal.proofs.handle_normal_trb.Statement.{statement}
 use Rattle.in_normal.proofs.handle_normal_trb.Tie as tie
@@ -65,7 +65,7 @@ same-length-3 c = search needs
 returns-3 : tie.Need-returns-3
 returns-3 c =
     let s = c .before .before .before .before .before .before .before .before .before .before .before .before .args in
-    meets (normal-by (s .td) (s .so-far) (s .normal) (s .addr) (s .cycle-bit) (c .before .before .before .before .before .before .state .given .1))
+    meets (normal-in-state (s .td) (s .so-far) (s .normal) (s .addr) (s .cycle-bit) (c .before .before .before .before .before .before .state .given .1))
     (meets-goesOn (c .before .before .before .repeat-short .ensures) (c .going-on2 .ensures ∙ rw (c .before .before .before .before .before .before .before .before .one-less .ensures)))
 
 pub handle-normal-trb-spec : {M : Type 1} → statement M

@@ -68,8 +68,8 @@ ask-completion-requires c κs = search needs
 is-accepted-requires : tie.Need-is-accepted-requires
 is-accepted-requires c κs = search needs
 
-answer-to-requires : tie.Need-answer-to-requires
-answer-to-requires c κs = search needs
+completion-answer-requires : tie.Need-completion-answer-requires
+completion-answer-requires c κs = search needs
 
 completed-as-requires : tie.Need-completed-as-requires
 completed-as-requires c κs = search needs
@@ -83,7 +83,7 @@ returns c =
     let s = start asked .args in
     let failed : isAccepted (asked .ask-completion .result) ≡ false = sym (c .before .before .before .is-accepted .ensures) ∙ not-true (c .before .before .before .is-accepted .result) (c .before .before .if1 .taken) in
     completes-refused (s .result) (s .data-length) (s .log .now) (s .block .now) (asked .ask-completion .result) result.Ok (number asked) failed
-    (c .completed-as .ensures ∙ ap (λ (x : CompletionAnswer). completionAnswered x 0) (c .before .answer-to .ensures))
+    (c .completed-as .ensures ∙ ap (λ (x : CompletionAnswer). completionAnswered x 0) (c .before .completion-answer .ensures))
 
 state-of-requires : tie.Need-state-of-requires
 state-of-requires c κs = search needs
@@ -196,7 +196,7 @@ complete-spec =
     le16-requires
     ask-completion-requires
     is-accepted-requires
-    answer-to-requires
+    completion-answer-requires
     completed-as-requires
     same-length
     returns

@@ -82,11 +82,11 @@ returns-4 c = rw (in-turn (c .before .before .before .before), agreed (c .before
 
 returns-5 : tie.Need-returns-5
 unfolding firstNo
-returns-5 c = rw (given (c .before), lt-leb _ _ (c .if5 .taken))
+returns-5 c = rw (given (c .before), lt-leb _ maxData (c .if5 .taken))
 
 returns-6 : tie.Need-returns-6
 unfolding firstNo
-returns-6 c = rw (given (c .before), le-leb _ _ (c .if5 .left))
+returns-6 c = rw (given (c .before), le-leb _ maxData (c .if5 .left))
 
 pub ask-completion-spec : {M : Type 1} → statement M
 ask-completion-spec =

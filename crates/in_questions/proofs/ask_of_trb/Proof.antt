@@ -42,14 +42,14 @@ held c = flag (c .before .before) ∙ rw (← c .before .immediate-data .ensures
 
 roomy : (c : tie.Else4) → let s = c .before .before .before .before .before .before .before in firstNo (asked s) ≡ firstNo (from-window s)
 unfolding firstNo
-roomy c = held (c .before) ∙ rw (le-leb _ _ (c .if4 .left))
+roomy c = let s = c .before .before .before .before .before .before .before in held (c .before) ∙ rw (le-leb (s .args .held + 1) maxHeld (c .if4 .left))
 
 transfer-length-requires : tie.Need-transfer-length-requires
 transfer-length-requires c κs = search needs
 
 returns : tie.Need-returns
 unfolding firstNo
-returns c = rw (← c .before .transfer-length .ensures, lt-leb _ _ (c .if1 .taken))
+returns c = rw (← c .before .transfer-length .ensures, lt-leb _ maxTransferLength (c .if1 .taken))
 
 supports-requires : tie.Need-supports-requires
 supports-requires c κs = search needs
@@ -70,7 +70,7 @@ add-if4 c = search needs
 
 returns-4 : tie.Need-returns-4
 unfolding firstNo
-returns-4 c = rw (held (c .before), lt-leb _ _ (c .if4 .taken))
+returns-4 c = rw (held (c .before), lt-leb _ maxHeld (c .if4 .taken))
 
 in-guest-memory-requires : tie.Need-in-guest-memory-requires
 in-guest-memory-requires c κs = search needs

@@ -225,8 +225,8 @@ ask-row-requires c κs = search needs
 is-accepted-requires : tie.Need-is-accepted-requires Inv-loop μ-loop Inv-loop2 μ-loop2
 is-accepted-requires c κs = search needs
 
-answer-to-requires : tie.Need-answer-to-requires Inv-loop μ-loop Inv-loop2 μ-loop2
-answer-to-requires c κs = search needs
+completion-answer-requires : tie.Need-completion-answer-requires Inv-loop μ-loop Inv-loop2 μ-loop2
+completion-answer-requires c κs = search needs
 
 returns : tie.Need-returns Inv-loop μ-loop Inv-loop2 μ-loop2
 returns c =
@@ -234,7 +234,7 @@ returns c =
     let f = first (asked .before) in
     let s = call f .args in
     let refuses : isAccepted (asked .ask-row .result) ≡ false = sym (c .before .before .is-accepted .ensures) ∙ not-true (c .before .before .is-accepted .result) (c .before .if1 .taken) in
-    rw (c .answer-to .ensures)
+    rw (c .completion-answer .ensures)
     (refused-row (s .block) (s .count) (trbs f) (s .tds) (take (s .tds) (results f)) (length (s .data .now)) (regions f) (s .log .now) (asked .ask-row .result) (number asked) refuses)
 
 -- ---- The walk
@@ -254,8 +254,8 @@ walk-row-requires c κs =
     let few = row-few l (regions f) (factsOf (s .block)) (s .count) (trbs f) (s .tds) rs n known (short-trbs f) in
     (known .few, (few, row-walkable l (regions f) (factsOf (s .block)) (s .count) (trbs f) (s .tds) rs n known (short-trbs f) (length-take-le (s .tds) (results f) (omega (arith, few, results-long f)))))
 
-answer-to-requires-2 : tie.Need-answer-to-requires-2 Inv-loop μ-loop Inv-loop2 μ-loop2
-answer-to-requires-2 c κs = search needs
+completion-answer-requires-2 : tie.Need-completion-answer-requires-2 Inv-loop μ-loop Inv-loop2 μ-loop2
+completion-answer-requires-2 c κs = search needs
 
 same-length : tie.Need-same-length Inv-loop μ-loop Inv-loop2 μ-loop2
 same-length c = search needs
@@ -266,7 +266,7 @@ returns-2 c =
     let f = first (asked .before) in
     let s = call f .args in
     let w = c .before .before .before .walk-row in
-    rw (c .answer-to2 .ensures)
+    rw (c .completion-answer2 .ensures)
     (accepted-row (s .block) (s .count) (trbs f) (s .tds) (take (s .tds) (results f)) (length (s .data .now)) (regions f) (s .log .now) (asked .ask-row .result) (number asked) (accepts (c .before .before .before .before .before)) (w .result) (w .last .0) (w .ensures))
 
 pub complete-tds-spec : {M : Type 1} → statement M
@@ -299,9 +299,9 @@ complete-tds-spec =
     loop2-again
     ask-row-requires
     is-accepted-requires
-    answer-to-requires
+    completion-answer-requires
     returns
     walk-row-requires
-    answer-to-requires-2
+    completion-answer-requires-2
     same-length
     returns-2)

@@ -9,14 +9,14 @@ use Rattle.log.proofs.put_record.Tie as tie
 encoded-requires : tie.Need-encoded-requires
 encoded-requires c κs = search needs
 
-mul-lay : tie.Need-mul-lay
-mul-lay c = search needs
+mul-copy-into : tie.Need-mul-copy-into
+mul-copy-into c = search needs
 
-slice-aggregate-lay : tie.Need-slice-aggregate-lay
-slice-aggregate-lay c = search needs
+slice-aggregate-copy-into : tie.Need-slice-aggregate-copy-into
+slice-aggregate-copy-into c = search needs
 
-lay-requires : tie.Need-lay-requires
-lay-requires c κs = search needs
+copy-into-requires : tie.Need-copy-into-requires
+copy-into-requires c κs = search needs
 
 same-length : tie.Need-same-length
 same-length c = search needs
@@ -32,4 +32,4 @@ returns c =
 pub put-record-spec : {M : Type 1} → statement M
 put-record-spec =
     tie.close
-    (tie.spec encoded-requires mul-lay slice-aggregate-lay lay-requires same-length returns)
+    (tie.spec encoded-requires mul-copy-into slice-aggregate-copy-into copy-into-requires same-length returns)

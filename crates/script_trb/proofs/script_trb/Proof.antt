@@ -7,7 +7,7 @@ use Rattle.script_trb.proofs.TrbLaws.{trbOf-kind}
 use borrow.Author.Needs.{needs}
 use Rattle.script_trb.proofs.script_trb.Statement.{statement}
 use Rattle.script_trb.proofs.script_trb.Tie as tie
-use Rattle.script_trb.proofs.bare.Reads as bare-reads
+use Rattle.script_trb.proofs.without_fields.Reads as without-fields-reads
 use Rattle.script_trb.proofs.data_stage.Reads as data-stage-reads
 use Rattle.script_trb.proofs.event_data.Reads as event-data-reads
 use Rattle.script_trb.proofs.no_op.Reads as no-op-reads
@@ -15,8 +15,8 @@ use Rattle.script_trb.proofs.normal.Reads as normal-reads
 use Rattle.script_trb.proofs.setup_stage.Reads as setup-stage-reads
 use Rattle.script_trb.proofs.status_stage.Reads as status-stage-reads
 
-bare-requires : tie.Need-bare-requires
-bare-requires c κs = search needs
+without-fields-requires : tie.Need-without-fields-requires
+without-fields-requires c κs = search needs
 
 normal-requires : tie.Need-normal-requires
 normal-requires c κs = search needs
@@ -30,8 +30,8 @@ data-stage-requires c κs = search needs
 status-stage-requires : tie.Need-status-stage-requires
 status-stage-requires c κs = search needs
 
-bare-requires-2 : tie.Need-bare-requires-2
-bare-requires-2 c κs = search needs
+without-fields-requires-2 : tie.Need-without-fields-requires-2
+without-fields-requires-2 c κs = search needs
 
 event-data-requires : tie.Need-event-data-requires
 event-data-requires c κs = search needs
@@ -41,7 +41,7 @@ no-op-requires c κs = search needs
 
 returns : tie.Need-returns
 unfolding rowOf
-returns c = c .bare .ensures ∙ sym (trbOf-kind _ 0 (c .before .match .keys1))
+returns c = c .without-fields .ensures ∙ sym (trbOf-kind _ 0 (c .before .match .keys1))
 
 returns-2 : tie.Need-returns-2
 unfolding rowOf
@@ -61,7 +61,7 @@ returns-5 c = c .status-stage .ensures ∙ sym (trbOf-kind _ 4 (c .before .match
 
 returns-6 : tie.Need-returns-6
 unfolding rowOf
-returns-6 c = c .bare2 .ensures ∙ sym (trbOf-kind _ 5 (c .before .match .keys6))
+returns-6 c = c .without-fields2 .ensures ∙ sym (trbOf-kind _ 5 (c .before .match .keys6))
 
 returns-7 : tie.Need-returns-7
 unfolding rowOf
@@ -81,12 +81,12 @@ pub script-trb-spec : {M : Type 1} → statement M
 script-trb-spec =
     tie.close
     (tie.spec
-    bare-requires
+    without-fields-requires
     normal-requires
     setup-stage-requires
     data-stage-requires
     status-stage-requires
-    bare-requires-2
+    without-fields-requires-2
     event-data-requires
     no-op-requires
     returns

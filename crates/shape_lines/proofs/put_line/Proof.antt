@@ -21,8 +21,8 @@ returns-2 c =
     let start = c .before .before .before in
     laws.laid-no-room _ (start .args .text .now) (start .args .at) (omega (arith, laws.length-line (start .args .word) (start .args .size) (omega arith)))
 
-lay-line-requires : tie.Need-lay-line-requires
-lay-line-requires c κs = search needs
+copy-line-requires : tie.Need-copy-line-requires
+copy-line-requires c κs = search needs
 
 same-length : tie.Need-same-length
 same-length c = search needs
@@ -31,9 +31,9 @@ returns-3 : tie.Need-returns-3
 returns-3 c =
     let laid = c .before .before in
     let start = laid .before .before .before .before .before in
-    laws.laid-line (start .args .word) _ _ (start .args .size) (start .args .at) _ (omega arith) (same-length c) (laid .lay-line .ensures)
+    laws.laid-line (start .args .word) _ _ (start .args .size) (start .args .at) _ (omega arith) (same-length c) (laid .copy-line .ensures)
 
 pub put-line-spec : {M : Type 1} → statement M
 put-line-spec =
     tie.close
-    (tie.spec add-length returns sub-if2 returns-2 lay-line-requires same-length returns-3)
+    (tie.spec add-length returns sub-if2 returns-2 copy-line-requires same-length returns-3)

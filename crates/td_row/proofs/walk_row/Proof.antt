@@ -48,7 +48,7 @@ use denote.Triple.Table.{cited}
 use denote.Triple.Walked.{says, needs, Stays, stay-none, stay-none-slice, stay-slice, walkOf, AllGo, goes-none, goes-none-slice, goes-slice, Walks, ends-at, walked}
 use denote.Exit.{yes}
 use Rattle.lent_laws.proofs.LentLaws.{gives, reads-element, returned, by-walk}
-use Rattle.lent_laws.proofs.Again.{lends-to-call, back-from-call}
+use Rattle.lent_laws.proofs.Lending.{lends-to-call, back-from-call}
 use Rattle.log.specs.Calls.{Meets}
 use Rattle.held.specs.Places.{pastEnd}
 use Rattle.in_td.specs.declared.TdProcessed.{TdProcessed}
