@@ -1,102 +1,189 @@
-//! The IN endpoint in place, by the exported functions of the static library `polvihe`, called TRB by TRB as a HAL calls them.
+//! The block in place, by hal, called TRB by TRB as a HAL calls it.
 
-use crate::product::Log;
-use crate::work::InWork;
+use polvihe_hal::{
+    log, Completed, ControlEndpoint, DataStage, DeviceResult, EndpointId, GuestMemory, GuestRelease, InEndpoint, Mode,
+    Normal, Outcome, Refusal, Region, SetupStage, SlotId, StatusStage, Submitted, Trb,
+};
 
-#[repr(C)]
-struct Answered {
-    number: u32,
-    records: usize,
+use crate::product::Lent;
+use crate::work::{InWork, COLLECT_BYTES, CONTROL_TRBS};
+
+/// The checksum that all sides answer.
+const FAILED: u64 = 1 << 20;
+const REFUSED: u64 = 1 << 40;
+/// Where the first TRB lies, and how far apart they are.
+const FIRST_TRB: u64 = 4096;
+const TRB_BYTES: u64 = 16;
+
+fn sum_of(submitted: Result<Submitted, Refusal>) -> u64 {
+    submitted.map_or(REFUSED, |submitted| submitted.records().len() as u64)
 }
 
-#[repr(C)]
-struct CompletionAnswered {
-    number: u32,
-    result: u8,
-    code: u8,
-    located: u8,
-    cycle_bit: u8,
-    records: usize,
-    address: u64,
+fn sum_of_completion(completed: Result<Completed, Refusal>) -> u64 {
+    completed.map_or(REFUSED, |completed| {
+        let failed = if completed.outcome == Outcome::Ok { 0 } else { FAILED };
+        completed.records().len() as u64 + failed
+    })
 }
 
-extern "C" {
-    fn polvihe_in_block_length() -> usize;
-    fn polvihe_in_create(block: *mut u8, block_length: usize, endpoint_id: u8, slot_id: u8, mode: u8) -> u32;
-    fn polvihe_in_submit(
-        log: *mut u8,
-        log_length: usize,
-        block: *mut u8,
-        block_length: usize,
-        kind: u8,
-        flags: u8,
-        addr: u64,
-        value: u64,
-        transfer_length: u32,
-        low_base: u64,
-        low_len: usize,
-        high_base: u64,
-        high_len: usize,
-    ) -> Answered;
-    fn polvihe_in_complete(
-        log: *mut u8,
-        log_length: usize,
-        block: *mut u8,
-        block_length: usize,
-        status: u8,
-        data_length: usize,
-    ) -> CompletionAnswered;
-    fn polvihe_in_cancel(block: *mut u8, block_length: usize) -> u32;
+fn address(i: u32) -> u64 {
+    FIRST_TRB + TRB_BYTES * u64::from(i)
 }
 
-const NORMAL: u8 = 1;
-const CYCLE: u8 = 1;
-const CHAIN: u8 = 2;
-const INTERRUPT_ON_COMPLETION: u8 = 4;
-const INTERRUPT_ON_SHORT: u8 = 8;
-/// Of a completion: no device result is given.
-const NONE_GIVEN: u8 = 255;
-
-/// The IN endpoint in place: each TRB is submitted and its completion asked for; the last one has the device's result, or is cancelled.
-pub fn in_place(log: &mut Log, work: &InWork, completes: bool, repeats: u32) -> u64 {
-    // SAFETY: the function takes nothing and reads nothing.
-    let mut block = vec![0u8; unsafe { polvihe_in_block_length() }];
-    let log = log.bytes();
-    let (log, log_length) = (log.as_mut_ptr(), log.len());
-    let (block, block_length) = (block.as_mut_ptr(), block.len());
+/// TDs of Normals: each TRB is submitted and its completion asked for; the last one has the device's result, or is cancelled.
+fn in_tds(
+    lent: &mut Lent,
+    work: &InWork,
+    completes: bool,
+    repeats: u32,
+    mut submit: impl FnMut(&mut InEndpoint, u32, Trb, &GuestMemory, &mut [u8]) -> u64,
+) -> u64 {
+    let mut endpoint = InEndpoint::create(EndpointId(3), SlotId(2), Mode::AsPorted).expect("ids in range");
+    let Lent { log, memory } = lent;
+    let memory = GuestMemory::one(0, &mut memory[..work.window.len()]);
+    let result = if work.status == 0 { DeviceResult::Success } else { DeviceResult::Stall };
     let mut sum = 0;
-    // SAFETY: log and block are lent with their lengths, and neither is touched meanwhile.
-    unsafe {
-        assert_eq!(polvihe_in_create(block, block_length, 3, 2, 0), 0);
-        for _ in 0..repeats {
-            for i in 0..work.trbs {
-                let ends = i + 1 == work.trbs;
-                let answered = polvihe_in_submit(
-                    log,
-                    log_length,
-                    block,
-                    block_length,
-                    NORMAL,
-                    CYCLE + INTERRUPT_ON_SHORT + if ends { INTERRUPT_ON_COMPLETION } else { CHAIN },
-                    4096 + 16 * u64::from(i),
-                    u64::from(i) * u64::from(work.transfer_length),
-                    work.transfer_length,
-                    0,
-                    work.window.len(),
-                    0,
-                    0,
-                );
-                sum += answered.records as u64 + (u64::from(answered.number) << 40);
-                if ends && !completes {
-                    polvihe_in_cancel(block, block_length);
-                } else {
-                    let (status, data_length) = if ends { (work.status, work.data.len()) } else { (NONE_GIVEN, 0) };
-                    let completed = polvihe_in_complete(log, log_length, block, block_length, status, data_length);
-                    let failed = u64::from(completed.result != 0) << 20;
-                    sum += completed.records as u64 + (u64::from(completed.number) << 40) + failed;
-                }
+    for _ in 0..repeats {
+        for i in 0..work.trbs {
+            let ends = i + 1 == work.trbs;
+            let trb = Trb::Normal(Normal {
+                pointer: u64::from(i) * u64::from(work.transfer_length),
+                length: work.transfer_length,
+                chain: !ends,
+                interrupt_on_completion: ends,
+                interrupt_on_short: true,
+                immediate_data: false,
+            });
+            sum += submit(&mut endpoint, i, trb, &memory, log);
+            if ends && !completes {
+                endpoint.cancel();
+            } else {
+                let (result, data) = if ends { (Some(result), work.data) } else { (None, &[][..]) };
+                sum += sum_of_completion(endpoint.complete(result, data, log));
             }
         }
     }
     sum
+}
+
+/// TRBs handed over decoded, as they are by value and by reference.
+pub fn decoded(lent: &mut Lent, work: &InWork, completes: bool, repeats: u32) -> u64 {
+    in_tds(lent, work, completes, repeats, |endpoint, i, trb, memory, log| {
+        sum_of(endpoint.submit(address(i), trb, true, memory, log))
+    })
+}
+
+/// TRBs handed over as their 16 bytes, as the Rust takes them.
+pub fn raw(lent: &mut Lent, work: &InWork, completes: bool, repeats: u32) -> u64 {
+    in_tds(lent, work, completes, repeats, |endpoint, i, trb, memory, log| {
+        let Trb::Normal(Normal { pointer, length, chain, .. }) = trb else { unreachable!("Normals are timed") };
+        let mut bytes = [0; 16];
+        bytes[..8].copy_from_slice(&pointer.to_le_bytes());
+        bytes[8..12].copy_from_slice(&length.to_le_bytes());
+        // See xHCI 1.2, 6.4.1.1: cycle bit, interrupt-on-short, chain or interrupt-on-completion; type 1.
+        bytes[12..14].copy_from_slice(&[if chain { 0x15 } else { 0x25 }, 1 << 2]);
+        sum_of(endpoint.submit_raw(address(i), &bytes, memory, log))
+    })
+}
+
+/// Control transfers: Setup 80 06, Data IN, Status.
+pub struct Control {
+    lent: Lent,
+    collect: Vec<u8>,
+}
+
+impl Control {
+    pub fn new() -> Self {
+        Self { lent: Lent::new(), collect: vec![0; COLLECT_BYTES] }
+    }
+
+    fn transfers(
+        &mut self,
+        data: &[u8],
+        repeats: u32,
+        mut submit: impl FnMut(&mut ControlEndpoint, u32, Trb, &GuestMemory, &mut [u8], &mut [u8]) -> u64,
+    ) -> u64 {
+        let Self { lent: Lent { log, memory }, collect } = self;
+        let memory = GuestMemory::one(0, memory);
+        let mut endpoint = ControlEndpoint::create(EndpointId(1), SlotId(2), GuestRelease::Four).expect("ids in range");
+        let setup = SetupStage { setup: [0x80, 6, 0, 1, 0, 0, 64, 0], interrupt_on_completion: false };
+        let length = data.len() as u32;
+        let data_stage = DataStage { length, interrupt_on_short: true, direction: true, ..DataStage::default() };
+        let status = StatusStage { interrupt_on_completion: true, ..StatusStage::default() };
+        let stages = [Trb::SetupStage(setup), Trb::DataStage(data_stage), Trb::StatusStage(status)];
+        let mut sum = 0;
+        for _ in 0..repeats {
+            for (i, stage) in (0..CONTROL_TRBS).zip(std::hint::black_box(stages)) {
+                sum += submit(&mut endpoint, i, stage, &memory, collect, log);
+                let (result, data) =
+                    if i + 1 == CONTROL_TRBS { (Some(DeviceResult::Success), data) } else { (None, &[][..]) };
+                sum += sum_of_completion(endpoint.complete(result, data, log));
+            }
+        }
+        sum
+    }
+
+    pub fn decoded(&mut self, data: &[u8], repeats: u32) -> u64 {
+        self.transfers(data, repeats, |endpoint, i, stage, memory, collect, log| {
+            sum_of(endpoint.submit(address(i), stage, true, memory, collect, log))
+        })
+    }
+
+    pub fn raw(&mut self, data: &[u8], repeats: u32) -> u64 {
+        let length = data.len() as u8;
+        self.transfers(data, repeats, |endpoint, i, _, memory, collect, log| {
+            // See xHCI 1.2, 6.4.1.2.
+            let bytes = match i {
+                0 => [0x80, 6, 0, 1, 0, 0, 64, 0, 8, 0, 0, 0, 0x41, 2 << 2, 0, 0],
+                1 => [0, 0, 0, 0, 0, 0, 0, 0, length, 0, 0, 0, 0x05, 3 << 2, 1, 0],
+                _ => [0, 0, 0, 0, 0, 0, 0, 0, 0, 0, 0, 0, 0x21, 4 << 2, 0, 0],
+            };
+            sum_of(endpoint.submit_raw(address(i), &bytes, memory, collect, log))
+        })
+    }
+}
+
+/// The log of a whole TD, without its request: writes and events.
+pub fn log_of(work: &InWork) -> Vec<u8> {
+    let mut lent = Lent::new();
+    let sum = decoded(&mut lent, work, true, 1);
+    lent.log[..32 * (sum as usize % FAILED as usize - 1)].to_vec()
+}
+
+/// The low region starts at 0, the high one at `high_base`.
+pub fn carry_out(log: &[u8], data: &[u8], low: &mut [u8], high_base: u64, high: &mut [u8], repeats: u32) -> u64 {
+    let mut memory = GuestMemory::two(Region::new(0, low), Region::new(high_base, high));
+    (0..repeats).map(|_| memory.carry_out(log, data).map_or(REFUSED, |()| 1)).sum()
+}
+
+/// Decodes a row of raw TRBs, 16 bytes each.
+pub fn decode(trbs: &[u8], repeats: u32) -> u64 {
+    let mut sum = 0u64;
+    for _ in 0..repeats {
+        for bytes in std::hint::black_box(trbs).chunks_exact(16) {
+            let (trb, cycle) = Trb::decode(bytes.try_into().expect("a TRB has 16 bytes"));
+            let number = match trb {
+                Trb::SetupStage(t) => u64::from(u16::from_le_bytes([t.setup[6], t.setup[7]])),
+                Trb::DataStage(t) => t.pointer.wrapping_add(t.length.into()),
+                Trb::StatusStage(t) => u64::from(t.direction),
+                Trb::Normal(t) => t.pointer.wrapping_add(t.length.into()),
+                Trb::EventData(t) => t.value,
+                Trb::NoOp(t) => u64::from(t.interrupt_on_completion),
+                Trb::Isoch => 5,
+                Trb::Unrecognized => 6,
+            };
+            sum = sum.wrapping_add(number).wrapping_add(u64::from(cycle));
+        }
+    }
+    sum
+}
+
+/// Lays a log into a buffer of its length and compacts it there; answers the records kept.
+pub fn compact(log: &[u8], buffer: &mut [u8], repeats: u32) -> u64 {
+    let mut kept = 0;
+    for _ in 0..repeats {
+        buffer.copy_from_slice(std::hint::black_box(log));
+        kept += log::compact(buffer).map_or(REFUSED, |kept| kept.len() as u64 / 32);
+    }
+    kept
 }

@@ -6,23 +6,24 @@ mod product;
 mod work;
 
 use measure::{Calls, Dumps, Instructions, Measure, Nanoseconds, RUNS};
-use product::Log;
+use product::Lent;
 use work::{bytes, End, InWork, CONTROL_LENGTH, CONTROL_TRBS, FRAME_TRBS, ROWS, TRANSFER_LENGTH};
 
 #[global_allocator]
 static ALLOCATOR: lending::LendingAllocator = lending::LendingAllocator;
 
-type InCalls = fn(&mut Log, &InWork, bool, u32) -> u64;
+type InCalls = fn(&mut Lent, &InWork, bool, u32) -> u64;
 
 /// Those that submit and complete a TD, the two baselines first.
-const SIDES: [(&str, InCalls); 5] = [
+const SIDES: [(&str, InCalls); 6] = [
     ("Rust unchanged", |_, work, completes, repeats| {
         unchanged::calls::in_td(work.data, work.trbs, work.transfer_length, work.status, completes, repeats)
     }),
     ("Rust, capture left out", |_, work, completes, repeats| {
         capture_left_out::calls::in_td(work.data, work.trbs, work.transfer_length, work.status, completes, repeats)
     }),
-    ("in place", in_place::in_place),
+    ("in place", in_place::decoded),
+    ("in place, raw TRBs", in_place::raw),
     ("by value", product::in_by_value),
     ("by reference", product::in_by_reference),
 ];
@@ -30,19 +31,50 @@ const BASELINES: usize = 2;
 
 fn main() {
     let argument = std::env::args().nth(1).unwrap_or_default();
+    let nanoseconds = format!("nanoseconds, the best of {RUNS} runs");
     match argument.as_str() {
         "" => {
-            println!("Nanoseconds, the best of {RUNS} runs.\n");
+            println!("In {nanoseconds}.\n");
+            main_tables(&mut Nanoseconds);
             tables(&mut Nanoseconds);
         }
+        "--main" => {
+            println!("In {nanoseconds}.\n");
+            main_tables(&mut Nanoseconds);
+            println!("In instructions, counted by callgrind.\n");
+            main_tables(&mut Instructions::by_callgrind("--dump-main"));
+        }
         "--count" => {
+            println!("In instructions, counted by callgrind.\n");
             let mut instructions = Instructions::by_callgrind("--dump");
-            println!("Instructions, counted by callgrind.\n");
+            main_tables(&mut instructions);
             tables(&mut instructions);
         }
-        "--dump" => tables(&mut Dumps),
-        _ => panic!("usage: bench [--count]"),
+        "--dump-main" => main_tables(&mut Dumps),
+        "--dump" => {
+            main_tables(&mut Dumps);
+            tables(&mut Dumps);
+        }
+        _ => panic!("usage: bench [--main | --count]"),
     }
+}
+
+/// The block in place beside the Rust with its capture left out: a whole TD; and a control transfer on every side.
+fn main_tables(measure: &mut dyn Measure) {
+    let bytes = bytes();
+    println!("In place beside the Rust with its capture left out, per TRB\n");
+    print_line("TRBs", [SIDES[1].0, SIDES[2].0, "ratio", SIDES[3].0, "ratio"].iter());
+    print_rule(5);
+    for work in InWork::all(bytes) {
+        agree(&work);
+        let mut sides: Vec<Calls> = SIDES[1..4].iter().map(|(_, calls)| side(*calls, &work, true)).collect();
+        let costs = measure.measure(work.trbs, &mut sides);
+        let [rust, decoded, raw] = costs[..] else { panic!("three sides") };
+        let cells = [format!("{rust:.0}"), format!("{decoded:.0}"), format!("{:.2}", decoded / rust)];
+        print_line(&work.name(), cells.iter().chain(&[format!("{raw:.0}"), format!("{:.2}", raw / rust)]));
+    }
+    println!();
+    control_table(bytes, measure);
 }
 
 fn tables(measure: &mut dyn Measure) {
@@ -51,7 +83,6 @@ fn tables(measure: &mut dyn Measure) {
     let mut wholes = Vec::new();
     let mut completions = Vec::new();
     for work in InWork::all(bytes) {
-        agree(&work);
         let [submission, whole, completion] = rows(&work, measure);
         if work.end == End::Full {
             submissions.push(submission);
@@ -60,26 +91,27 @@ fn tables(measure: &mut dyn Measure) {
         completions.push(completion);
     }
     let names = SIDES.map(|(name, _)| name);
-    let names_and_row = [&names[..], &["by row"]].concat();
-    print_tables("A whole TD, per TRB", &names_and_row, &wholes);
+    print_tables("A whole TD, per TRB", &names, &wholes);
     print_tables("Submissions, per TRB", &names, &submissions);
-    print_tables("The TD's completion, per TRB", &names_and_row, &completions);
+    print_tables("The TD's completion, per TRB", &names, &completions);
     row_table(bytes, measure);
-    control_table(bytes, measure);
     carry_out_table(bytes, measure);
     raw_table(measure);
     compact_table(measure);
 }
 
-/// All sides answer the same. A row answers what the whole TD has beyond its submissions.
+/// All sides answer the same.
 fn agree(work: &InWork) {
-    let sums = |completes| SIDES.map(|(_, calls)| calls(&mut Log::new(), work, completes, 2));
-    let (submissions, wholes) = (sums(false), sums(true));
-    for sums in [submissions, wholes] {
+    for completes in [false, true] {
+        let sums = SIDES.map(|(_, calls)| calls(&mut Lent::new(), work, completes, 2));
         assert!(sums.iter().all(|sum| *sum == sums[0]), "{}: the answers differ: {sums:?}", work.name());
     }
-    let row = product::in_by_row(&mut Log::new(), work, 2);
-    assert!(row == wholes[0] - submissions[0], "{}: the row's answer differs: {row}", work.name());
+}
+
+/// One side's calls, with buffers of its own.
+fn side<'a>(calls: InCalls, work: &'a InWork, completes: bool) -> Calls<'a> {
+    let mut lent = Lent::new();
+    Box::new(move |repeats| calls(&mut lent, work, completes, repeats))
 }
 
 /// What one piece of work costs on each side, by TRB.
@@ -88,21 +120,13 @@ struct Row {
     costs: Vec<f64>,
 }
 
-/// The TD's submissions, which end with a cancel, the whole TD, and the difference. A row has no submissions: its one call is
-/// the whole TD and its completion.
+/// The TD's submissions, which end with a cancel, the whole TD, and the difference.
 fn rows(work: &InWork, measure: &mut dyn Measure) -> [Row; 3] {
-    let side = |calls: InCalls, completes: bool| -> Calls {
-        let mut log = Log::new();
-        Box::new(move |repeats| calls(&mut log, work, completes, repeats))
-    };
-    let mut calls: Vec<Calls> = SIDES.iter().map(|(_, calls)| side(*calls, false)).collect();
-    calls.extend(SIDES.iter().map(|(_, calls)| side(*calls, true)));
-    let mut log = Log::new();
-    calls.push(Box::new(move |repeats| product::in_by_row(&mut log, work, repeats)));
+    let mut calls: Vec<Calls> = SIDES.iter().map(|(_, calls)| side(*calls, work, false)).collect();
+    calls.extend(SIDES.iter().map(|(_, calls)| side(*calls, work, true)));
     let mut submissions = measure.measure(work.trbs, &mut calls);
     let wholes = submissions.split_off(SIDES.len());
-    let differences = submissions.iter().zip(&wholes).map(|(part, whole)| whole - part);
-    let completions = differences.chain(wholes.last().copied()).collect();
+    let completions = submissions.iter().zip(&wholes).map(|(part, whole)| whole - part).collect();
     [submissions, wholes, completions].map(|costs| Row { name: work.name(), costs })
 }
 
@@ -148,7 +172,7 @@ fn row_table(bytes: &'static [u8], measure: &mut dyn Measure) {
     for end in [End::Full, End::Short] {
         let td = InWork::new(bytes, FRAME_TRBS, end);
         for tds in ROWS {
-            let (mut log, mut empty) = (Log::new(), Log::new());
+            let (mut log, mut empty) = (Lent::new(), Lent::new());
             let mut sides: [Calls; 4] = [
                 Box::new(|repeats| {
                     unchanged::calls::in_td(td.data, td.trbs, td.transfer_length, td.status, true, tds * repeats)
@@ -171,33 +195,44 @@ fn row_table(bytes: &'static [u8], measure: &mut dyn Measure) {
     println!();
 }
 
-fn control_table(bytes: &'static [u8], measure: &mut dyn Measure) {
+/// A control transfer on each side, in the order of `SIDES` as far as a side has one; all answer the same.
+fn control_sides(bytes: &'static [u8]) -> Vec<Calls<'static>> {
     let data = &bytes[..CONTROL_LENGTH as usize];
-    let mut product = product::Control::new();
-    let mut sides: [Calls; 3] = [
-        Box::new(|repeats| unchanged::calls::control_transfer(data, CONTROL_LENGTH, repeats)),
-        Box::new(|repeats| capture_left_out::calls::control_transfer(data, CONTROL_LENGTH, repeats)),
-        Box::new(|repeats| product.transfer(bytes, data, repeats)),
+    let (mut decoded, mut raw, mut by_value) =
+        (in_place::Control::new(), in_place::Control::new(), product::Control::new());
+    let mut sides: Vec<Calls> = vec![
+        Box::new(move |repeats| unchanged::calls::control_transfer(data, CONTROL_LENGTH, repeats)),
+        Box::new(move |repeats| capture_left_out::calls::control_transfer(data, CONTROL_LENGTH, repeats)),
+        Box::new(move |repeats| decoded.decoded(data, repeats)),
+        Box::new(move |repeats| raw.raw(data, repeats)),
+        Box::new(move |repeats| by_value.transfer(bytes, data, repeats)),
     ];
     let sums: Vec<u64> = sides.iter_mut().map(|calls| calls(2)).collect();
     assert!(sums.iter().all(|sum| *sum == sums[0]), "control: the answers differ: {sums:?}");
+    sides
+}
+
+fn control_table(bytes: &'static [u8], measure: &mut dyn Measure) {
+    let mut sides = control_sides(bytes);
     let costs = measure.measure(CONTROL_TRBS, &mut sides);
-    let names = [SIDES[0].0, SIDES[1].0, "by value"];
-    let row = Row { name: format!("Setup, Data IN of {CONTROL_LENGTH} bytes, Status"), costs };
-    print_tables("A control transfer, per TRB", &names, &[row]);
+    let names: Vec<&str> = SIDES.iter().take(sides.len()).map(|(name, _)| *name).collect();
+    print_tables(
+        "A control transfer, per TRB",
+        &names,
+        &[Row { name: format!("Setup, Data IN of {CONTROL_LENGTH} bytes, Status"), costs }],
+    );
 }
 
 fn carry_out_table(bytes: &'static [u8], measure: &mut dyn Measure) {
     let frame = InWork::new(bytes, FRAME_TRBS, End::Full);
-    let mut log = Log::new();
-    product::in_by_value(&mut log, &frame, true, 1);
-    let records = log.records(FRAME_TRBS as usize + 1);
+    let log = in_place::log_of(&frame);
+    let records = &log[..];
     let mut memory = vec![0; frame.data.len()];
-    product::carry_out(records, frame.data, &mut memory, HIGH_BASE, &mut [], 1);
+    in_place::carry_out(records, frame.data, &mut memory, HIGH_BASE, &mut [], 1);
     assert!(memory == frame.data, "carry-out has not moved the frame");
     let alternating = in_turns(records);
     let (mut low, mut high) = (vec![0; frame.data.len()], vec![0; frame.data.len()]);
-    product::carry_out(&alternating, frame.data, &mut low, HIGH_BASE, &mut high, 1);
+    in_place::carry_out(&alternating, frame.data, &mut low, HIGH_BASE, &mut high, 1);
     assert!(
         interleaved(&low, &high)[..frame.data.len()] == *frame.data,
         "carry-out has not moved the frame to two regions"
@@ -205,8 +240,8 @@ fn carry_out_table(bytes: &'static [u8], measure: &mut dyn Measure) {
     let mut copy = memory.clone();
     let mut sides: [Calls; 3] = [
         Box::new(|repeats| copy_frame(frame.data, &mut copy, repeats)),
-        Box::new(|repeats| product::carry_out(records, frame.data, &mut memory, HIGH_BASE, &mut [], repeats)),
-        Box::new(|repeats| product::carry_out(&alternating, frame.data, &mut low, HIGH_BASE, &mut high, repeats)),
+        Box::new(|repeats| in_place::carry_out(records, frame.data, &mut memory, HIGH_BASE, &mut [], repeats)),
+        Box::new(|repeats| in_place::carry_out(&alternating, frame.data, &mut low, HIGH_BASE, &mut high, repeats)),
     ];
     let costs = measure.measure(FRAME_TRBS, &mut sides);
     let (copied, carried_out, in_two) = (costs[0], costs[1], costs[2]);
@@ -279,7 +314,7 @@ fn raw_table(measure: &mut dyn Measure) {
         let trbs = raw_trbs(types);
         let mut sides: [Calls; 2] = [
             Box::new(|repeats| unchanged::calls::parse(&trbs, repeats)),
-            Box::new(|repeats| product::decode(&trbs, repeats)),
+            Box::new(|repeats| in_place::decode(&trbs, repeats)),
         ];
         let sums: Vec<u64> = sides.iter_mut().map(|calls| calls(2)).collect();
         assert!(sums[0] == sums[1], "{name}: the answers differ: {sums:?}");
@@ -325,11 +360,11 @@ fn compact_table(measure: &mut dyn Measure) {
     for (name, record, kept) in rows {
         let log: Vec<u8> = (0..LOG_RECORDS).flat_map(record).collect();
         let mut buffer = log.clone();
-        assert!(product::compact(&log, &mut buffer, 1) == u64::from(kept), "{name}: another number is kept");
+        assert!(in_place::compact(&log, &mut buffer, 1) == u64::from(kept), "{name}: another number is kept");
         let mut copy = log.clone();
         let mut sides: [Calls; 2] = [
             Box::new(|repeats| copy_log(&log, &mut copy, repeats)),
-            Box::new(|repeats| product::compact(&log, &mut buffer, repeats)),
+            Box::new(|repeats| in_place::compact(&log, &mut buffer, repeats)),
         ];
         let costs = measure.measure(LOG_RECORDS, &mut sides);
         println!("| {name} | {kept} | {:.1} | {:.1} |", costs[0], costs[1]);

@@ -14,13 +14,13 @@ pub trait Measure {
 
 pub struct Nanoseconds;
 
-/// Units of work in one run, about.
-const UNITS_TIMED: u32 = 600;
+/// Units of work in one run, about: enough that what a call does once, as creating the endpoint, does not count.
+const UNITS: u32 = 600;
 
 impl Measure for Nanoseconds {
     /// The sides take turns, so that what else the machine does falls on all of them.
     fn measure(&mut self, units: u32, sides: &mut [Calls]) -> Vec<f64> {
-        let repeats = (UNITS_TIMED / units).max(1);
+        let repeats = (UNITS / units).max(1);
         let mut best = vec![f64::INFINITY; sides.len()];
         for _ in 0..RUNS {
             for (side, best) in sides.iter_mut().zip(&mut best) {
@@ -36,15 +36,16 @@ impl Measure for Nanoseconds {
 /// Under callgrind: each piece of work is dumped to a file of its own, and its cost is read later.
 pub struct Dumps;
 
-/// Enough that what a call does once, as creating the endpoint, does not count.
-const REPEATS_COUNTED: u32 = 20;
+fn repeats_counted(units: u32) -> u32 {
+    (UNITS / units).max(20)
+}
 
 impl Measure for Dumps {
-    fn measure(&mut self, _units: u32, sides: &mut [Calls]) -> Vec<f64> {
+    fn measure(&mut self, units: u32, sides: &mut [Calls]) -> Vec<f64> {
         for side in sides.iter_mut() {
             side(1);
             callgrind(ZERO_STATS);
-            std::hint::black_box(side(REPEATS_COUNTED));
+            std::hint::black_box(side(repeats_counted(units)));
             callgrind(DUMP_STATS);
         }
         vec![0.0; sides.len()]
@@ -59,7 +60,7 @@ pub struct Instructions {
 impl Measure for Instructions {
     fn measure(&mut self, units: u32, sides: &mut [Calls]) -> Vec<f64> {
         let counts = self.counts.by_ref().take(sides.len());
-        let costs: Vec<f64> = counts.map(|count| count as f64 / f64::from(REPEATS_COUNTED * units)).collect();
+        let costs: Vec<f64> = counts.map(|count| count as f64 / f64::from(repeats_counted(units) * units)).collect();
         assert!(costs.len() == sides.len(), "a dump for each side");
         costs
     }

@@ -10,6 +10,7 @@ pub const CONTROL_TRBS: u32 = 3;
 pub const CONTROL_LENGTH: u32 = 18;
 /// Two records of 32 bytes for each of them, and in a row a request for each TD.
 pub const LOG_BYTES: usize = 3 * 32 * MAX_HELD as usize;
+pub const MEMORY_BYTES: usize = TRANSFER_LENGTH as usize * MAX_HELD as usize;
 /// Frames that a row has.
 pub const ROWS: [u32; 3] = [1, 5, 25];
 pub const COLLECT_BYTES: usize = 65535;
@@ -73,6 +74,5 @@ impl InWork {
 
 /// Guest memory, and the device's data: as much as the largest TD asks for.
 pub fn bytes() -> &'static [u8] {
-    let length = TRANSFER_LENGTH * SIZES.into_iter().max().unwrap();
-    Vec::leak((0..length).map(|k| (k * 11 + 5) as u8).collect())
+    Vec::leak((0..MEMORY_BYTES as u32).map(|k| (k * 11 + 5) as u8).collect())
 }

@@ -1,4 +1,4 @@
-/* The header held to the library: an IN transfer and a control transfer, from submission to guest memory, and a capture. Exit status 0 where all is as document 01
+/* The header held to the library: an IN transfer, a row of TDs and a control transfer, from submission to guest memory, and a capture. Exit status 0 where all is as document 01
  * has it, and otherwise a line that says what is not. */
 #include "polvihe.h"
 #include <stdio.h>
@@ -14,6 +14,20 @@ static void expect(int holds, const char *what) {
 #define EXPECT(claim) expect(claim, #claim)
 
 static uint8_t log_bytes[POLVIHE_LOG_LENGTH], collect[POLVIHE_COLLECT_LENGTH], memory[0x600], data[600];
+
+/* The IN transfer's completion and carry-out in one call, on copies: what two calls leave after it. */
+static uint8_t delivered_log[POLVIHE_LOG_LENGTH], delivered[0x600];
+
+static void deliver(uint8_t *block, size_t length) {
+    memcpy(delivered_log, log_bytes, sizeof log_bytes);
+    /* A byte too few for the second Normal: nothing changes. */
+    EXPECT(polvihe_in_complete_and_carry_out(delivered_log, sizeof delivered_log, block, length, POLVIHE_SUCCESS, data, sizeof data, 0x8000, delivered, sizeof data - 1, 0,
+                                             NULL, 0).number == 11);
+    EXPECT(memcmp(delivered_log, log_bytes, sizeof log_bytes) == 0 && memcmp(delivered, memory, sizeof memory) == 0);
+    struct polvihe_completion done = polvihe_in_complete_and_carry_out(delivered_log, sizeof delivered_log, block, length, POLVIHE_SUCCESS, data, sizeof data, 0x8000,
+                                                                       delivered, sizeof data, 0x9000, NULL, 0);
+    EXPECT(done.number == 0 && done.result == 0 && done.records == 4 && memcmp(delivered, data, sizeof data) == 0);
+}
 
 static uint64_t field(const uint8_t *record, int at, int bytes) {
     uint64_t number = 0;
@@ -43,10 +57,16 @@ static void in_transfer(void) {
     EXPECT(log_bytes[0] == 3 && field(log_bytes, 8, 8) == 0x1000 && field(log_bytes, 16, 4) == 1536);
     EXPECT(polvihe_in_complete(log_bytes, sizeof log_bytes, block, length, POLVIHE_NONE, 0).number == 8);
     for (size_t k = 0; k < sizeof data; k++) data[k] = (uint8_t)(11 * k + 5);
+    uint8_t *copy = malloc(length);
+    EXPECT(copy != NULL);
+    memcpy(copy, block, length);
+    deliver(copy, length);
     struct polvihe_completion done = polvihe_in_complete(log_bytes, sizeof log_bytes, block, length, POLVIHE_SUCCESS, sizeof data);
     EXPECT(done.number == 0 && done.result == 0 && done.records == 4);
     EXPECT(polvihe_carry_out(log_bytes, 32 * done.records, data, sizeof data, 0x8000, memory, sizeof memory, 0, NULL, 0) == 0);
     EXPECT(memcmp(memory, data, sizeof data) == 0 && memory[600] == 0);
+    EXPECT(memcmp(copy, block, length) == 0 && memcmp(delivered_log, log_bytes, sizeof log_bytes) == 0 && memcmp(delivered, memory, sizeof memory) == 0);
+    free(copy);
     static const char expected[] = "1 0 0 3 2 8000 512 0 0000000000000000\n"
                                    "1 0 0 3 2 8200 88 512 0000000000000000\n"
                                    "2 13 0 3 2 1010 424 0 0000000000000000\n"
@@ -56,6 +76,37 @@ static void in_transfer(void) {
     EXPECT(printed.number == 0 && printed.count == strlen(expected) && memcmp(text, expected, printed.count) == 0);
     EXPECT(polvihe_in_cancel(block, length) == 0);
     free(block);
+}
+
+/* Two TDs T in a row: 600 bytes for the first, a stall behind 512 for the second. */
+static void row_of_tds(void) {
+    size_t length = polvihe_in_block_length();
+    uint8_t *block = malloc(length), *before = malloc(length);
+    EXPECT(block != NULL && before != NULL);
+    EXPECT(polvihe_in_create(block, length, 3, 2, 0) == 0);
+    memcpy(before, block, length);
+    struct polvihe_row_trb row[6];
+    EXPECT(sizeof row == 6 * 24 && sizeof(struct polvihe_row_result) == 8);
+    for (int i = 0; i < 6; i++) {
+        uint8_t flags = POLVIHE_INTERRUPT_ON_SHORT | (i % 3 == 2 ? POLVIHE_INTERRUPT_ON_COMPLETION : POLVIHE_CHAIN);
+        row[i] = (struct polvihe_row_trb){.address = 0x1000 + 16 * i, .value = 0x8000 + 512 * (i % 3), .transfer_length = 512, .kind = 1, .flags = flags};
+    }
+    const struct polvihe_row_result results[2] = {{.status = POLVIHE_SUCCESS, .length = 600}, {.status = POLVIHE_STALL, .length = 512}};
+    static uint8_t row_log[POLVIHE_ROW_LOG_LENGTH], joined[1112];
+    for (size_t k = 0; k < sizeof joined; k++) joined[k] = (uint8_t)(7 * k + 3);
+    struct polvihe_row_completion done = polvihe_in_complete_row(row_log, sizeof row_log, block, length, row, sizeof row, results, sizeof results, sizeof joined,
+                                                                 0x8000, sizeof memory, 0, 0);
+    EXPECT(done.number == 0 && done.finished == 1 && done.result == 1 && done.code == 6 && done.located && done.address == 0x1040);
+    EXPECT(done.records == 9 && memcmp(block, before, length) == 0);
+    /* The second TD's request and its write, which starts behind the first one's 600 bytes. */
+    EXPECT(row_log[32 * 5] == 3 && field(row_log + 32 * 5, 8, 8) == 0x1030 && row_log[32 * 6] == 1 && field(row_log + 32 * 6, 20, 4) == 600);
+    EXPECT(polvihe_carry_out(row_log, 32 * done.records, joined, sizeof joined, 0x8000, memory, sizeof memory, 0, NULL, 0) == 0);
+    EXPECT(memcmp(memory, joined + 600, 512) == 0 && memcmp(memory + 512, joined + 512, 88) == 0);
+    EXPECT(polvihe_in_complete_row(row_log, sizeof row_log, block, length, row, sizeof row - 1, results, sizeof results, sizeof joined, 0x8000, sizeof memory, 0, 0).number == 15);
+    EXPECT(polvihe_in_complete_row(row_log, sizeof row_log, block, length, row, sizeof row, results, sizeof results + 1, sizeof joined, 0x8000, sizeof memory, 0, 0).number == 15);
+    EXPECT(polvihe_in_complete_row(row_log, sizeof row_log - 1, block, length, row, sizeof row, results, sizeof results, sizeof joined, 0x8000, sizeof memory, 0, 0).number == 1);
+    EXPECT(polvihe_in_complete_row(row_log, sizeof row_log, block, length - 1, row, sizeof row, results, sizeof results, sizeof joined, 0x8000, sizeof memory, 0, 0).number == 1);
+    free(block), free(before);
 }
 
 /* Setup 80 06, Data IN 18, Status; the device stalls: for release 5 the event is at the Data TRB. */
@@ -98,8 +149,9 @@ static void capture(void) {
 
 int main(void) {
     in_transfer();
+    row_of_tds();
     control_transfer();
     capture();
-    puts("transfer.c: an IN and a control transfer, as document 01 has them, and a capture read again");
+    puts("transfer.c: an IN transfer, a row of TDs and a control transfer, as documents 01 and 02 have them, and a capture read again");
     return 0;
 }

@@ -1,5 +1,5 @@
 //! Playback through the proved input path: a guest that asks for frames by a ring of raw TRBs, a device that sends them, with short packets and
-//! a stall now and then, and between the two what a hardware abstraction layer does: submit, complete, carry out, show the events.
+//! a stall now and then, and between the two what a hardware abstraction layer does: submit, complete and carry out, show the events.
 //!
 //! `cargo run --release --example playback -- [FRAMES [FILE]]` prints frames a second and how many frames the guest found torn, and writes a
 //! capture of the requests and completions to FILE, for Wireshark.
@@ -135,16 +135,13 @@ fn main() -> Result<(), Box<dyn std::error::Error>> {
                 endpoint.complete(None, &[], &mut log)?;
             }
         }
-        // The device answered: writes and events, in the order of effect.
-        let completed = endpoint.complete(Some(result), &data[..sent], &mut log)?;
+        // The device answered. Its bytes are at their places before any event is shown; the events come in the order of effect.
+        let mut memory = GuestMemory::one(BUFFER, &mut buffer);
+        let completed = endpoint.complete_and_carry_out(Some(result), &data[..sent], &mut memory, &mut log)?;
         let last = completed.records().len() - 1;
-        let mut done = 0;
         let mut seen = true;
         for (index, record) in completed.records().enumerate() {
             if let Effect::Event { code, about } = record.effect {
-                let before = &completed.log[32 * done..32 * index];
-                GuestMemory::one(BUFFER, &mut buffer).carry_out(before, &data[..sent])?;
-                done = index;
                 seen &= guest.event(code, about, index == last, &buffer, &data[..sent]).unwrap_or(true);
             }
         }

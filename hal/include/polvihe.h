@@ -29,6 +29,32 @@ struct polvihe_completion {
     uint64_t address;
 };
 
+/* Of a row of TDs: as a completion, and how many TDs were finished well. */
+struct polvihe_row_completion {
+    uint32_t number;
+    uint8_t result;
+    uint8_t code;
+    uint8_t located;
+    uint8_t cycle_bit;
+    size_t finished;
+    size_t records;
+    uint64_t address;
+};
+
+/* A TRB of a row, 24 bytes: its address on the ring; data pointer or event data; transfer length; xHCI's type; the flags below. */
+struct polvihe_row_trb {
+    uint64_t address, value;
+    uint32_t transfer_length;
+    uint8_t kind, flags, zero[2];
+};
+
+/* What the device gave for a TD of a row, 8 bytes: POLVIHE_SUCCESS to POLVIHE_DISCONNECT, any other number being a transaction error; so many
+ * bytes of the joined data. POLVIHE_SUCCESS and 0 bytes for a TD without a Normal TRB. */
+struct polvihe_row_result {
+    uint8_t status, zero[3];
+    uint32_t length;
+};
+
 /* A decoded TRB: xHCI's type, or 0 where it is unrecognized; the flags below; data pointer, event data or setup bytes; transfer length. */
 struct polvihe_trb {
     uint8_t kind;
@@ -56,8 +82,8 @@ enum {
     POLVIHE_NONE = 255
 };
 
-/* Bytes that a log and a collect buffer must have. */
-enum { POLVIHE_LOG_LENGTH = 32768, POLVIHE_COLLECT_LENGTH = 65535 };
+/* Bytes that a log, a log of a row and a collect buffer must have. */
+enum { POLVIHE_LOG_LENGTH = 32768, POLVIHE_ROW_LOG_LENGTH = 49152, POLVIHE_COLLECT_LENGTH = 65535 };
 
 /* ---- The IN endpoint. Mode: 0 as ported, 1 strict. */
 size_t polvihe_in_block_length(void);
@@ -67,7 +93,16 @@ struct polvihe_answered polvihe_in_submit(uint8_t *log, size_t log_length, uint8
                                           uint64_t high_base, size_t high_length);
 struct polvihe_completion polvihe_in_complete(uint8_t *log, size_t log_length, uint8_t *block, size_t block_length, uint8_t status,
                                               size_t data_length);
+/* Completion and carry-out in one call: 0, or 1, 13, 2, 3, 8, 9, 11 with block, log and guest memory as they were. Afterwards every event may be shown. */
+struct polvihe_completion polvihe_in_complete_and_carry_out(uint8_t *log, size_t log_length, uint8_t *block, size_t block_length, uint8_t status,
+                                                            const uint8_t *data, size_t data_length, uint64_t low_base, uint8_t *low,
+                                                            size_t low_length, uint64_t high_base, uint8_t *high, size_t high_length);
 uint32_t polvihe_in_cancel(uint8_t *block, size_t block_length);
+/* A row of whole TDs in one call, on a block that holds nothing: struct polvihe_row_trb for each TRB, struct polvihe_row_result for each TD,
+ * lengths in bytes. The block is not changed. 0, or 1, 13, 2, 3, 15, 4, 21, 6, 9. */
+struct polvihe_row_completion polvihe_in_complete_row(uint8_t *log, size_t log_length, const uint8_t *block, size_t block_length, const void *row,
+                                                      size_t row_length, const void *results, size_t results_length, size_t data_length,
+                                                      uint64_t low_base, size_t low_length, uint64_t high_base, size_t high_length);
 
 /* ---- The control endpoint. Release: 4 or 5. */
 size_t polvihe_control_block_length(void);

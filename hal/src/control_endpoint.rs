@@ -13,8 +13,10 @@ pub enum GuestRelease {
     Five = 5,
 }
 
-/// Bytes of a control endpoint's block.
-const BLOCK: usize = 12_336;
+const BLOCK: usize = ControlEndpoint::BLOCK_LENGTH;
+
+/// Where in the block the number of bytes collected stands, in 64 bits.
+const COLLECTED: usize = 32;
 
 /// A control endpoint. It owns its block and nothing else: log, collect buffer, guest memory and data are lent for a call.
 ///
@@ -51,6 +53,9 @@ pub struct ControlEndpoint {
 }
 
 impl ControlEndpoint {
+    /// Bytes of its block.
+    pub const BLOCK_LENGTH: usize = 12_336;
+
     /// Bytes that a lent log must have, or a call is refused with 1.
     pub const LOG_LENGTH: usize = 32_768;
 
@@ -67,6 +72,23 @@ impl ControlEndpoint {
             exported::polvihe_control_create(block.as_mut_ptr(), BLOCK, endpoint_id.0, slot_id.0, release as u8)
         })?;
         Ok(Self { block })
+    }
+
+    /// The endpoint whose block was stored. Any bytes are a block (`docs/CALLS.md` has its layout): one that is not sound is refused with 2
+    /// at the next call.
+    pub fn from_block(block: [u8; Self::BLOCK_LENGTH]) -> Self {
+        Self { block }
+    }
+
+    /// The block, all that there is of the endpoint, to be stored.
+    pub fn block(&self) -> &[u8; Self::BLOCK_LENGTH] {
+        &self.block
+    }
+
+    /// How many bytes of an OUT transfer stand in the collect buffer: where its request is logged, these are what goes to the device.
+    pub fn collected(&self) -> usize {
+        let number = self.block[COLLECTED..COLLECTED + 8].try_into().expect("8 bytes");
+        u64::from_le_bytes(number) as usize
     }
 
     /// Submits a TRB that stands at `address` on the ring. The last TRB of a transfer logs its request to the device. The bytes of an OUT
@@ -163,5 +185,94 @@ impl ControlEndpoint {
 impl core::fmt::Debug for ControlEndpoint {
     fn fmt(&self, f: &mut core::fmt::Formatter<'_>) -> core::fmt::Result {
         f.debug_struct("ControlEndpoint").finish_non_exhaustive()
+    }
+}
+
+#[cfg(test)]
+mod tests {
+    use super::*;
+    use crate::SetupStage;
+
+    const LOG: usize = ControlEndpoint::LOG_LENGTH;
+    const COLLECT: usize = ControlEndpoint::COLLECT_LENGTH;
+    const SHORT: Option<Refusal> = Some(Refusal::BufferTooShort);
+
+    fn endpoint() -> ControlEndpoint {
+        ControlEndpoint::create(EndpointId(1), SlotId(2), GuestRelease::Five).unwrap()
+    }
+
+    fn setup(first: u8) -> Trb {
+        Trb::SetupStage(SetupStage { setup: [first, 9, 1, 0, 0, 0, 0, 0], ..SetupStage::default() })
+    }
+
+    #[test]
+    fn log_and_collect_buffer_are_just_long_enough() {
+        let (mut endpoint, memory) = (endpoint(), GuestMemory::default());
+        let (mut log, mut collect) = ([0; LOG], [0; COLLECT]);
+        let mut submit = |log_length: usize, length: usize| {
+            endpoint.submit(0, setup(0), true, &memory, &mut collect[..length], &mut log[..log_length]).err()
+        };
+        assert_eq!((submit(LOG - 1, COLLECT), submit(LOG, COLLECT - 1), submit(LOG, COLLECT)), (SHORT, SHORT, None));
+        let mut complete = |length: usize| endpoint.complete(None, &[], &mut log[..length]).err();
+        assert_eq!((complete(LOG - 1), complete(LOG)), (SHORT, None));
+    }
+
+    #[test]
+    fn the_block_is_just_long_enough() {
+        let mut block = *endpoint().block();
+        let (mut log, mut collect, raw) = ([0; LOG], [0; COLLECT], setup(0).encode(true).unwrap());
+        let (log, collect, block) = (log.as_mut_ptr(), collect.as_mut_ptr(), block.as_mut_ptr());
+        let none = [].as_ptr();
+        let numbers = |length: usize| {
+            // SAFETY: log, collect buffer and block have at least the lengths that stand with them; the regions are empty.
+            unsafe {
+                let create = || accepted(exported::polvihe_control_create(block, length, 1, 2, 4)).err();
+                let complete = || exported::polvihe_control_complete(log, LOG, block, length, 255, 0).outcome().err();
+                let lent = (log, LOG, collect, COLLECT, block);
+                let (a, b, c, d, e) = lent;
+                [
+                    create(),
+                    exported::polvihe_control_submit(a, b, c, d, e, length, 2, 0, 0, 0, 0, 0, none, 0, 0, none, 0)
+                        .count()
+                        .err(),
+                    complete(),
+                    exported::polvihe_control_submit_raw(a, b, c, d, e, length, &raw, 0, 0, none, 0, 0, none, 0)
+                        .count()
+                        .err(),
+                    complete(),
+                ]
+            }
+        };
+        assert_eq!(numbers(BLOCK - 1), [SHORT; 5]);
+        assert_eq!(numbers(BLOCK), [None; 5]);
+        // SAFETY: it takes nothing.
+        assert_eq!(unsafe { exported::polvihe_control_block_length() }, BLOCK);
+    }
+
+    #[test]
+    fn what_was_collected() {
+        let mut bytes = [7; 100];
+        let memory = GuestMemory::one(0x8000, &mut bytes);
+        let (mut endpoint, mut log, mut collect) = (endpoint(), [0; LOG], [0; COLLECT]);
+        let data = crate::DataStage { pointer: 0x8000, length: 100, ..Default::default() };
+        let stages = [setup(0), Trb::DataStage(data), Trb::StatusStage(Default::default())];
+        for (stage, collected) in stages.into_iter().zip([0, 100, 100]) {
+            endpoint.submit(0, stage, true, &memory, &mut collect, &mut log).unwrap();
+            assert_eq!(endpoint.collected(), collected);
+            let result = (endpoint.block()[5] == 2).then_some(DeviceResult::SuccessOut);
+            endpoint.complete(result, &[], &mut log).unwrap();
+        }
+        assert_eq!(collect[..101], [&[7; 100][..], &[0]].concat());
+    }
+
+    #[test]
+    fn a_stored_block_goes_on() {
+        let (mut endpoint, memory) = (endpoint(), GuestMemory::default());
+        let (mut log, mut collect) = ([0; LOG], [0; COLLECT]);
+        endpoint.submit(0x1000, Trb::Isoch, true, &memory, &mut collect, &mut log).unwrap();
+        let completed = ControlEndpoint::from_block(*endpoint.block()).complete(None, &[], &mut log).unwrap().outcome;
+        assert_eq!(completed, crate::Outcome::TrbError);
+        let mut zeros = ControlEndpoint::from_block([0; BLOCK]);
+        assert_eq!(zeros.complete(None, &[], &mut log).unwrap_err(), Refusal::UnsoundBlock);
     }
 }

@@ -35,21 +35,47 @@ impl CompletionAnswered {
     pub fn outcome(self) -> Result<(usize, Outcome), Refusal> {
         accepted(self.number)?;
         let at = (self.located != 0).then_some(At { address: self.address, cycle: self.cycle_bit != 0 });
-        let outcome = match self.result {
-            0 => Outcome::Ok,
-            1 => Outcome::Stall(at),
-            2 => Outcome::TransactionError(at),
-            3 => Outcome::Disconnect,
-            _ => Outcome::TrbError,
-        };
-        Ok((self.records, outcome))
+        Ok((self.records, outcome(self.result, at)))
     }
 }
 
-/// A decoded TRB by numbers: its kind, which is xHCI's type; its flags by weight; its pointer, event data or setup bytes; its length.
+/// A result by its number.
+fn outcome(result: u8, at: Option<At>) -> Outcome {
+    match result {
+        0 => Outcome::Ok,
+        1 => Outcome::Stall(at),
+        2 => Outcome::TransactionError(at),
+        3 => Outcome::Disconnect,
+        _ => Outcome::TrbError,
+    }
+}
+
+/// What a row of TDs answers: a completion's numbers, and how many TDs were finished well.
+#[repr(C)]
+pub struct RowAnswered {
+    number: u32,
+    result: u8,
+    code: u8,
+    located: u8,
+    cycle_bit: u8,
+    finished: usize,
+    records: usize,
+    address: u64,
+}
+
+impl RowAnswered {
+    /// The number of records, the TDs finished well and how the row ended, where every question was answered yes.
+    pub fn outcome(self) -> Result<(usize, usize, Outcome), Refusal> {
+        accepted(self.number)?;
+        let at = (self.located != 0).then_some(At { address: self.address, cycle: self.cycle_bit != 0 });
+        Ok((self.records, self.finished, outcome(self.result, at)))
+    }
+}
+
+/// A TRB by numbers, as the functions take and give it: its kind, which is xHCI's type; its flags by weight; its pointer, event data or setup bytes; its length.
 #[repr(C)]
 #[derive(Clone, Copy)]
-pub struct DecodedNumbers {
+pub struct TrbNumbers {
     pub kind: u8,
     pub flags: u8,
     pub transfer_length: u32,
@@ -78,7 +104,7 @@ extern "C" {
         high_length: usize,
     ) -> u32;
 
-    pub fn polvihe_decode_trb(raw: *const [u8; 16]) -> DecodedNumbers;
+    pub fn polvihe_decode_trb(raw: *const [u8; 16]) -> TrbNumbers;
 
     pub fn polvihe_encode_trb(
         kind: u8,
@@ -117,6 +143,38 @@ extern "C" {
         status: u8,
         data_length: usize,
     ) -> CompletionAnswered;
+
+    pub fn polvihe_in_complete_and_carry_out(
+        log: *mut u8,
+        log_length: usize,
+        block: *mut u8,
+        block_length: usize,
+        status: u8,
+        data: *const u8,
+        data_length: usize,
+        low_base: u64,
+        low: *mut u8,
+        low_length: usize,
+        high_base: u64,
+        high: *mut u8,
+        high_length: usize,
+    ) -> CompletionAnswered;
+
+    pub fn polvihe_in_complete_row(
+        log: *mut u8,
+        log_length: usize,
+        block: *const u8,
+        block_length: usize,
+        row: *const u8,
+        row_length: usize,
+        results: *const u8,
+        results_length: usize,
+        data_length: usize,
+        low_base: u64,
+        low_length: usize,
+        high_base: u64,
+        high_length: usize,
+    ) -> RowAnswered;
 
     pub fn polvihe_in_cancel(block: *mut u8, block_length: usize) -> u32;
 

@@ -32,6 +32,7 @@ mod log_record;
 mod memory;
 pub mod record;
 mod refusal;
+mod row;
 mod trb;
 
 pub use answer::{At, Completed, DeviceResult, Outcome, Submitted};
@@ -41,4 +42,5 @@ pub use in_endpoint::{InEndpoint, Mode};
 pub use log_record::{Effect, EventAbout, Record, Records, RECORD_LENGTH};
 pub use memory::{GuestMemory, Region};
 pub use refusal::Refusal;
+pub use row::{RowCompleted, RowTrb, TdResult};
 pub use trb::{DataStage, EventData, NoOp, Normal, SetupStage, StatusStage, Trb};

@@ -1,6 +1,6 @@
 //! Transfer TRBs, decoded, and their 16 bytes on the ring.
 
-use crate::exported::{self, accepted, DecodedNumbers};
+use crate::exported::{self, accepted, TrbNumbers};
 use crate::Refusal;
 
 /// A transfer TRB, decoded.
@@ -111,14 +111,6 @@ pub struct NoOp {
     pub interrupt_on_completion: bool,
 }
 
-/// A TRB as the exported functions take it.
-pub(crate) struct TrbNumbers {
-    pub kind: u8,
-    pub flags: u8,
-    pub value: u64,
-    pub transfer_length: u32,
-}
-
 /// Flags by weight.
 const CYCLE: u8 = 1;
 const CHAIN: u8 = 2;
@@ -187,7 +179,7 @@ impl Trb {
         TrbNumbers { kind, flags: flags | flag(cycle, CYCLE), value, transfer_length }
     }
 
-    fn of(numbers: DecodedNumbers) -> Self {
+    fn of(numbers: TrbNumbers) -> Self {
         let on = |weight: u8| numbers.flags & weight != 0;
         let (chain, interrupt_on_completion) = (on(CHAIN), on(COMPLETION));
         match numbers.kind {

@@ -9,6 +9,7 @@ use std::{
 };
 
 use crate::{
+    asked_rust::AskedRust,
     call::{parse, Call},
     device::pcap::UsbPcapManager,
     driver::{Driver, Stop},
@@ -127,7 +128,7 @@ impl CaptureFile {
     /// The records of a script. A call that the Rust cannot be asked has none in the product either, and is left out; so are the calls on a block that it
     /// cannot have. Release 5 changes events alone, and strict mode events and where a row ends, so that captures are those of the endpoint as ported.
     pub fn of_script(&mut self, script: &str) -> io::Result<Vec<Expected>> {
-        let mut driver = Driver::new();
+        let mut driver = Driver::<AskedRust>::new();
         let (mut seconds, mut microseconds) = (0, 0);
         let mut is_unlike = false;
         let mut found = vec![];

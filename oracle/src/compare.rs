@@ -147,7 +147,7 @@ fn text_of(lines: &[&str]) -> String {
 }
 
 /// The lines through the state line that ends an answer.
-fn first_answer(text: &str) -> String {
+pub(crate) fn first_answer(text: &str) -> String {
     let mut answer = String::new();
     for line in text.split_inclusive('\n') {
         answer.push_str(line);

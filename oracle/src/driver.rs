@@ -1,20 +1,21 @@
-//! Makes a script's calls on the Rust and gives the answers that docs/CALLS.md defines.
+//! Makes a script's calls on the Rust, or on an engine in its place, and gives the answers that docs/CALLS.md defines.
 
 use std::sync::Arc;
 
 use crate::{
+    asked_rust::{asked, AskedRust},
     call::{parse, Call, Captured, Kind, Region, Status, Trb, FIRST_CAPTURED, FIRST_REGION, MAX_LOG},
     device::xhci::{
         interrupter::EventSender,
         real_endpoint_handle::{ControlRequestProcessingResult, InTrbProcessingResult, InTrbProcessingStatus},
         trb::RawTrb,
     },
-    effects::{Effect, EffectLog},
-    endpoint::{Connections, Endpoint, ResultFields},
+    effects::EffectLog,
+    endpoint::ResultFields,
+    engine::{Connections, Engine, No},
     guest_memory::GuestMemory,
-    questions::{self, Buffers, MAX_HELD, MAX_ROW, MAX_TRB_LENGTH},
-    raw_trb::{has_reserved_bit, parsed},
-    record::{records, Record, Surroundings},
+    questions::{self, Buffers, MAX_HELD, MAX_ROW},
+    record::Record,
     row::Row,
     scripted_device::{DeviceResult, ScriptedDevice},
 };
@@ -30,7 +31,7 @@ pub struct Answer {
 #[derive(Debug, Clone, PartialEq, Eq)]
 pub enum Stop {
     BadLine,
-    /// The Rust cannot be asked this: document 01 refuses the call, or the Rust has no place for what is made up.
+    /// The engine cannot be asked this: of the Rust, document 01 refuses the call, or it has no place for what is made up.
     Unasked(String),
 }
 
@@ -50,13 +51,21 @@ impl Run {
     }
 }
 
-/// Runs a whole script.
+/// A line's call, without its line feed; None where it is bad.
+pub fn call_of(line: &[u8]) -> Option<Call> {
+    line.strip_suffix(b"\n").and_then(|line| std::str::from_utf8(line).ok()).and_then(parse)
+}
+
+/// Runs a whole script on the Rust.
 pub fn run(script: &[u8]) -> Run {
-    let mut driver = Driver::new();
+    run_on::<AskedRust>(script)
+}
+
+pub fn run_on<E: Engine>(script: &[u8]) -> Run {
+    let mut driver = Driver::<E>::new();
     let mut run = Run::default();
     for (line, bytes) in (1..).zip(script.split_inclusive(|byte| *byte == b'\n')) {
-        let call = bytes.strip_suffix(b"\n").and_then(|bytes| std::str::from_utf8(bytes).ok()).and_then(parse);
-        match call.ok_or(Stop::BadLine).and_then(|call| driver.call(call)) {
+        match call_of(bytes).ok_or(Stop::BadLine).and_then(|call| driver.call(call)) {
             Ok(None) => {}
             Ok(Some(text)) => run.answers.push(Answer { line, text }),
             Err(stop) => {
@@ -68,24 +77,18 @@ pub fn run(script: &[u8]) -> Run {
     run
 }
 
-pub(crate) struct Driver {
+pub(crate) struct Driver<E> {
     effects: EffectLog,
-    memory: Arc<GuestMemory>,
     connections: Connections,
-    device: ScriptedDevice,
     buffers: Buffers,
     captured: Captured,
-    endpoint: Option<Endpoint>,
+    endpoint: Option<E>,
     row: Row,
     /// In a row, a TD fails with any status but Success: document 02's strict mode, as far as it decides which TDs are started.
     pub(crate) is_strict: bool,
 }
 
 const FIRST_BUFFERS: Buffers = Buffers { log: MAX_LOG, collect: 0xffff };
-
-fn asked(question: Option<u8>) -> Result<(), Stop> {
-    question.map_or(Ok(()), |number| Err(Stop::Unasked(format!("question {number}"))))
-}
 
 fn device_data(length: u64) -> Vec<u8> {
     (0..length).map(|k| k.wrapping_mul(11).wrapping_add(5) as u8).collect()
@@ -121,20 +124,16 @@ fn append<T>(to: &mut Vec<T>, one: T) -> Result<(), Stop> {
     Ok(())
 }
 
-impl Driver {
+impl<E: Engine> Driver<E> {
     pub(crate) fn new() -> Self {
         let effects = EffectLog::default();
-        let memory = Arc::new(GuestMemory::new(FIRST_REGION, Region::NONE, effects.clone()));
-        let device = ScriptedDevice::new(effects.clone());
         Self {
             connections: Connections {
-                device: device.clone(),
-                memory: memory.clone(),
+                device: ScriptedDevice::new(effects.clone()),
+                memory: Arc::new(GuestMemory::new(FIRST_REGION, Region::NONE, effects.clone())),
                 events: EventSender::new(effects.clone()),
             },
             effects,
-            memory,
-            device,
             buffers: FIRST_BUFFERS,
             captured: FIRST_CAPTURED,
             endpoint: None,
@@ -143,14 +142,28 @@ impl Driver {
         }
     }
 
-    fn endpoint(&mut self) -> Result<&mut Endpoint, Stop> {
+    fn endpoint(&mut self) -> Result<&mut E, Stop> {
         self.endpoint.as_mut().ok_or(Stop::BadLine)
+    }
+
+    /// The endpoint, if it is of this kind.
+    fn endpoint_of(&mut self, is_control: bool) -> Result<&mut E, Stop> {
+        self.endpoint.as_mut().filter(|endpoint| endpoint.is_control() == is_control).ok_or(Stop::BadLine)
     }
 
     /// Makes the call; its answer, if it is one that prints.
     pub(crate) fn call(&mut self, call: Call) -> Result<Option<String>, Stop> {
+        match self.accepted(call) {
+            Ok(answer) => Ok(answer),
+            Err(No::Refused(number)) => Ok(Some(format!("no {number}\n{}\n", self.endpoint()?.state_line()))),
+            Err(No::Stopped(stop)) => Err(stop),
+        }
+    }
+
+    fn accepted(&mut self, call: Call) -> Result<Option<String>, No> {
+        let lent = self.buffers;
         match call {
-            Call::Window { low, high } => self.memory.fill_anew(low, high.unwrap_or(Region::NONE)),
+            Call::Window { low, high } => self.connections.memory.fill_anew(low, high.unwrap_or(Region::NONE)),
             Call::Buffers { log, collect } => self.buffers = Buffers { log, collect },
             Call::Time { .. } => {}
             Call::Captured(captured) => {
@@ -159,44 +172,37 @@ impl Driver {
                     endpoint.capture_as(captured);
                 }
             }
-            Call::Hold(trb) => self.hold(&trb)?,
-            Call::MakeUpIn { state } => match self.endpoint()? {
-                Endpoint::In(endpoint) => endpoint.make_up(state),
-                Endpoint::Control(_) => return Err(Stop::BadLine),
-            },
-            Call::MakeUpControl { phase, state, direction, length } => match self.endpoint()? {
-                Endpoint::Control(endpoint) => endpoint.make_up(phase, state, direction, length),
-                Endpoint::In(_) => return Err(Stop::BadLine),
-            },
-            Call::CreateIn { mode: Some(1), .. } => {
-                return Err(Stop::Unasked("the Rust has no strict mode".to_string()));
+            Call::Hold(trb) => {
+                let endpoint = self.endpoint()?;
+                if endpoint.held() == MAX_HELD {
+                    return Err(Stop::BadLine.into());
+                }
+                endpoint.hold(&trb)?;
             }
-            Call::CreateIn { endpoint, slot, .. } => {
-                asked(questions::of_creation(endpoint, slot))?;
-                self.row = Row::default();
-                self.endpoint = Some(Endpoint::new_in(endpoint, slot, self.captured, self.connections.clone()));
-                return self.answer_quietly().map(Some);
+            Call::MakeUpIn { state } => self.endpoint_of(false)?.make_up_in(state),
+            Call::MakeUpControl { phase, state, direction, length } => {
+                self.endpoint_of(true)?.make_up_control(phase, state, direction, length);
             }
-            Call::CreateControl { release: Some(5), .. } => {
-                return Err(Stop::Unasked("the Rust has the rule of release 4 alone".to_string()));
+            Call::CreateIn { endpoint, slot, mode } => {
+                let made = E::new_in(endpoint, slot, mode.unwrap_or(0), self.captured, self.connections.clone())?;
+                return self.created(made).map(Some);
             }
-            Call::CreateControl { endpoint, slot, .. } => {
-                asked(questions::of_creation(endpoint, slot))?;
-                self.row = Row::default();
-                self.endpoint = Some(Endpoint::new_control(endpoint, slot, self.captured, self.connections.clone()));
-                return self.answer_quietly().map(Some);
+            Call::CreateControl { endpoint, slot, release } => {
+                let made =
+                    E::new_control(endpoint, slot, release.unwrap_or(4), self.captured, self.connections.clone())?;
+                return self.created(made).map(Some);
             }
             Call::Cancel => {
                 self.endpoint()?.cancel();
-                return self.answer_quietly().map(Some);
+                return self.answer("- - -", &[], false).map(Some);
             }
             Call::Submit(trb) => {
-                self.submit(&trb)?;
-                return self.answer_quietly().map(Some);
+                self.endpoint()?.submit(&trb, lent)?;
+                return self.answer("- - -", &[], false).map(Some);
             }
             Call::SubmitRaw { address, bytes } => {
-                self.submit_raw(RawTrb { address, buffer: bytes })?;
-                return self.answer_quietly().map(Some);
+                self.endpoint()?.submit_raw(RawTrb { address, buffer: bytes }, lent)?;
+                return self.answer("- - -", &[], false).map(Some);
             }
             Call::CompleteWithResult { status, length } => return self.complete(Some(status), length).map(Some),
             Call::CompleteWithout { length } => return self.complete(None, length).map(Some),
@@ -207,81 +213,47 @@ impl Driver {
         Ok(None)
     }
 
-    fn hold(&mut self, trb: &Trb) -> Result<(), Stop> {
+    fn created(&mut self, (endpoint, refused): (E, Option<u8>)) -> Result<String, No> {
+        self.row = Row::default();
+        self.endpoint = Some(endpoint);
+        match refused {
+            Some(number) => Err(No::Refused(number)),
+            None => self.answer("- - -", &[], false),
+        }
+    }
+
+    fn complete(&mut self, status: Option<Status>, length: u64) -> Result<String, No> {
+        let (lent, data) = (self.buffers, device_data(length));
         let endpoint = self.endpoint()?;
-        if endpoint.held() == MAX_HELD {
-            return Err(Stop::BadLine);
-        }
-        if trb.length > MAX_TRB_LENGTH {
-            return Err(Stop::Unasked("the Rust decodes no such length".to_string()));
-        }
-        let no_place = |_| Stop::Unasked("the Rust cannot hold this TRB in this state".to_string());
-        endpoint.hold(trb).map_err(no_place)
-    }
-
-    fn submit(&mut self, trb: &Trb) -> Result<(), Stop> {
-        let endpoint = self.endpoint.as_mut().ok_or(Stop::BadLine)?;
-        asked(questions::of_submission(endpoint, trb, self.buffers, &self.memory))?;
-        endpoint.submit(trb);
-        Ok(())
-    }
-
-    /// The Rust's own parser decodes the TRB.
-    fn submit_raw(&mut self, raw: RawTrb) -> Result<(), Stop> {
-        let endpoint = self.endpoint.as_mut().ok_or(Stop::BadLine)?;
-        if has_reserved_bit(&raw.buffer) {
-            return Err(Stop::Unasked("the Rust asks no reserved bit".to_string()));
-        }
-        asked(questions::of_submission(endpoint, &parsed(&raw), self.buffers, &self.memory))?;
-        endpoint.submit_raw(raw);
-        Ok(())
-    }
-
-    fn complete(&mut self, status: Option<Status>, length: u64) -> Result<String, Stop> {
-        let endpoint = self.endpoint.as_mut().ok_or(Stop::BadLine)?;
-        let data = device_data(length);
-        let result = match (status, &endpoint) {
-            (None, _) => None,
-            (Some(status), Endpoint::In(_)) => Some(in_result(status, data.clone()).ok_or(Stop::BadLine)?),
-            (Some(status), Endpoint::Control(_)) => Some(control_result(status, data.clone())),
+        let result = match status {
+            None => None,
+            Some(status) if endpoint.is_control() => Some(control_result(status, data.clone())),
+            Some(status) => Some(in_result(status, data.clone()).ok_or(Stop::BadLine)?),
         };
-        asked(questions::of_completion(endpoint, result.is_some(), self.buffers))?;
-        if let Some(result) = result {
-            self.device.script(result);
-        }
-        let fields = ResultFields(endpoint.complete());
-        let effects = self.effects.take();
-        let writes = effects.iter().filter_map(|effect| match effect {
-            Effect::Write { address, bytes } => Some((*address, &bytes[..])),
-            _ => None,
-        });
-        let carried_out = self.memory.carry_out(writes);
-        self.answer(&fields.to_string(), &effects, &data, &format!("out {carried_out}\n"))
+        let fields = ResultFields(endpoint.complete(result, &data, lent)?);
+        self.answer(&fields.to_string(), &data, true)
     }
 
     /// The row that is being written down, on an IN endpoint.
     fn row_of_in(&mut self) -> Result<&mut Row, Stop> {
-        match self.endpoint {
-            Some(Endpoint::In(_)) => Ok(&mut self.row),
-            _ => Err(Stop::BadLine),
-        }
+        self.endpoint_of(false)?;
+        Ok(&mut self.row)
     }
 
-    /// The Rust has no rows: each TD is submitted TRB by TRB and completed, until one fails. What they did is joined.
-    fn complete_row(&mut self, length: u64) -> Result<String, Stop> {
+    /// A row by single calls, as the Rust has no rows: each TD is submitted TRB by TRB and completed, until one fails. What they did is
+    /// joined.
+    fn complete_row(&mut self, length: u64) -> Result<String, No> {
         let row = std::mem::take(self.row_of_in()?);
-        let endpoint = self.endpoint.as_mut().ok_or(Stop::BadLine)?;
-        asked(questions::of_row(endpoint, &row, length, self.buffers, &self.memory))?;
+        let (lent, memory) = (self.buffers, self.connections.memory.clone());
+        asked(questions::of_row(self.endpoint()?, &row, length, lent, &memory))?;
         let data = device_data(length);
         let mut joined: Vec<Record> = vec![];
-        let mut effects: Vec<Effect> = vec![];
         let mut result = ResultFields::OK;
         let (mut finished, mut start) = (0, 0);
         for (trbs, (status, given)) in row.tds().into_iter().zip(&row.results) {
             let own = &data[start..start + *given as usize];
-            let (fields, own_effects, own_records) = self.complete_td(trbs, *status, own)?;
+            let (fields, own_records) = self.complete_td(trbs, *status, own)?;
             joined.extend(own_records.into_iter().map(|record| record.moved_by(start)));
-            effects.extend(own_effects);
             start += own.len();
             result = fields;
             if !result.is_ok() || (self.is_strict && *status != Status::Success) {
@@ -289,49 +261,41 @@ impl Driver {
             }
             finished += 1;
         }
-        let writes = effects.iter().filter_map(|effect| match effect {
-            Effect::Write { address, bytes } => Some((*address, &bytes[..])),
-            _ => None,
-        });
-        let carried_out = self.memory.carry_out(writes);
-        let lines: String = joined.iter().map(|record| format!("{record}\n")).collect();
-        let state = self.endpoint()?.state_line();
-        Ok(format!("ok {} {result} {finished}\n{lines}out {carried_out}\n{state}\n", joined.len()))
+        let endpoint = self.endpoint()?;
+        let carried_out = endpoint.carry_out(&joined, &data);
+        let state = endpoint.state_line();
+        Ok(format!("ok {} {result} {finished}\n{}out {carried_out}\n{state}\n", joined.len(), lines_of(&joined)))
     }
 
-    /// One TD by single calls.
-    fn complete_td(&mut self, trbs: &[Trb], status: Status, data: &[u8]) -> Result<(ResultFields, Vec<Effect>, Vec<Record>), Stop> {
-        let endpoint = self.endpoint.as_mut().ok_or(Stop::BadLine)?;
+    /// One TD by single calls, which are accepted where the row is.
+    fn complete_td(&mut self, trbs: &[Trb], status: Status, data: &[u8]) -> Result<(ResultFields, Vec<Record>), No> {
+        let (lent, effects) = (self.buffers, self.effects.clone());
+        let endpoint = self.endpoint()?;
         let (last, chained) = trbs.split_last().ok_or(Stop::BadLine)?;
         for trb in chained {
-            endpoint.submit(trb);
-            endpoint.complete();
+            endpoint.submit(trb, lent)?;
+            endpoint.complete(None, &[], lent)?;
         }
-        endpoint.submit(last);
-        let (id, slot) = endpoint.ids();
-        let first_address = endpoint.first_address();
-        if trbs.iter().any(|trb| trb.kind == Kind::Normal) {
-            self.device.script(in_result(status, data.to_vec()).ok_or(Stop::BadLine)?);
-        }
-        let result = ResultFields(endpoint.complete());
-        let effects = self.effects.take();
-        let records = records(&effects, &Surroundings { endpoint: id, slot, first_address, data });
-        Ok((result, effects, records))
+        endpoint.submit(last, lent)?;
+        let is_asked = trbs.iter().any(|trb| trb.kind == Kind::Normal);
+        let result = in_result(status, data.to_vec()).filter(|_| is_asked);
+        // Before the completion: the Rust names a TD by the first TRB that it holds.
+        let mut records = endpoint.records(&effects.take(), data);
+        let result = ResultFields(endpoint.complete(result, data, lent)?);
+        records.extend(endpoint.records(&effects.take(), data));
+        Ok((result, records))
     }
 
-    /// The answer of a call that is no completion.
-    fn answer_quietly(&mut self) -> Result<String, Stop> {
+    /// The answer of an accepted call; a completion is carried out.
+    fn answer(&mut self, result: &str, data: &[u8], is_completion: bool) -> Result<String, No> {
         let effects = self.effects.take();
-        self.answer("- - -", &effects, &[], "")
+        let endpoint = self.endpoint()?;
+        let records = endpoint.records(&effects, data);
+        let out = if is_completion { format!("out {}\n", endpoint.carry_out(&records, data)) } else { String::new() };
+        Ok(format!("ok {} {result}\n{}{out}{}\n", records.len(), lines_of(&records), endpoint.state_line()))
     }
+}
 
-    fn answer(&mut self, result: &str, effects: &[Effect], data: &[u8], out: &str) -> Result<String, Stop> {
-        let endpoint_of_call = self.endpoint()?;
-        let (endpoint, slot) = endpoint_of_call.ids();
-        let first_address = endpoint_of_call.first_address();
-        let records = records(effects, &Surroundings { endpoint, slot, first_address, data });
-        let record_lines: String = records.iter().map(|record| format!("{record}\n")).collect();
-        let state = endpoint_of_call.state_line();
-        Ok(format!("ok {} {result}\n{record_lines}{out}{state}\n", records.len()))
-    }
+fn lines_of(records: &[Record]) -> String {
+    records.iter().map(|record| format!("{record}\n")).collect()
 }

@@ -10,7 +10,6 @@ use std::{
 use crate::{
     call::{Captured, Trb},
     device::{
-        bus::BusDeviceRef,
         pcap::EndpointPcapMeta,
         xhci::{
             endpoint_handle::{
@@ -19,10 +18,10 @@ use crate::{
                 TrbProcessingResult,
             },
             hotplug_endpoint_handle::BaseEndpointHandle,
-            interrupter::EventSender,
             trb::RawTrb,
         },
     },
+    engine::Connections,
     raw_trb::encode,
     record::request_bytes,
     scripted_device::ScriptedDevice,
@@ -49,14 +48,6 @@ fn completed<T>(future: impl Future<Output = anyhow::Result<T>>) -> T {
         Poll::Ready(answer) => answer.expect("the Rust reports no error of its own"),
         Poll::Pending => unreachable!("the scripted device answers at once"),
     }
-}
-
-/// What every endpoint is connected to.
-#[derive(Clone)]
-pub struct Connections {
-    pub device: ScriptedDevice,
-    pub memory: BusDeviceRef,
-    pub events: EventSender,
 }
 
 fn in_meta(endpoint: u8, captured: Captured) -> EndpointPcapMeta {
@@ -238,8 +229,8 @@ impl Control {
     }
 }
 
-/// The sum of (k + 1) times byte k, modulo 2^32.
-fn weighted_sum(bytes: &[u8]) -> u32 {
+/// SUM of a state line: the sum of (k + 1) times byte k, modulo 2^32.
+pub fn weighted_sum(bytes: &[u8]) -> u32 {
     let weighted = bytes.iter().zip(1u32..).map(|(byte, weight)| weight.wrapping_mul(u32::from(*byte)));
     weighted.fold(0, u32::wrapping_add)
 }

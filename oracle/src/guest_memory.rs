@@ -72,6 +72,13 @@ impl GuestMemory {
         self.memories.lock().unwrap().part(address, length).is_some()
     }
 
+    /// Lends both regions: base and bytes of the low one, base and bytes of the high one.
+    pub fn lend<T>(&self, call: impl FnOnce([(u64, &mut [u8]); 2]) -> T) -> T {
+        let mut memories = self.memories.lock().unwrap();
+        let Memories { low, high } = &mut *memories;
+        call([low, high].map(|memory| (memory.region.base, &mut memory.bytes[..])))
+    }
+
     /// Performs the writes, or none of them if the regions share an address or a write of nonzero length lies outside both. The
     /// number of the question answered with no, or 0.
     pub fn carry_out<'a>(&self, writes: impl Iterator<Item = (u64, &'a [u8])> + Clone) -> u8 {

@@ -1,5 +1,6 @@
 //! The control and IN endpoints of usbvfiod, unchanged, behind a driver for call scripts.
 
+pub mod asked_rust;
 pub mod call;
 pub mod captured;
 pub mod compare;
@@ -8,9 +9,11 @@ pub mod device;
 pub mod driver;
 pub mod effects;
 pub mod endpoint;
+pub mod engine;
 pub mod exhaustive;
 pub mod generate;
 pub mod guest_memory;
+pub mod lists;
 pub mod model;
 pub mod questions;
 pub mod random;

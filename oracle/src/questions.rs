@@ -8,6 +8,7 @@ use crate::{
         ControlTransferState,
     },
     endpoint::{Control, Endpoint, In},
+    engine::Engine,
     guest_memory::GuestMemory,
     row::Row,
 };
@@ -40,14 +41,14 @@ pub fn of_creation(endpoint: u8, slot: u8) -> Option<u8> {
 }
 
 /// Ids, kinds, lengths and counts are sound by what the driver lets in; this is what is left of question 2.
-fn is_sound(endpoint: &mut Endpoint) -> bool {
+pub fn is_sound(endpoint: &mut Endpoint) -> bool {
     match endpoint {
         Endpoint::In(In { handle, .. }) => handle.state() != InState::AwaitingRealTransfer || handle.holds_normal(),
         Endpoint::Control(_) => true,
     }
 }
 
-fn submission_is_due(endpoint: &Endpoint) -> bool {
+pub fn submission_is_due(endpoint: &Endpoint) -> bool {
     match endpoint {
         Endpoint::In(In { submission_due, .. }) => *submission_due,
         Endpoint::Control(Control { handle }) => handle.state() == ControlState::NoTrbSubmitted,
@@ -144,7 +145,13 @@ fn is_shaped(row: &Row, data_length: u64) -> bool {
 }
 
 /// A script's data is shorter than question 9 asks.
-pub fn of_row(endpoint: &mut Endpoint, row: &Row, data_length: u64, buffers: Buffers, memory: &GuestMemory) -> Option<u8> {
+pub fn of_row(
+    endpoint: &mut impl Engine,
+    row: &Row,
+    data_length: u64,
+    buffers: Buffers,
+    memory: &GuestMemory,
+) -> Option<u8> {
     let of_trb = |trb: &Trb| {
         let holds_data = trb.kind.has_length();
         first_no(&[
@@ -156,8 +163,8 @@ pub fn of_row(endpoint: &mut Endpoint, row: &Row, data_length: u64, buffers: Buf
     first_no(&[
         (1, buffers.log >= MIN_ROW_LOG),
         (13, !memory.share_an_address()),
-        (2, is_sound(endpoint)),
-        (3, submission_is_due(endpoint) && endpoint.held() == 0),
+        (2, endpoint.is_sound()),
+        (3, endpoint.submission_is_due() && endpoint.held() == 0),
         (15, is_shaped(row, data_length)),
     ])
     .or_else(|| row.trbs.iter().find_map(of_trb))

@@ -7,7 +7,7 @@ use crate::{
     effects::Effect,
 };
 
-#[derive(Debug, Default)]
+#[derive(Debug, Default, Clone, PartialEq, Eq)]
 pub struct Record {
     kind: u8,
     code: u8,
@@ -28,7 +28,43 @@ impl Display for Record {
     }
 }
 
+/// Bytes of a record in a log.
+pub const RECORD_LENGTH: usize = 32;
+
 impl Record {
+    /// The record that 32 bytes of a log are.
+    pub fn of(bytes: &[u8; RECORD_LENGTH]) -> Self {
+        let number = |at: usize| u32::from_le_bytes(bytes[at..at + 4].try_into().unwrap());
+        let record = Self {
+            kind: bytes[0],
+            code: bytes[1],
+            event_data: bytes[2],
+            endpoint: bytes[3],
+            slot: bytes[4],
+            address: u64::from_le_bytes(bytes[8..16].try_into().unwrap()),
+            length: number(16),
+            start: number(20) as usize,
+            request: bytes[24..].try_into().unwrap(),
+        };
+        assert_eq!(record.bytes(), *bytes, "bytes 5 to 7 of a record are zero");
+        record
+    }
+
+    pub fn bytes(&self) -> [u8; RECORD_LENGTH] {
+        let mut bytes = [0; RECORD_LENGTH];
+        bytes[..5].copy_from_slice(&[self.kind, self.code, self.event_data, self.endpoint, self.slot]);
+        bytes[8..16].copy_from_slice(&self.address.to_le_bytes());
+        bytes[16..20].copy_from_slice(&self.length.to_le_bytes());
+        bytes[20..24].copy_from_slice(&(self.start as u32).to_le_bytes());
+        bytes[24..].copy_from_slice(&self.request);
+        bytes
+    }
+
+    /// The guest address of a write and its bytes, which are the device's.
+    pub fn write<'a>(&self, data: &'a [u8]) -> Option<(u64, &'a [u8])> {
+        (self.kind == 1).then(|| (self.address, &data[self.start..][..self.length as usize]))
+    }
+
     /// With its start, if it is a write's, moved by so many bytes.
     pub fn moved_by(self, bytes: usize) -> Self {
         let start = if self.kind == 1 { self.start + bytes } else { self.start };

@@ -1,5 +1,5 @@
-//! The work that is timed: the same calls, in the same order and with the same checksum, as the product's crates bench_calls
-//! and bench_by_reference. A TRB goes in as its 16 bytes, which `submit_trb` parses; the product takes it decoded.
+//! The work that is timed: the same calls, in the same order and with the same checksum, as the product's sides.
+//! A TRB goes in as its 16 bytes, which `submit_trb` parses.
 
 use std::{
     future::Future,
@@ -131,7 +131,7 @@ pub fn control_transfer(data: &'static [u8], length: u32, repeats: u32) -> u64 {
     (0..repeats).map(|_| run_td(&mut endpoint, &records, 3, true, stage)).sum()
 }
 
-/// Parses a row of raw TRBs, 16 bytes each, and sums what `bench_raw` sums.
+/// Parses a row of raw TRBs, 16 bytes each, and sums what the product's side sums.
 pub fn parse(trbs: &[u8], repeats: u32) -> u64 {
     let mut sum = 0u64;
     for _ in 0..repeats {

@@ -13,7 +13,7 @@ use Rattle.answer_numbers.specs.declared.CompletionAnswered.{CompletionA
 
 -- the number of the answer, and of its records
 abbrev pub answeredAs : Answer → ℕ → Answered
-answeredAs a n = record { number = numberOf a; records = n }
+answeredAs a n = record { number = numberOf a; count = n }
 
 abbrev pub flagNumber : Bool → ℕ
 flagNumber on = cond on 1 0

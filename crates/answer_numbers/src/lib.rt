@@ -1,4 +1,4 @@
-// What the exported endpoint calls answer: the cases of an answer as plain numbers, in structs that C has too.
+// What the exported calls answer: the cases of an answer as plain numbers, in structs that C has too.
 use trb::Answer;
 use trb::CompletionAnswer;
 use trb::CompletionCode;
@@ -7,11 +7,11 @@ ghost use mathlib.Core.Path.{_≡_};
 ghost use Rattle.trb.specs.Answers.{numberOf};
 ghost use Rattle.answer_numbers.specs.Numbers.{answeredAs, flagNumber, plain, located, completedWith, completionAnswered};
 
-// What creation, submission and cancel answer: the number of the question that said no, or 0, and how many records were logged.
+// What a call answers: the number of the question that said no, or 0, and how many records or bytes it made.
 #[repr(C)]
 pub struct Answered {
     pub number: u32,
-    pub records: usize,
+    pub count: usize,
 }
 
 // What a completion answers: the number of the question that said no, or 0; the result (0 Ok, 1 Stall, 2 transaction error, 3
@@ -28,7 +28,7 @@ pub struct CompletionAnswered {
     pub address: u64,
 }
 
-fn number_of(answer: Answer) -> u8
+pub fn number_of(answer: Answer) -> u8
     ensures { λ r. ⌜ r ≡ numberOf answer ⌝ }
 {
     match answer {
@@ -42,7 +42,7 @@ pub fn answered_as(answer: Answer, records: usize) -> Answered
 {
     Answered {
         number: number_of(answer) as u32,
-        records: records,
+        count: records,
     }
 }
 

@@ -39,7 +39,7 @@ pub extern "C" fn bench_calls_in_by_value(
             let ends = next == trbs;
             let t = bench_work::normal_at(i, pointer, transfer_length, !ends);
             pointer = std::num::wrapping_add_u64(pointer, transfer_length as u64);
-            let submitted = in_endpoint::submit_trb(
+            let submitted = in_submission::submit_trb(
                 log,
                 block,
                 t,
@@ -55,7 +55,7 @@ pub extern "C" fn bench_calls_in_by_value(
                 block = in_endpoint::cancel(block);
             } else {
                 let result = bench_work::result_at(ends, status);
-                let completed = in_endpoint::next_completion(log, block, result, data);
+                let completed = in_completion::next_completion(log, block, result, data);
                 let completion = completed.answer;
                 sum = std::num::wrapping_add_u64(
                     sum,
@@ -145,7 +145,7 @@ pub extern "C" fn bench_calls_control(
         let mut i = 0;
         while i < 3 {
             let t = stage_at(i, transfer_length);
-            let submitted = control_endpoint::submit_trb(
+            let submitted = control_submission::submit_trb(
                 log,
                 collect,
                 block,
@@ -159,7 +159,7 @@ pub extern "C" fn bench_calls_control(
             sum = std::num::wrapping_add_u64(sum, bench_work::sum_of(answer, submitted.records));
             block = submitted.block;
             let result = control_result_at(i == 2);
-            let completed = control_endpoint::next_completion(log, block, result, data);
+            let completed = control_completion::next_completion(log, block, result, data);
             let completion = completed.answer;
             sum = std::num::wrapping_add_u64(
                 sum,
@@ -168,29 +168,6 @@ pub extern "C" fn bench_calls_control(
             block = completed.block;
             i += 1;
         }
-        k += 1;
-    }
-    sum
-}
-
-// ---- Carry-out
-
-// Carries out a log on two regions `repeats` times; how often it was accepted.
-#[no_mangle]
-pub extern "C" fn bench_calls_carry_out(
-    log: &[u8],
-    data: &[u8],
-    low_base: u64,
-    low: &mut [u8],
-    high_base: u64,
-    high: &mut [u8],
-    repeats: u32,
-) -> u64 {
-    let mut sum = 0;
-    let mut k = 0;
-    while k < repeats {
-        let answer = carry_out::carry_out(log, data, low_base, low, high_base, high);
-        sum = std::num::wrapping_add_u64(sum, bench_work::sum_of(answer, 1));
         k += 1;
     }
     sum

@@ -41,7 +41,7 @@ pub fn in_submit_trb(
 ) -> SubmissionOutcome
     ensures { λ r. ⌜ SubmitsIn (now (block .entry)) t (guestRegions «low_base» (length (now (low .entry))) «high_base» (length (now (high .entry)))) (now (log .entry)) (submittedIn r (now (block .exit))) (now (log .exit)) ⌝ }
 {
-    let r = in_endpoint::submit_trb(log, *block, t, low_base, low, high_base, high);
+    let r = in_submission::submit_trb(log, *block, t, low_base, low, high_base, high);
     *block = r.block;
     SubmissionOutcome {
         answer: r.answer,
@@ -57,7 +57,7 @@ pub fn in_next_completion(
 ) -> CompletionOutcome
     ensures { λ r. ⌜ CompletesIn (now (block .entry)) result (length (now («data» .entry))) (now (log .entry)) (completedIn r (now (block .exit))) (now (log .exit)) ⌝ }
 {
-    let r = in_endpoint::next_completion(log, *block, result, data);
+    let r = in_completion::next_completion(log, *block, result, data);
     *block = r.block;
     CompletionOutcome {
         answer: r.answer,
@@ -85,7 +85,7 @@ pub fn control_submit_trb<'a>(
 ) -> SubmissionOutcome
     ensures { λ r. ⌜ SubmitsControl (now (block .entry)) t (memoryOf «low_base» (now (low .entry)) «high_base» (now (high .entry))) (now (log .entry)) (now (collect .entry)) (submittedControl r (now (block .exit))) (now (log .exit)) (now (collect .exit)) ⌝ }
 {
-    let r = control_endpoint::submit_trb(log, collect, *block, t, low_base, low, high_base, high);
+    let r = control_submission::submit_trb(log, collect, *block, t, low_base, low, high_base, high);
     *block = r.block;
     SubmissionOutcome {
         answer: r.answer,
@@ -101,7 +101,7 @@ pub fn control_next_completion(
 ) -> CompletionOutcome
     ensures { λ r. ⌜ CompletesControl (now (block .entry)) result (length (now («data» .entry))) (now (log .entry)) (completedControl r (now (block .exit))) (now (log .exit)) ⌝ }
 {
-    let r = control_endpoint::next_completion(log, *block, result, data);
+    let r = control_completion::next_completion(log, *block, result, data);
     *block = r.block;
     CompletionOutcome {
         answer: r.answer,

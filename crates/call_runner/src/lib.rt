@@ -48,8 +48,7 @@ fn run_line(
 {
     let before = progress.session;
     let at = script_lines::make_room(text, progress.end, state_text::MAX_ANSWER);
-    let call = call_script::read_call(line);
-    let ran = session::run_call(text, at, before, call, log, collect, data, low, high);
+    let ran = script_run::take_line(text, at, before, line, log, collect, data, low, high);
     let after = ran.session;
     Progress {
         session: after,

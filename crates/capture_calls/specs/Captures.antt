@@ -28,16 +28,18 @@ writerCall c NoRecord payload = []
 writerCall c (Event e) payload =
     record { device = c .device; seconds = c .seconds; microseconds = c .microseconds; event = e; payload = payload } ∷ []
 
+-- the requests among these records, each with this payload; a record of another kind gives none
+abbrev pub requestCaptures : Captured → (Record → CallRecord) → List ℕ → List Record → List CaptureCall
+requestCaptures c event payload [] = []
+requestCaptures c event payload (r ∷ rs) = writerCall c (event r) payload ++ requestCaptures c event payload rs
+
 -- an accepted submission that logged these records: its request, if there is one
 abbrev pub inSubmissionCapture : Captured → InPipe → List Record → List CaptureCall
-inSubmissionCapture c p [] = []
-inSubmissionCapture c p (r ∷ rs) = writerCall c (inRequestEvent p r) [] ++ inSubmissionCapture c p rs
+inSubmissionCapture c p rs = requestCaptures c (inRequestEvent p) [] rs
 
 -- the same on control: its payload is what the block has collected, of which an IN transfer's record carries nothing
 abbrev pub controlSubmissionCapture : Captured → List Record → ControlBlock → List ℕ → List CaptureCall
-controlSubmissionCapture c [] after collect = []
-controlSubmissionCapture c (r ∷ rs) after collect =
-    writerCall c (controlRequestEvent r) (take (after .collected) collect) ++ controlSubmissionCapture c rs after collect
+controlSubmissionCapture c rs after collect = requestCaptures c controlRequestEvent (take (after .collected) collect) rs
 
 -- the identifier of an IN completion: the address of the TD's first TRB
 abbrev pub firstAddress : List TransferTrb → ℕ

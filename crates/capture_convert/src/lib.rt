@@ -67,7 +67,7 @@ fn write_records(records: &[u8], from: usize, to: usize, dst: &mut [u8])
     while at < records.len() {
         let rest = &records[at..];
         let size = write_record(rest, from, to, dst, out);
-        at += capture_file::record_size(rest);
+        at += capture_tests::record_size(rest);
         out += size;
     }
 }
@@ -98,8 +98,8 @@ fn write_file(src: &[u8], dst: &mut [u8])
     buffers::copy_into(dst, 0, &cells);
     write_records(
         &src[24..],
-        capture_file::extra_of(link),
-        capture_file::extra_of(other),
+        capture_tests::extra_of(link),
+        capture_tests::extra_of(other),
         dst,
     );
 }
@@ -121,7 +121,7 @@ fn resized_length(length: usize, records: usize, link: u32) -> usize
 pub fn converted_length(src: &[u8]) -> CaptureAnswer
     ensures { λ r. ⌜ Measures (now (src .entry)) r ⌝ }
 {
-    let survey = capture_file::survey_file(src, ADDED_LENGTH);
+    let survey = capture_survey::survey_file(src, ADDED_LENGTH);
     if !survey.whole {
         return CaptureAnswer::Refused(Refusal::NotACapture);
     }

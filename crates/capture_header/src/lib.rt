@@ -175,7 +175,7 @@ pub fn made_again(seconds: u32, microseconds: u32, header: UsbHeader) -> UsbHead
         bus_number: header.bus_number,
         device_address: header.device_address,
     };
-    capture_record::header_of(
+    event_header::header_of(
         device,
         seconds,
         microseconds,

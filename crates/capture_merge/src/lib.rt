@@ -25,7 +25,7 @@ fn second_next(l: &[u8], m: &[u8]) -> bool
     if l.len() == 0 {
         return true;
     }
-    capture_file::is_before(
+    capture_tests::is_before(
         buffers::le32(m, 0),
         buffers::le32(m, 4),
         buffers::le32(l, 0),
@@ -38,7 +38,7 @@ fn copy_record(rest: &[u8], dst: &mut [u8], out: usize) -> usize
     requires { ⌜ (12 ≤ length (now rest)) × (16 + capturedAt (now rest) ≤ length (now rest)) × (out + (16 + capturedAt (now rest)) ≤ length (now dst)) ⌝ }
     ensures { λ r. ⌜ (r ≡ 16 + capturedAt (now (rest .entry))) × (now (dst .exit) ≡ patch (now (dst .entry)) out (take (16 + capturedAt (now (rest .entry))) (now (rest .entry)))) ⌝ }
 {
-    let size = capture_file::record_size(rest);
+    let size = capture_tests::record_size(rest);
     buffers::copy_into(dst, out, &rest[..size]);
     size
 }
@@ -76,18 +76,18 @@ fn write_merged(a: &[u8], b: &[u8], dst: &mut [u8])
     let snap = larger(buffers::le32(a, 16), buffers::le32(b, 16));
     let cells = capture_file::file_head(buffers::le32(a, 8), buffers::le32(a, 12), snap, link);
     buffers::copy_into(dst, 0, &cells);
-    merge_records(&a[24..], &b[24..], capture_file::extra_of(link), dst);
+    merge_records(&a[24..], &b[24..], capture_tests::extra_of(link), dst);
 }
 
 // The length of two captures made one, or why they cannot be: 17, 19, 20. One pass over each.
 pub fn merged_length(a: &[u8], b: &[u8]) -> CaptureAnswer
     ensures { λ r. ⌜ Measures (now (a .entry)) (now (b .entry)) r ⌝ }
 {
-    let first = capture_file::survey_file(a, NO_GROWTH);
+    let first = capture_survey::survey_file(a, NO_GROWTH);
     if !first.whole {
         return CaptureAnswer::Refused(Refusal::NotACapture);
     }
-    let second = capture_file::survey_file(b, NO_GROWTH);
+    let second = capture_survey::survey_file(b, NO_GROWTH);
     if !second.whole {
         return CaptureAnswer::Refused(Refusal::NotACapture);
     }

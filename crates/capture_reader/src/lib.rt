@@ -59,7 +59,7 @@ fn is_made(rest: &[u8]) -> bool
 fn is_record(rest: &[u8]) -> bool
     ensures { λ r. ⌜ r ≡ madeRecord (now (rest .entry)) ⌝ }
 {
-    if !capture_file::whole_record(rest, 0, capture_record::SNAP_LENGTH) {
+    if !capture_tests::whole_record(rest, 0, capture_record::SNAP_LENGTH) {
         return false;
     }
     is_made(rest)
@@ -86,7 +86,7 @@ fn count_records(records: &[u8]) -> CaptureCount
             return count_refused();
         }
         count += 1;
-        at += capture_file::record_size(rest);
+        at += capture_tests::record_size(rest);
     }
     CaptureCount {
         number: 0,

@@ -6,6 +6,7 @@ use capture_record::UsbDevice;
 use captured_calls::Setting;
 use control_block::ControlBlock;
 use in_block::InBlock;
+use libc::STDOUT_FILENO;
 use script_lines::Found;
 use script_lines::Step;
 use session::Endpoint;
@@ -18,11 +19,22 @@ ghost use lib.ListN.{length};
 ghost use Rattle.trb.specs.Limits.{minRowLog};
 ghost use Rattle.script_lines.specs.Steps.{Stepped};
 ghost use Rattle.state_text.specs.Widths.{maxAnswer};
+ghost use Rattle.capture_runner.specs.Settings.{isInterrupt, firstSetting};
+
+// ---- Bytes out
+
+// Writes the first `length` bytes out, or as many as there are.
+fn write_out(output: &[u8], length: usize) {
+    let end = call_script::least(length, output.len());
+    io::write_all(STDOUT_FILENO, &output[..end]);
+}
 
 // ---- What captures say
 
 // Until a script says otherwise.
-fn first_setting() -> Setting {
+fn first_setting() -> Setting
+    ensures { λ r. ⌜ r ≡ firstSetting ⌝ }
+{
     let device = UsbDevice {
         bus_number: 1,
         device_address: 1,
@@ -35,7 +47,9 @@ fn first_setting() -> Setting {
     }
 }
 
-fn is_interrupt(transfer_type: InTransferType) -> bool {
+fn is_interrupt(transfer_type: InTransferType) -> bool
+    ensures { λ r. ⌜ r ≡ isInterrupt «transfer_type» ⌝ }
+{
     match transfer_type {
         InTransferType::Interrupt => true,
         InTransferType::Bulk => false,
@@ -80,21 +94,21 @@ fn put_in_call(
     log: &[u8],
     records: usize,
     data: &[u8],
-) {
+) -> usize {
     let endpoint_id = before.endpoint_id;
     let state = before.state;
     let trbs = before.trbs;
     let first = trbs[0];
     if let Call::Submit(_) = call {
-        captured_calls::put_in_submission(output, setting, endpoint_id, log, records);
-        return;
+        return captured_calls::put_in_submission(output, 0, setting, endpoint_id, log, records);
     }
     if let Call::CompleteWithResult(status, bytes) = call {
         let state_after = after.state;
         if in_block::submission_due(state_after) {
             let given = call_script::least(bytes, data.len());
-            captured_calls::put_in_completion(
+            return captured_calls::put_in_completion(
                 output,
+                0,
                 setting,
                 endpoint_id,
                 state,
@@ -104,6 +118,7 @@ fn put_in_call(
             );
         }
     }
+    0
 }
 
 fn put_control_completion(
@@ -113,13 +128,14 @@ fn put_control_completion(
     after: ControlBlock,
     result: ControlRequestProcessingResult,
     data: &[u8],
-) {
+) -> usize {
     let state = before.state;
     let request = before.request;
     let state_after = after.state;
     if control_block::submission_due(state_after) {
-        captured_calls::put_control_completion(
+        return captured_calls::put_control_completion(
             output,
+            0,
             setting,
             state,
             before.direction,
@@ -129,6 +145,7 @@ fn put_control_completion(
             data,
         );
     }
+    0
 }
 
 // On a control endpoint, likewise. A completion without a device result has a record where it reports a TRB.
@@ -142,28 +159,28 @@ fn put_control_call(
     records: usize,
     collect: &[u8],
     data: &[u8],
-) {
+) -> usize {
     if let Call::Submit(_) = call {
         let collected = call_script::least(after.collected, collect.len());
-        captured_calls::put_control_submission(
+        return captured_calls::put_control_submission(
             output,
+            0,
             setting,
             log,
             records,
             &collect[..collected],
         );
-        return;
     }
     if let Call::CompleteWithResult(status, bytes) = call {
         let given = call_script::least(bytes, data.len());
         let result = control_calls::result_of(status);
-        put_control_completion(output, setting, before, after, result, &data[..given]);
-        return;
+        return put_control_completion(output, setting, before, after, result, &data[..given]);
     }
     if let Call::CompleteWithout(_) = call {
         let result = ControlRequestProcessingResult::NoneGiven;
-        put_control_completion(output, setting, before, after, result, &[]);
+        return put_control_completion(output, setting, before, after, result, &[]);
     }
+    0
 }
 
 // A row on an IN endpoint, as it was written down before the call.
@@ -175,7 +192,7 @@ fn put_row(
     log: &[u8],
     records: usize,
     data: &[u8],
-) {
+) -> usize {
     let block = before.in_block;
     let endpoint_id = block.endpoint_id;
     let row = before.row;
@@ -183,6 +200,7 @@ fn put_row(
     let given = call_script::least(bytes, data.len());
     captured_calls::put_row(
         output,
+        0,
         setting,
         endpoint_id,
         row,
@@ -191,10 +209,10 @@ fn put_row(
         log,
         records,
         &data[..given],
-    );
+    )
 }
 
-// On the endpoint that there is, from the sessions before and behind the call.
+// On the endpoint that there is, from the sessions before and behind the call: the records lie at the buffer's start. Returns the index behind them.
 fn put_call(
     output: &mut [u8],
     setting: Setting,
@@ -205,14 +223,13 @@ fn put_call(
     records: usize,
     collect: &[u8],
     data: &[u8],
-) {
+) -> usize {
     let endpoint = after.endpoint;
     if let Call::CompleteRow(bytes) = call {
-        put_row(output, setting, before, bytes, log, records, data);
-        return;
+        return put_row(output, setting, before, bytes, log, records, data);
     }
     match endpoint {
-        Endpoint::Nothing => {}
+        Endpoint::Nothing => 0,
         Endpoint::In => {
             let block = before.in_block;
             let block_after = after.in_block;
@@ -225,7 +242,7 @@ fn put_call(
                 log,
                 records,
                 data,
-            );
+            )
         }
         Endpoint::Control => {
             let block = before.control_block;
@@ -240,7 +257,7 @@ fn put_call(
                 records,
                 collect,
                 data,
-            );
+            )
         }
     }
 }
@@ -293,9 +310,9 @@ fn run_call(
     requires { ⌜ length (now log) ≤ minRowLog ⌝ }
 {
     if high_is_longer(session, call) {
-        return session::run_call(text, 0, session, call, log, collect, data, shorter, longer);
+        return session_calls::run_call(text, 0, session, call, log, collect, data, shorter, longer);
     }
-    session::run_call(text, 0, session, call, log, collect, data, longer, shorter)
+    session_calls::run_call(text, 0, session, call, log, collect, data, longer, shorter)
 }
 
 // Takes one line, which comes without its line feed, and writes the records of its call. A bad line has none, and ends the run.
@@ -319,7 +336,7 @@ fn run_line(
     let ran = run_call(text, before, call, log, collect, data, longer, shorter);
     let after = ran.session;
     let next = setting_after(setting, call);
-    put_call(
+    let end = put_call(
         output,
         setting,
         before,
@@ -330,6 +347,7 @@ fn run_line(
         collect,
         data,
     );
+    write_out(output, end);
     Progress {
         session: after,
         setting: next,
@@ -427,8 +445,8 @@ fn shorter_region_buffer() -> [u8; SHORTER_REGION] {
     [0u8; SHORTER_REGION]
 }
 
-// Bytes of the longest record: its two headers, and all of the device's data.
-const OUTPUT: usize = 64 + call_script::MAX_SCRIPT_DATA;
+// Bytes of the records of the longest row: two to a TRB, each with its two headers, and all of the device's data.
+const OUTPUT: usize = 2 * 64 * trb::MAX_ROW + call_script::MAX_SCRIPT_DATA;
 
 fn output_buffer() -> [u8; OUTPUT] {
     [0u8; OUTPUT]
@@ -446,7 +464,8 @@ pub fn run() {
     let mut data = call_runner::data_buffer();
     script_bytes::fill_device(&mut data);
     script_bytes::fill_guest(&mut longer, session::FIRST_BASE);
-    captured_calls::put_file_header(&mut output);
+    let header = capture_writer::write_file_header(&mut output);
+    write_out(&output, header.length);
     run_input(
         &mut output,
         &mut text,

@@ -73,7 +73,7 @@ fn put_record(output: &mut [u8], seconds: u32, microseconds: u32, header: UsbHea
 {
     let captured = (HEADER_LENGTH + payload.len()) as u32;
     let front = capture_file::record_head(seconds, microseconds, captured, captured);
-    let link = capture_record::header_bytes(header);
+    let link = header_bytes::header_bytes(header);
     buffers::copy_into(output, 0, &front);
     buffers::copy_into(output, 16, &link);
     buffers::copy_into(output, FRONT_LENGTH, payload);
@@ -102,7 +102,7 @@ pub fn write_record(
         return refused(OUTPUT_TOO_SHORT);
     }
     let count = (payload.len() % 4294967296) as u32;
-    let header = capture_record::header_of(device, seconds, microseconds, event, count);
+    let header = event_header::header_of(device, seconds, microseconds, event, count);
     put_record(output, seconds, microseconds, header, &payload[..delivered]);
     Written {
         number: 0,

@@ -130,7 +130,7 @@ fn submit<'a>(
     ensures { λ r. ⌜ RunsWith (submitCall block t lent (now (collect .entry)) (now (log .entry)) (memoryOf «low_base» (now (low .entry)) «high_base» (now (high .entry)))) (collectAfter block t lent (now (collect .entry)) (now (log .entry)) (memoryOf «low_base» (now (low .entry)) «high_base» (now (high .entry)))) (now (text .entry)) at r (now (text .exit)) (now (log .exit)) (now (collect .exit)) (memoryOf «low_base» (now (low .entry)) «high_base» (now (high .entry))) ⌝ }
 {
     let end = call_script::least(lent, collect.len());
-    let submitted = control_endpoint::submit_trb(
+    let submitted = control_submission::submit_trb(
         log,
         &mut collect[..end],
         block,
@@ -163,7 +163,7 @@ fn complete(
     requires { ⌜ length (now log) ≤ minRowLog ⌝ }
     ensures { λ r. ⌜ Runs (completeCall block result (now («data» .entry)) (now (collect .entry)) (now (log .entry)) (memoryOf «low_base» (now (low .entry)) «high_base» (now (high .entry)))) (now (text .entry)) at r (now (text .exit)) (now (log .exit)) (memoryOf «low_base» (now (low .exit)) «high_base» (now (high .exit))) ⌝ }
 {
-    let completed = control_endpoint::next_completion(log, block, result, data);
+    let completed = control_completion::next_completion(log, block, result, data);
     let answer = completed.answer;
     let after = completed.block;
     let next = call_answer::put_completion(

@@ -62,22 +62,23 @@ fn ask_submission(
     }
 }
 
-// What a TRB that no question refuses logs, collects and stores; returns how many records were logged.
+// What a TRB that no question refuses, given decoded and by numbers, logs, collects and stores; returns how many records were logged.
 fn accept_trb<'a>(
     log: &mut [u8],
     collect: &mut [u8],
     block: &mut [u8],
     outcome: Outcome,
+    t: TransferTrb,
     numbers: TrbNumbers,
     low_base: u64,
     low: &'a [u8],
     high_base: u64,
     high: &'a [u8],
 ) -> usize
+    requires { ⌜ t ≡ trbOf numbers ⌝ }
     requires { ⌜ Acceptable (now log) (now collect) (now block) (trbOf numbers) (memoryOf «low_base» (now low) «high_base» (now high)) outcome ⌝ }
     ensures { λ r. ⌜ Accepts (now (log .entry)) (now (collect .entry)) (now (block .entry)) (trbOf numbers) (memoryOf «low_base» (now (low .entry)) «high_base» (now (high .entry))) outcome r (now (log .exit)) (now (collect .exit)) (now (block .exit)) ⌝ }
 {
-    let t = held_bytes::trb_of(numbers);
     let variant = t.variant;
     let transfer = control_bytes::transfer(block);
     let records = control_places::log_submission(log, block, outcome);
@@ -92,7 +93,7 @@ fn accept_trb<'a>(
         high_base,
         high,
     );
-    control_stores::take_trb(block, outcome, numbers);
+    control_stores::take_trb(block, outcome, t, numbers);
     records
 }
 
@@ -131,6 +132,7 @@ fn submit<'a>(
                 collect,
                 block,
                 outcome,
+                t,
                 numbers,
                 low_base,
                 low,

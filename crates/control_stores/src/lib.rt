@@ -3,6 +3,7 @@ use control_block::Ending;
 use held_bytes::TrbNumbers;
 use phase_table::Outcome;
 use trb::ControlSubmissionState;
+use trb::TransferTrb;
 ghost use mathlib.Core.Path.{_≡_};
 ghost use mathlib.Core.Bool.{true};
 ghost use Prim.Native.Nat.{_-_, _≤_};
@@ -27,13 +28,12 @@ fn hold_trb(block: &mut [u8], outcome: Outcome, numbers: TrbNumbers, kept: usize
     kept
 }
 
-// What a TRB of this outcome makes of the block.
-pub fn take_trb(block: &mut [u8], outcome: Outcome, numbers: TrbNumbers)
-    requires { ⌜ (blockLength ≤ length (now block)) × ((blockOf (now block) .held ≤ maxHeld) × (blockOf (now block) .collected ≤ maxCollected)) ⌝ }
+// What a TRB of this outcome, given decoded and by numbers, makes of the block.
+pub fn take_trb(block: &mut [u8], outcome: Outcome, t: TransferTrb, numbers: TrbNumbers)
+    requires { ⌜ (blockLength ≤ length (now block)) × ((blockOf (now block) .held ≤ maxHeld) × ((blockOf (now block) .collected ≤ maxCollected) × (t ≡ trbOf numbers))) ⌝ }
     requires { ⌜ (holds outcome ≡ true → Holdable (blockOf (now block) .held - placesDropped (restarts outcome) (blockOf (now block) .held)) (trbOf numbers)) ⌝ }
     ensures { λ _. ⌜ Becomes (now (block .entry)) (blockAfter outcome (blockOf (now (block .entry))) (trbOf numbers)) (now (block .exit)) ⌝ }
 {
-    let t = held_bytes::trb_of(numbers);
     let variant = t.variant;
     let transfer = control_bytes::transfer(block);
     let held = control_bytes::held(block);

@@ -18,7 +18,7 @@ ghost use lib.ListN.{length, take};
 ghost use Rattle.trb.specs.Answers.{numberOf};
 ghost use Rattle.trb.specs.Limits.{recordLength};
 ghost use Rattle.trb.specs.Questions.{firstNo};
-ghost use Rattle.guest_memory.specs.Places.{memoryOf};
+ghost use Rattle.guest_memory.specs.Places.{memoryOf, rangeInside};
 ghost use Rattle.carry_out.specs.CarryOut.{Carried};
 ghost use Rattle.in_td.specs.Normals.{normalOf, lengthOf};
 ghost use Rattle.in_block.specs.Facts.{heldTest, awaitsDevice};
@@ -65,6 +65,20 @@ fn smaller(a: u32, b: u32) -> u32
     if a < b { a } else { b }
 }
 
+// How many bytes a TRB writes, where so many are left of the device's.
+pub fn bytes_taken(variant: TransferTrbVariant, left: u32) -> u32
+    ensures { λ r. ⌜ r ≡ min (lengthOf (normalOf variant)) left ⌝ }
+{
+    smaller(normal_length(variant), left)
+}
+
+// Does a TRB's write of so many bytes lie in one of the regions?
+pub fn write_inside(variant: TransferTrbVariant, count: u32, regions: Regions) -> bool
+    ensures { λ r. ⌜ r ≡ rangeInside regions (pointerOf (normalOf variant)) count ⌝ }
+{
+    guest_memory::range_inside(regions, normal_pointer(variant), count)
+}
+
 // Do the writes of the first `held` TRBs lie in one of the regions each, where the device has given so many bytes?
 fn writes_inside(
     trbs: [TransferTrb; trb::MAX_HELD],
@@ -80,8 +94,8 @@ fn writes_inside(
     while i < places {
         let one = trbs[i];
         let variant = one.variant;
-        let count = smaller(normal_length(variant), left);
-        if !guest_memory::range_inside(regions, normal_pointer(variant), count) {
+        let count = bytes_taken(variant, left);
+        if !write_inside(variant, count, regions) {
             return false;
         }
         left = left - count;
@@ -111,7 +125,7 @@ fn find_held(trbs: [TransferTrb; trb::MAX_HELD], held: usize) -> HeldTest
 }
 
 // How many of the device's bytes a completion writes: only where the device was awaited.
-fn bytes_given(state: TdBasedNormalSubmissionState, data_length: u32) -> u32
+pub fn bytes_given(state: TdBasedNormalSubmissionState, data_length: u32) -> u32
     ensures { λ r. ⌜ r ≡ cond (awaitsDevice state) «data_length» 0 ⌝ }
 {
     if in_block::awaits_device(state) {
@@ -204,7 +218,7 @@ pub fn complete_and_carry_out(
             block: block,
         };
     }
-    let done = in_endpoint::next_completion(log, block, result, data);
+    let done = in_completion::next_completion(log, block, result, data);
     let records = done.records;
     carry_out_first(log, records, data, low_base, low, high_base, high);
     done

@@ -105,12 +105,12 @@ fn held_variant(kind: u8, flags: u8, value: u64, transfer_length: u32) -> Transf
     })
 }
 
-// The TRB in place number i.
-pub fn trb_at(block: &[u8], i: usize) -> TransferTrb
-    requires { ⌜ headLength + placeLength * (i + 1) ≤ length (now block) ⌝ }
-    ensures { λ r. ⌜ r ≡ placeOf In (drop (headLength + placeLength * i) (now (block .entry))) ⌝ }
+// The TRB in the place that starts at `at`.
+pub fn trb_from(block: &[u8], at: usize) -> TransferTrb
+    requires { ⌜ at + placeLength ≤ length (now block) ⌝ }
+    ensures { λ r. ⌜ r ≡ placeOf In (drop at (now (block .entry))) ⌝ }
 {
-    let numbers = held_bytes::numbers_at(block, HEAD + held_bytes::PLACE * i);
+    let numbers = held_bytes::numbers_at(block, at);
     let flags = numbers.flags;
     let variant = held_variant(numbers.kind, flags, numbers.value, numbers.transfer_length);
     let cycle_bit = held_bytes::bit(flags, 1);
@@ -119,6 +119,14 @@ pub fn trb_at(block: &[u8], i: usize) -> TransferTrb
         addr: numbers.addr,
         cycle_bit: cycle_bit,
     }
+}
+
+// The TRB in place number i.
+pub fn trb_at(block: &[u8], i: usize) -> TransferTrb
+    requires { ⌜ headLength + placeLength * (i + 1) ≤ length (now block) ⌝ }
+    ensures { λ r. ⌜ r ≡ placeOf In (drop (headLength + placeLength * i) (now (block .entry))) ⌝ }
+{
+    trb_from(block, HEAD + held_bytes::PLACE * i)
 }
 
 // Is the TRB in place number i a Normal?

@@ -99,7 +99,7 @@ fn submit(
     requires { ⌜ length (now log) ≤ minRowLog ⌝ }
     ensures { λ r. ⌜ Runs (submitCall block t (now (log .entry)) (memoryOf «low_base» (now (low .entry)) «high_base» (now (high .entry)))) (now (text .entry)) at r (now (text .exit)) (now (log .exit)) (memoryOf «low_base» (now (low .entry)) «high_base» (now (high .entry))) ⌝ }
 {
-    let submitted = in_endpoint::submit_trb(log, block, t, low_base, low, high_base, high);
+    let submitted = in_submission::submit_trb(log, block, t, low_base, low, high_base, high);
     let answer = submitted.answer;
     let after = submitted.block;
     let next = call_answer::put_answer(text, at, answer, submitted.records, log);
@@ -122,7 +122,7 @@ fn complete(
     requires { ⌜ length (now log) ≤ minRowLog ⌝ }
     ensures { λ r. ⌜ Runs (completeCall block result (now («data» .entry)) (now (log .entry)) (memoryOf «low_base» (now (low .entry)) «high_base» (now (high .entry)))) (now (text .entry)) at r (now (text .exit)) (now (log .exit)) (memoryOf «low_base» (now (low .exit)) «high_base» (now (high .exit))) ⌝ }
 {
-    let completed = in_endpoint::next_completion(log, block, result, data);
+    let completed = in_completion::next_completion(log, block, result, data);
     let answer = completed.answer;
     let after = completed.block;
     let next = call_answer::put_completion(

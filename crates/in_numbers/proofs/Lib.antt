@@ -1,1 +1,2 @@
 pub mod OtherLaws
+pub mod OutcomeLaws

@@ -1,14 +1,22 @@
-// What a submission on an IN endpoint asks of a TRB that is given by numbers: the questions of in_questions, without a decoded TRB between.
+// A submission on an IN endpoint, of a TRB that is given by numbers: the questions of in_questions and the outcome of in_block, without a
+// decoded TRB between.
 use guest_memory::Regions;
 use held_bytes::TrbNumbers;
 use in_block::BlockFacts;
+use in_block::HeldTest;
+use in_block::Outcome;
 use trb::Answer;
 use trb::Refusal;
 ghost use mathlib.Core.Path.{_≡_};
+ghost use mathlib.Core.Bool.{cond};
+ghost use lib.Dec.{eqb};
 ghost use Prim.Native.Nat.{_≤_};
 ghost use Rattle.trb.specs.Answers.{numberOf};
 ghost use Rattle.trb.specs.Limits.{maxHeld};
 ghost use Rattle.trb.specs.Questions.{firstNo};
+ghost use Rattle.trb.specs.Trbs.{chainOf};
+ghost use Rattle.in_block.specs.Outcomes.{outcomeOf};
+ghost use Rattle.in_block.specs.declared.Outcome.the-variants.{Collect, CompleteLocally, Request};
 ghost use Rattle.in_questions.specs.Questions.{trbQuestions, submissionQuestions};
 ghost use Rattle.held_bytes.specs.Numbers.{normalOf, variantOf, trbOf};
 ghost use Rattle.trb.specs.declared.TransferTrbVariant.the-variants.{Normal};
@@ -107,4 +115,61 @@ pub fn ask_submission(
         numbers.transfer_length,
         regions,
     )
+}
+
+// ---- What becomes of the TRB
+
+// The chain bit; of a kind without one, off.
+pub fn chain_of(numbers: TrbNumbers) -> bool
+    ensures { λ r. ⌜ r ≡ chainOf (trbOf numbers .variant) ⌝ }
+{
+    let number = numbers.kind as u32;
+    let chain = held_bytes::bit(numbers.flags, 2);
+    if number == raw_trb::NORMAL {
+        return chain;
+    }
+    if number == raw_trb::EVENT_DATA {
+        return chain;
+    }
+    if number == raw_trb::NO_OP {
+        return chain;
+    }
+    if number == raw_trb::DATA_STAGE {
+        return chain;
+    }
+    if number == raw_trb::STATUS_STAGE {
+        return chain;
+    }
+    false
+}
+
+// Of a TRB that is held: with chain off it ends a TD with so many Normals.
+fn outcome_of_held(chain: bool, normals: usize) -> Outcome
+    ensures { λ r. ⌜ r ≡ cond chain Collect (cond (eqb normals 0) CompleteLocally Request) ⌝ }
+{
+    if chain {
+        return Outcome::Collect;
+    }
+    if normals == 0 {
+        return Outcome::CompleteLocally;
+    }
+    Outcome::Request
+}
+
+// Of a TRB behind those held, of which the loop found this.
+pub fn outcome_of(found: HeldTest, numbers: TrbNumbers) -> Outcome
+    ensures { λ r. ⌜ r ≡ outcomeOf found (trbOf numbers) ⌝ }
+{
+    let number = numbers.kind as u32;
+    let chain = held_bytes::bit(numbers.flags, 2);
+    if number == raw_trb::NORMAL {
+        return outcome_of_held(chain, 1);
+    }
+    if number == raw_trb::EVENT_DATA {
+        return outcome_of_held(chain, found.normals);
+    }
+    if number == raw_trb::NO_OP {
+        return outcome_of_held(chain, found.normals);
+    }
+    Outcome::Drop
 }

@@ -1,17 +1,17 @@
--- What a call in place comes to, by its answer and what it stored. Assumes nothing.
-use Prim.Native.Nat.{ℕ, _+_, _<_, _≤_}
+-- What a completion in place comes to, by its answer and what it stored. Assumes nothing.
+use Prim.Native.Nat.{ℕ, _<_}
 use mathlib.Core.Path.{_≡_, refl, sym, ap, _∙_, subst}
-use mathlib.Core.Bool.{Bool, true, false, cond}
-use mathlib.Core.List.{List, [], _∷_}
+use mathlib.Core.Bool.{Bool, true, false}
+use mathlib.Core.List.{List}
 use native.Mathlib.Omega.{arith}
 use lib.ListN.{length, take, getD}
-use borrow.Author.Tests.{eqb-false, le-leb, lt-leb}
+use borrow.Author.Tests.{eqb-false}
 use Rattle.trb.specs.Answers.{numberOf, isAccepted, refusalOf, completionNumber}
 use Rattle.trb.specs.Refusals.{refusalNumber}
 use Rattle.trb.specs.Questions.{firstNo}
-use Rattle.trb.proofs.AnswerLaws.{accepted-is, refused-is, answered-yes, answered-no, refusalNumber-positive}
+use Rattle.trb.proofs.AnswerLaws.{answered-yes, answered-no, refusalNumber-positive}
 use Rattle.trb.specs.declared.Answer.{Answer}
-use Rattle.trb.specs.declared.Answer.the-variants.{Accepted, Refused}
+use Rattle.trb.specs.declared.Answer.the-variants.{Refused}
 use Rattle.trb.specs.declared.CompletionAnswer.{CompletionAnswer}
 use Rattle.trb.specs.declared.CompletionAnswer.the-variants as completion-answer
 use Rattle.trb.specs.declared.InTrbProcessingResult.{InTrbProcessingResult}
@@ -20,107 +20,32 @@ use Rattle.trb.specs.declared.Refusal.the-variants.{BufferTooShort}
 use Rattle.trb.specs.declared.TransferTrb.{TransferTrb}
 use Rattle.trb.specs.declared.TrbProcessingResult.{TrbProcessingResult}
 use Rattle.trb.specs.declared.TrbProcessingResult.the-variants as result
-use Rattle.trb.specs.declared.TdBasedNormalSubmissionState.the-variants.{SubmissionDue, AwaitingRealTransfer}
-use Rattle.log.specs.Calls.{Out, Put, Meets}
-use Rattle.log.specs.declared.Record.{Record}
-use Rattle.log.specs.Logs.{logged, AllFit, recordsIn}
+use Rattle.trb.specs.declared.TdBasedNormalSubmissionState.the-variants.{SubmissionDue}
+use Rattle.log.specs.Calls.{Out, Meets}
+use Rattle.log.specs.Logs.{recordsIn}
 use Rattle.log.proofs.LogLaws.{logged-none}
-use Rattle.guest_memory.specs.declared.Regions.{Regions}
 use Rattle.in_td.specs.Td.{inTd, processTd}
 use Rattle.in_td.specs.declared.InTd.{InTd}
 use Rattle.in_td.specs.declared.TdProcessed.{TdProcessed}
-use Rattle.in_block.specs.Blocks.{heldOf, withState, stored, emptied}
-use Rattle.in_block.specs.declared.InBlock.{InBlock}
-use Rattle.in_block.specs.Facts.{heldTest, factsOf}
-use Rattle.in_block.specs.Outcomes.{outcomeOf, endingOf}
+use Rattle.in_block.specs.Blocks.{heldOf, emptied}
+use Rattle.in_block.specs.Facts.{factsOf}
+use Rattle.in_block.specs.Outcomes.{endingOf}
 use Rattle.in_block.specs.declared.Ending.{Ending}
-use Rattle.in_block.specs.declared.Outcome.{Outcome}
-use Rattle.in_questions.specs.Questions.{submissionQuestions, completionQuestions}
-use Rattle.in_endpoint.specs.Submission as submissions
+use Rattle.in_questions.specs.Questions.{completionQuestions}
 use Rattle.in_endpoint.specs.Completion as completions
 use Rattle.account.specs.Guest.{Account}
 use Rattle.in_endpoint.specs.declared.Completed.{Completed}
-use Rattle.in_endpoint.specs.declared.Submitted.{Submitted}
 use Rattle.in_endpoint.proofs.CompletionLaws.{accounted-completion, completion-number, completionAnswer-refused, processTd-counts}
-use Rattle.answer_numbers.specs.Numbers.{answeredAs, completedWith, completionAnswered}
-use Rattle.answer_numbers.specs.declared.Answered.{Answered}
+use Rattle.answer_numbers.specs.Numbers.{completedWith, completionAnswered}
 use Rattle.answer_numbers.specs.declared.CompletionAnswered.{CompletionAnswered}
 use Rattle.in_bytes.specs.Layout.{blockLength, endpointOf, slotOf, modeOf, heldCount, places, blockOf}
 use Rattle.in_place_store.specs.Becomes.{Becomes}
 use Rattle.in_place_store.proofs.ChangeLaws.{becomes-same}
-use Rattle.in_place.specs.InPlace.{lentLog, submittedNumbers, SubmitsInPlace, completedNumbers, CompletesInPlace, AccountedInPlace}
+use Rattle.in_place_questions.specs.Lent.{lentLog}
+use Rattle.in_place_questions.proofs.LentLaws.{lent-short}
+use Rattle.in_place.specs.InPlace.{completedNumbers, CompletesInPlace, AccountedInPlace}
 
--- ---- The log that counts
-
-module _ (l b : List ℕ) where
-  pub lent-long : blockLength ≤ length b → lentLog l b ≡ length l
-  lent-long h = ap (λ (x : Bool). cond x (length l) 0) (le-leb blockLength (length b) h)
-
-  pub lent-short : length b < blockLength → lentLog l b ≡ 0
-  lent-short h = ap (λ (x : Bool). cond x (length l) 0) (lt-leb blockLength (length b) h)
-
--- ---- Submission
-
-module _ (k : ℕ) (t : TransferTrb) (regions : Regions) (l b : List ℕ) where
-  abbrev asked : List (Bool × ℕ)
-  asked = submissionQuestions k (factsOf (blockOf b)) t regions
-
-  abbrev done : Out Submitted
-  done = submissions.submittedAs (outcomeOf (heldTest (heldOf (blockOf b))) t) (blockOf b) t
-
-  -- a no leaves all as it was
-  pub submits-refused : (a : Answer) {r : Answered} → numberOf a ≡ firstNo asked → isAccepted a ≡ false → r ≡ answeredAs a 0 → SubmitsInPlace k t regions l b r l b
-  unfolding submissions.submission
-  submits-refused a {r} e failed er =
-      let o : submissions.submission k (blockOf b) t regions ≡ submissions.refused (blockOf b) (numberOf a) = answered-no asked (submissions.refused (blockOf b)) done a e failed in
-      record {
-        number = ap (λ (x : Answered). x .number) er ∙ e;
-        met = subst (λ (x : Out Submitted). Meets (submittedNumbers x) 0 l r l) (sym o) (record { state = er ∙ ap (λ (x : Answer). answeredAs x 0) (sym (refused-is a failed)); log = sym (logged-none l 0); fits = tt });
-        becomes = subst (λ (x : Out Submitted). Becomes b (x .state .block) b) (sym o) (becomes-same b);
-        unchanged = λ h. refl;
-      }
-
-  -- what an accepted submission comes to, by the outcome
-  pub submits-accepted : (a : Answer) {r : Answered} {l' b' : List ℕ} → numberOf a ≡ firstNo asked → isAccepted a ≡ true
-      → (o : Outcome) → outcomeOf (heldTest (heldOf (blockOf b))) t ≡ o
-      → r ≡ answeredAs a (submissions.submittedAs o (blockOf b) t .state .records)
-      → Becomes b (submissions.submittedAs o (blockOf b) t .state .block) b'
-      → submissions.submittedAs o (blockOf b) t .state .answer ≡ Accepted
-      → l' ≡ logged l 0 (submissions.submittedAs o (blockOf b) t .records) → AllFit (submissions.submittedAs o (blockOf b) t .records)
-      → SubmitsInPlace k t regions l b r l' b'
-  unfolding submissions.submission
-  submits-accepted a {r} {l'} {b'} e passed o eo er changed accepts el fits =
-      let s : Out Submitted = submissions.submittedAs o (blockOf b) t in
-      let is : submissions.submission k (blockOf b) t regions ≡ s =
-      answered-yes asked (submissions.refused (blockOf b)) done a e passed ∙ ap (λ (x : Outcome). submissions.submittedAs x (blockOf b) t) eo in
-      let zero : numberOf a ≡ 0 = ap numberOf (accepted-is a passed) in
-      let nr : r .number ≡ 0 = ap (λ (x : Answered). x .number) er ∙ zero in
-      record {
-        number = ap (λ (x : Answered). x .number) er ∙ e;
-        met = subst (λ (x : Out Submitted). Meets (submittedNumbers x) 0 l r l') (sym is)
-            (record { state = er ∙ ap (λ (x : Answer). answeredAs x (s .state .records)) (accepted-is a passed ∙ sym accepts); log = el; fits = fits });
-        becomes = subst (λ (x : Out Submitted). Becomes b (x .state .block) b') (sym is) changed;
-        unchanged = λ h. absurd (omega (arith, h, nr));
-      }
-
--- the request of the TRBs that are held then
-pub request-said : (x : InBlock) (t : TransferTrb) (b' : List ℕ) (n : ℕ) (l l' : List ℕ) → n ≡ x .held + 1 → blockOf b' ≡ withState (stored x t) AwaitingRealTransfer
-    → Put l 0 (submissions.requestOf (take n (places b')) (endpointOf b') (slotOf b') ∷ []) l' → Put l 0 (submissions.requestOf (heldOf (stored x t)) (x .«endpoint_id») (x .«slot_id») ∷ []) l'
-unfolding blockOf
-request-said x t b' n l l' e h put =
-    subst (λ (r : Record). Put l 0 (r ∷ []) l')
-    (ap (λ (z : InBlock). submissions.requestOf (take n (z .trbs)) (z .«endpoint_id») (z .«slot_id»)) h
-    ∙ ap (λ (k : ℕ). submissions.requestOf (take k (stored x t .trbs)) (x .«endpoint_id») (x .«slot_id»)) e) put
-
--- bytes too few for a block
-pub submits-short : (t : TransferTrb) (regions : Regions) (l b : List ℕ) {r : Answered} → length b < blockLength → r ≡ answeredAs (Refused BufferTooShort) 0
-    → SubmitsInPlace (lentLog l b) t regions l b r l b
-unfolding submissionQuestions firstNo
-submits-short t regions l b {r} short e =
-    subst (λ (k : ℕ). SubmitsInPlace k t regions l b r l b) (sym (lent-short l b short)) (submits-refused 0 t regions l b (Refused BufferTooShort) refl refl e)
-
--- ---- Completion
-
+-- the number and the count of a result and of an answer
 result-parts : (r : TrbProcessingResult) (n : ℕ) → (completedWith r n .number ≡ 0) × (completedWith r n .records ≡ n)
 result-parts result.Ok n = (refl, refl)
 result-parts result.Stall n = (refl, refl)
@@ -130,12 +55,12 @@ result-parts result.TransactionError n = (refl, refl)
 result-parts (result.TransactionErrorAt a c) n = (refl, refl)
 result-parts result.Disconnect n = (refl, refl)
 
-answer-parts : (a : CompletionAnswer) (n : ℕ) → (completionAnswered a n .number ≡ completionNumber a) × (completionAnswered a n .records ≡ n)
+pub answer-parts : (a : CompletionAnswer) (n : ℕ) → (completionAnswered a n .number ≡ completionNumber a) × (completionAnswered a n .records ≡ n)
 answer-parts (completion-answer.Completed r) n = result-parts r n
 answer-parts (completion-answer.Refused q) n = (refl, refl)
 
 -- the number 0 is that of an accepted completion
-accepted-zero : (a : CompletionAnswer) → completionNumber a ≡ 0 → completions.isAccepted a ≡ true
+pub accepted-zero : (a : CompletionAnswer) → completionNumber a ≡ 0 → completions.isAccepted a ≡ true
 accepted-zero (completion-answer.Completed r) e = refl
 accepted-zero (completion-answer.Refused q) e = absurd (eqb-false (refusalNumber q) 0 (refusalNumber-positive q) e)
 

@@ -1,9 +1,9 @@
 -- What a call in place is: by the definitions of the endpoint by value, of the block that the bytes are. Assumes nothing.
 use Prim.Native.Nat.{ℕ, _≤_, _<_}
 use mathlib.Core.Path.{_≡_}
-use mathlib.Core.Bool.{Bool, true, cond}
+use mathlib.Core.Bool.{true, cond}
 use mathlib.Core.List.{List, [], _∷_}
-use lib.Dec.{leb, eqb}
+use lib.Dec.{eqb}
 use lib.ListN.{length}
 use Rattle.trb.specs.Questions.{firstNo}
 use Rattle.trb.specs.declared.EndpointId.{EndpointId}
@@ -11,43 +11,23 @@ use Rattle.trb.specs.declared.InTrbProcessingResult.{InTrbProcessingResult}
 use Rattle.trb.specs.declared.InTrbProcessingResult.the-variants.{NoneGiven, Given}
 use Rattle.trb.specs.declared.InTrbProcessingStatus.the-variants.{Disconnect, Stall, TransactionError, Success}
 use Rattle.trb.specs.declared.SlotId.{SlotId}
-use Rattle.trb.specs.declared.TransferTrb.{TransferTrb}
 use Rattle.log.specs.Calls.{Out, Meets}
 use Rattle.log.specs.Logs.{recordsIn}
 use Rattle.log.specs.declared.Record.{Record}
-use Rattle.guest_memory.specs.declared.Regions.{Regions}
 use Rattle.account.specs.Guest.{Distinct, IspOnNormals, LastNormalWithIoc, Account}
 use Rattle.in_td.specs.declared.InMode.{InMode}
 use Rattle.in_block.specs.Blocks.{heldOf}
-use Rattle.in_block.specs.Facts.{awaitsDevice, factsOf, soundBlock}
-use Rattle.in_block.specs.declared.BlockFacts.{BlockFacts}
+use Rattle.in_block.specs.Facts.{awaitsDevice, factsOf}
 use Rattle.in_block.specs.declared.InBlock.{InBlock}
-use Rattle.in_questions.specs.Questions.{submissionQuestions, completionQuestions}
-use Rattle.raw_trb.specs.Raw.{decodeTrb}
+use Rattle.in_questions.specs.Questions.{completionQuestions}
 use Rattle.in_endpoint.specs.Creation.{creationQuestions, creation, cancelled}
-use Rattle.in_endpoint.specs.Submission.{submission}
 use Rattle.in_endpoint.specs.Completion.{completion}
 use Rattle.in_endpoint.specs.declared.Completed.{Completed}
-use Rattle.in_endpoint.specs.declared.Submitted.{Submitted}
-use Rattle.answer_numbers.specs.Numbers.{answeredAs, completionAnswered}
-use Rattle.answer_numbers.specs.declared.Answered.{Answered}
+use Rattle.answer_numbers.specs.Numbers.{completionAnswered}
 use Rattle.answer_numbers.specs.declared.CompletionAnswered.{CompletionAnswered}
 use Rattle.in_bytes.specs.Layout.{blockLength, blockOf}
 use Rattle.in_place_store.specs.Becomes.{Becomes}
-
--- 01, question 1, a short buffer: bytes that are too few for a block
-abbrev pub blockQuestion : List ℕ → (Bool × ℕ)
-blockQuestion b = (leb blockLength (length b), 1)
-
--- the log's length, as question 1 has it: with bytes that are too few for a block no log is long enough
-abbrev pub lentLog : List ℕ → List ℕ → ℕ
-lentLog l b = cond (leb blockLength (length b)) (length l) 0
-
--- what the questions ask about is the same of both
-pub record SameFacts (f g : BlockFacts) : Type 0 where
-  pub sound : soundBlock f ≡ soundBlock g
-  pub state : f .state ≡ g .state
-  pub held : f .held ≡ g .held
+use Rattle.in_place_questions.specs.Lent.{blockQuestion}
 
 -- ---- Creation and cancel
 
@@ -62,22 +42,6 @@ pub record CancelsInPlace (b : List ℕ) (r : ℕ) (b' : List ℕ) : Type 0 wher
   pub number : r ≡ firstNo (blockQuestion b ∷ [])
   pub becomes : blockLength ≤ length b → Becomes b (cancelled (blockOf b)) b'
   pub unchanged : length b < blockLength → b' ≡ b
-
--- ---- Submission
-
-abbrev pub submittedNumbers : Out Submitted → Out Answered
-submittedNumbers o = record { state = answeredAs (o .state .answer) (o .state .records); records = o .records }
-
--- of a submission with the log l, of which k bytes count, over the bytes b, which answered r and left the log l' and the bytes b'
-pub record SubmitsInPlace (k : ℕ) (t : TransferTrb) (regions : Regions) (l b : List ℕ) (r : Answered) (l' b' : List ℕ) : Type 0 where
-  pub number : r .number ≡ firstNo (submissionQuestions k (factsOf (blockOf b)) t regions)
-  pub met : Meets (submittedNumbers (submission k (blockOf b) t regions)) 0 l r l'
-  pub becomes : Becomes b (submission k (blockOf b) t regions .state .block) b'
-  pub unchanged : 0 < r .number → b' ≡ b
-
--- a TRB at this address by the 16 bytes of the ring
-abbrev pub rawTrb : List ℕ → ℕ → TransferTrb
-rawTrb raw a = record { variant = decodeTrb raw .variant; addr = a; «cycle_bit» = decodeTrb raw .«cycle_bit» }
 
 -- ---- Completion
 

@@ -1,4 +1,1 @@
-pub mod Stored
-pub mod Pieces
 pub mod GuestMemory
-pub mod Captured

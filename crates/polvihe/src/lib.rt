@@ -1,25 +1,19 @@
 // What C and Rust call: the product's functions over numbers and lent bytes, exported in one static library. Each asks its
 // questions first, and answers with the number of the first no.
 mod control;
+mod delivery;
+mod row;
 
+use answer_numbers::Answered;
 use answer_numbers::CompletionAnswered;
+use capture_numbers::RecordRead;
 use capture_record::CaptureEvent;
-use capture_record::InPipe;
-use capture_record::TransferError;
-use capture_record::UsbDevice;
 use held_bytes::TrbNumbers;
-use log_compact::CompactAnswer;
-use trb::Answer;
-use trb::EndpointId;
-use trb::InTrbProcessingStatus;
-use trb::Refusal;
 use trb::UsbRequest;
 ghost use mathlib.Core.Path.{_≡_};
 ghost use Prim.Native.Nat.{ℕ};
 ghost use lib.ListN.{length};
-ghost use Rattle.trb.specs.Answers.{numberOf};
 ghost use Rattle.trb.specs.Questions.{firstNo};
-ghost use Rattle.trb.specs.Refusals.{refusalNumber};
 ghost use Rattle.log_text.specs.Widths.{maxLine};
 ghost use Rattle.capture_file.specs.Answers.{captureLength};
 ghost use Rattle.capture_convert.specs.Converting.{lengthAnswer, convertQuestions, outputAfter};
@@ -28,42 +22,18 @@ ghost use Rattle.guest_memory.specs.Places.{memoryOf};
 ghost use Rattle.guest_memory.specs.Regions.{guestRegions};
 ghost use Rattle.held_bytes.specs.Numbers.{trbNumbers, trbOf};
 ghost use Rattle.in_bytes.specs.Layout.{blockLength, modeOf};
-ghost use Rattle.in_place.specs.InPlace.{lentLog, rawTrb, resultOf, CreatesInPlace, CancelsInPlace, SubmitsInPlace, CompletesInPlace};
-ghost use Rattle.raw_numbers.specs.RawNumbers.{numberedTrb, roomQuestions, Encodes};
-ghost use Rattle.polvihe.specs.Stored.{checkQuestions, Compacts, Prints};
-ghost use Rattle.polvihe.specs.GuestMemory.{CarriesOut};
+ghost use Rattle.in_place_questions.specs.Lent.{lentLog};
+ghost use Rattle.in_place_submission.specs.Submission.{SubmitsInPlace};
+ghost use Rattle.in_place.specs.InPlace.{resultOf, CreatesInPlace, CancelsInPlace, CompletesInPlace};
+ghost use Rattle.raw_numbers.specs.RawNumbers.{rawTrb, numberedTrb, roomQuestions, Encodes};
 ghost use mathlib.Core.List.{[]};
 ghost use Rattle.capture_writer.specs.Writing.{callOf, Writes, WritesHead};
 ghost use Rattle.capture_reader.specs.Reading.{ReadsCapture, readAt};
-ghost use Rattle.polvihe.specs.Captured.{writtenBy, deviceOf, pipeOf, statusOf, errorOf, requestOf, countBy, recordBy};
-
-// What a call answers: the number of the question that said no, or 0, and how many records or bytes it made.
-#[repr(C)]
-pub struct Answered {
-    pub number: u32,
-    pub count: usize,
-}
-
-// A refused call made nothing.
-fn refused(refusal: Refusal) -> Answered
-    ensures { λ r. ⌜ r ≡ record { number = refusalNumber refusal; count = 0 } ⌝ }
-{
-    Answered {
-        number: trb::refusal_number(refusal) as u32,
-        count: 0,
-    }
-}
+ghost use Rattle.stored_logs.specs.Stored.{checkQuestions, Compacts, Prints};
+ghost use Rattle.capture_numbers.specs.Captured.{writtenBy, deviceOf, pipeOf, statusOf, errorOf, requestOf, countBy, recordBy};
+ghost use Rattle.polvihe.specs.GuestMemory.{CarriesOut};
 
 // ---- Guest memory
-
-fn number_of(answer: Answer) -> u32
-    ensures { λ r. ⌜ r ≡ numberOf answer ⌝ }
-{
-    match answer {
-        Answer::Accepted => 0,
-        Answer::Refused(refusal) => trb::refusal_number(refusal) as u32,
-    }
-}
 
 // Performs the writes of a log, in its order, on guest memory in two regions, with the device's data. The number: 0, or 13, 10, 11
 // with guest memory as it was.
@@ -78,7 +48,14 @@ pub extern "C" fn polvihe_carry_out(
 ) -> u32
     ensures { λ r. ⌜ CarriesOut (now (log .entry)) (now («data» .entry)) (memoryOf «low_base» (now (low .entry)) «high_base» (now (high .entry))) r (memoryOf «low_base» (now (low .exit)) «high_base» (now (high .exit))) ⌝ }
 {
-    number_of(carry_out::carry_out(log, data, low_base, low, high_base, high))
+    answer_numbers::number_of(carry_out::carry_out(
+        log,
+        data,
+        low_base,
+        low,
+        high_base,
+        high,
+    )) as u32
 }
 
 // ---- Raw TRBs
@@ -98,7 +75,7 @@ pub extern "C" fn polvihe_decode_trb(raw: &[u8; 16]) -> RawTrb
     ensures { λ r. ⌜ ((a : ℕ) → trbOf (trbNumbers (r .kind) (r .flags) a (r .value) (r .«transfer_length»)) ≡ rawTrb (now (raw .entry)) a) ⌝ }
 {
     let bytes = *raw;
-    let numbers = in_place::raw_numbers(bytes, 0);
+    let numbers = raw_numbers::decode_trb(bytes, 0);
     RawTrb {
         kind: numbers.kind,
         flags: numbers.flags,
@@ -128,10 +105,7 @@ pub extern "C" fn polvihe_encode_trb(
 pub extern "C" fn polvihe_check_log(log: &[u8]) -> u32
     ensures { λ r. ⌜ r ≡ firstNo (checkQuestions (now (log .entry))) ⌝ }
 {
-    if log_check::well_formed(log) {
-        return 0;
-    }
-    trb::refusal_number(Refusal::MalformedLog) as u32
+    stored_logs::check(log)
 }
 
 // Compacts a log in its own buffer, and counts the records kept.
@@ -139,14 +113,7 @@ pub extern "C" fn polvihe_check_log(log: &[u8]) -> u32
 pub extern "C" fn polvihe_compact(log: &mut [u8]) -> Answered
     ensures { λ r. ⌜ Compacts (now (log .entry)) r (now (log .exit)) ⌝ }
 {
-    let answer = log_compact::compact(log);
-    match answer {
-        CompactAnswer::Kept(kept) => Answered {
-            number: 0,
-            count: kept,
-        },
-        CompactAnswer::Refused(refusal) => refused(refusal),
-    }
+    stored_logs::compact(log)
 }
 
 // Characters that the line of a record takes at most.
@@ -154,7 +121,7 @@ pub extern "C" fn polvihe_compact(log: &mut [u8]) -> Answered
 pub extern "C" fn polvihe_line_room() -> usize
     ensures { λ r. ⌜ r ≡ maxLine ⌝ }
 {
-    log_text::MAX_LINE
+    stored_logs::line_room()
 }
 
 // Writes a line for each record of a log, or of whole records of one, to the text buffer's start, and counts the characters.
@@ -162,17 +129,7 @@ pub extern "C" fn polvihe_line_room() -> usize
 pub extern "C" fn polvihe_print(log: &[u8], text: &mut [u8]) -> Answered
     ensures { λ r. ⌜ Prints (now (log .entry)) (now (text .entry)) r (now (text .exit)) ⌝ }
 {
-    if text.len() / log_text::MAX_LINE < log.len() / trb::RECORD_LENGTH {
-        return refused(Refusal::BufferTooShort);
-    }
-    if !log_check::well_formed(log) {
-        return refused(Refusal::MalformedLog);
-    }
-    let count = log_text::put_lines(text, 0, log);
-    Answered {
-        number: 0,
-        count: count,
-    }
+    stored_logs::print(log, text)
 }
 
 // ---- Captures, of any length
@@ -182,7 +139,7 @@ pub extern "C" fn polvihe_print(log: &[u8], text: &mut [u8]) -> Answered
 pub extern "C" fn polvihe_converted_length(input: &[u8]) -> usize
     ensures { λ r. ⌜ r ≡ captureLength (lengthAnswer (now (input .entry))) ⌝ }
 {
-    capture_file::answer_length(capture_convert::converted_length(input))
+    capture_numbers::converted_length(input)
 }
 
 // Converts a capture from link type 189 to 220 or back. The number: 0, or 17, 18, 14 with the output as it was.
@@ -190,7 +147,7 @@ pub extern "C" fn polvihe_converted_length(input: &[u8]) -> usize
 pub extern "C" fn polvihe_convert(input: &[u8], output: &mut [u8]) -> u8
     ensures { λ r. ⌜ (r ≡ firstNo (convertQuestions (now (input .entry)) (length (now (output .entry))))) × (now (output .exit) ≡ outputAfter (now (input .entry)) (now (output .entry))) ⌝ }
 {
-    capture_file::answer_number(capture_convert::convert(input, output))
+    capture_numbers::convert(input, output)
 }
 
 // The length of two captures made one; 0 where merging answers 17, 19 or 20.
@@ -198,7 +155,7 @@ pub extern "C" fn polvihe_convert(input: &[u8], output: &mut [u8]) -> u8
 pub extern "C" fn polvihe_merged_length(first: &[u8], second: &[u8]) -> usize
     ensures { λ r. ⌜ r ≡ captureLength (merging.lengthAnswer (now (first .entry)) (now (second .entry))) ⌝ }
 {
-    capture_file::answer_length(capture_merge::merged_length(first, second))
+    capture_numbers::merged_length(first, second)
 }
 
 // Makes two captures one, ordered by time. The number: 0, or 17, 19, 20, 14 with the output as it was.
@@ -206,90 +163,17 @@ pub extern "C" fn polvihe_merged_length(first: &[u8], second: &[u8]) -> usize
 pub extern "C" fn polvihe_merge(first: &[u8], second: &[u8], output: &mut [u8]) -> u8
     ensures { λ r. ⌜ (r ≡ firstNo (merging.mergeQuestions (now (first .entry)) (now (second .entry)) (length (now (output .entry))))) × (now (output .exit) ≡ merging.outputAfter (now (first .entry)) (now (second .entry)) (now (output .entry))) ⌝ }
 {
-    capture_file::answer_number(capture_merge::merge(first, second, output))
+    capture_numbers::merge(first, second, output)
 }
 
 // ---- Captures written: each call writes over the output's start and counts the bytes. The number: 0, or 24, 14 with the output as it was.
-
-// The record of an event of this device at this time.
-fn write_event(
-    output: &mut [u8],
-    bus_number: u16,
-    device_address: u8,
-    seconds: u32,
-    microseconds: u32,
-    event: CaptureEvent,
-    payload: &[u8],
-) -> Answered
-    ensures { λ r. ⌜ Writes (callOf (deviceOf «bus_number» «device_address») seconds microseconds event (now (payload .entry))) (now (output .entry)) (writtenBy r) (now (output .exit)) ⌝ }
-{
-    let device = UsbDevice {
-        bus_number: bus_number,
-        device_address: device_address,
-    };
-    let written = capture_writer::write_record(
-        output,
-        device,
-        seconds,
-        microseconds,
-        event,
-        payload,
-    );
-    Answered {
-        number: written.number as u32,
-        count: written.length,
-    }
-}
-
-// 1 Stall, 3 Disconnect, 0 Success; 2 and any other number TransactionError.
-fn in_status(number: u8) -> InTrbProcessingStatus
-    ensures { λ r. ⌜ r ≡ statusOf number ⌝ }
-{
-    if number == 0 {
-        return InTrbProcessingStatus::Success;
-    }
-    if number == 1 {
-        return InTrbProcessingStatus::Stall;
-    }
-    if number == 3 {
-        return InTrbProcessingStatus::Disconnect;
-    }
-    InTrbProcessingStatus::TransactionError
-}
-
-// Numbered as `in_status` has it.
-fn transfer_error(number: u8) -> TransferError
-    ensures { λ r. ⌜ r ≡ errorOf number ⌝ }
-{
-    if number == 1 {
-        return TransferError::Stall;
-    }
-    if number == 3 {
-        return TransferError::Disconnect;
-    }
-    TransferError::TransactionError
-}
-
-fn in_pipe(endpoint_id: u8, interrupt: bool) -> InPipe
-    ensures { λ r. ⌜ r ≡ pipeOf «endpoint_id» interrupt ⌝ }
-{
-    let id = EndpointId(endpoint_id);
-    InPipe {
-        endpoint_id: id,
-        interrupt: interrupt,
-    }
-}
 
 // The file header: 24 is not asked.
 #[no_mangle]
 pub extern "C" fn polvihe_write_file_header(output: &mut [u8]) -> Answered
     ensures { λ r. ⌜ WritesHead (now (output .entry)) (writtenBy r) (now (output .exit)) ⌝ }
 {
-    let written = capture_writer::write_file_header(output);
-    Answered {
-        number: written.number as u32,
-        count: written.length,
-    }
+    capture_numbers::write_file_header(output)
 }
 
 // A request of so many bytes on an IN endpoint, of interrupt transfers or else of bulk ones.
@@ -307,8 +191,12 @@ pub extern "C" fn polvihe_write_in_submission(
 ) -> Answered
     ensures { λ r. ⌜ Writes (callOf (deviceOf «bus_number» «device_address») seconds microseconds (CaptureEvent.InSubmission (pipeOf «endpoint_id» interrupt) id length) []) (now (output .entry)) (writtenBy r) (now (output .exit)) ⌝ }
 {
-    let event = CaptureEvent::InSubmission(in_pipe(endpoint_id, interrupt), id, length);
-    write_event(
+    let event = CaptureEvent::InSubmission(
+        capture_numbers::in_pipe(endpoint_id, interrupt),
+        id,
+        length,
+    );
+    capture_numbers::write_event(
         output,
         bus_number,
         device_address,
@@ -319,7 +207,7 @@ pub extern "C" fn polvihe_write_in_submission(
     )
 }
 
-// Its completion with a device result, numbered as `in_status` has it, and the device's data.
+// Its completion with a device result, numbered as `capture_numbers::in_status` has it, and the device's data.
 #[no_mangle]
 pub extern "C" fn polvihe_write_in_completion(
     output: &mut [u8],
@@ -335,8 +223,12 @@ pub extern "C" fn polvihe_write_in_completion(
 ) -> Answered
     ensures { λ r. ⌜ Writes (callOf (deviceOf «bus_number» «device_address») seconds microseconds (CaptureEvent.InCompletion (pipeOf «endpoint_id» interrupt) id (statusOf status)) (now («data» .entry))) (now (output .entry)) (writtenBy r) (now (output .exit)) ⌝ }
 {
-    let event = CaptureEvent::InCompletion(in_pipe(endpoint_id, interrupt), id, in_status(status));
-    write_event(
+    let event = CaptureEvent::InCompletion(
+        capture_numbers::in_pipe(endpoint_id, interrupt),
+        id,
+        capture_numbers::in_status(status),
+    );
+    capture_numbers::write_event(
         output,
         bus_number,
         device_address,
@@ -374,7 +266,7 @@ pub extern "C" fn polvihe_write_control_submission(
         length: length,
     };
     let event = CaptureEvent::ControlSubmission(usb_request);
-    write_event(
+    capture_numbers::write_event(
         output,
         bus_number,
         device_address,
@@ -399,7 +291,7 @@ pub extern "C" fn polvihe_write_control_completion_in(
     ensures { λ r. ⌜ Writes (callOf (deviceOf «bus_number» «device_address») seconds microseconds (CaptureEvent.ControlCompletionIn id) (now («data» .entry))) (now (output .entry)) (writtenBy r) (now (output .exit)) ⌝ }
 {
     let event = CaptureEvent::ControlCompletionIn(id);
-    write_event(
+    capture_numbers::write_event(
         output,
         bus_number,
         device_address,
@@ -424,7 +316,7 @@ pub extern "C" fn polvihe_write_control_completion_out(
     ensures { λ r. ⌜ Writes (callOf (deviceOf «bus_number» «device_address») seconds microseconds (CaptureEvent.ControlCompletionOut id length) []) (now (output .entry)) (writtenBy r) (now (output .exit)) ⌝ }
 {
     let event = CaptureEvent::ControlCompletionOut(id, length);
-    write_event(
+    capture_numbers::write_event(
         output,
         bus_number,
         device_address,
@@ -465,11 +357,11 @@ pub extern "C" fn polvihe_write_control_error(
     };
     let event = CaptureEvent::ControlError(
         direction,
-        transfer_error(error),
+        capture_numbers::transfer_error(error),
         usb_request,
         collected,
     );
-    write_event(
+    capture_numbers::write_event(
         output,
         bus_number,
         device_address,
@@ -493,7 +385,7 @@ pub extern "C" fn polvihe_write_trb_error(
     ensures { λ r. ⌜ Writes (callOf (deviceOf «bus_number» «device_address») seconds microseconds (CaptureEvent.TrbError id) []) (now (output .entry)) (writtenBy r) (now (output .exit)) ⌝ }
 {
     let event = CaptureEvent::TrbError(id);
-    write_event(
+    capture_numbers::write_event(
         output,
         bus_number,
         device_address,
@@ -511,41 +403,7 @@ pub extern "C" fn polvihe_write_trb_error(
 pub extern "C" fn polvihe_read_capture(input: &[u8]) -> Answered
     ensures { λ r. ⌜ ReadsCapture (now (input .entry)) (countBy r) ⌝ }
 {
-    let read = capture_reader::read_capture(input);
-    Answered {
-        number: read.number as u32,
-        count: read.records,
-    }
-}
-
-// What a record gives: 0 or 22; its times; its header's fields, a status below 0 standing as 2^32 less its amount; where in the file its payload stands and how
-// long it is; where the next record starts.
-#[repr(C)]
-pub struct RecordRead {
-    pub number: u32,
-    pub seconds: u32,
-    pub microseconds: u32,
-    pub id: u64,
-    pub event_type: u8,
-    pub transfer_type: u8,
-    pub endpoint_address: u8,
-    pub device_address: u8,
-    pub bus_number: u16,
-    pub setup_flag: u8,
-    pub data_flag: u8,
-    pub header_seconds: u64,
-    pub header_microseconds: u32,
-    pub status: u32,
-    pub length: u32,
-    pub delivered: u32,
-    pub request_type: u8,
-    pub request: u8,
-    pub value: u16,
-    pub index: u16,
-    pub setup_length: u16,
-    pub payload_start: usize,
-    pub payload_length: usize,
-    pub next: usize,
+    capture_numbers::read_capture(input)
 }
 
 // Reads the record that starts at byte `at` of a capture, from 24 on. The number: 0, or 22 where none that the calls above write starts there, all else being 0.
@@ -553,35 +411,7 @@ pub struct RecordRead {
 pub extern "C" fn polvihe_read_record(input: &[u8], at: usize) -> RecordRead
     ensures { λ r. ⌜ recordBy r ≡ readAt (now (input .entry)) at ⌝ }
 {
-    let read = capture_reader::read_record(input, at);
-    let header = read.header;
-    let setup = header.setup;
-    RecordRead {
-        number: read.number as u32,
-        seconds: read.seconds,
-        microseconds: read.microseconds,
-        id: header.id,
-        event_type: header.event_type,
-        transfer_type: header.transfer_type,
-        endpoint_address: header.endpoint_address,
-        device_address: header.device_address,
-        bus_number: header.bus_number,
-        setup_flag: header.setup_flag,
-        data_flag: header.data_flag,
-        header_seconds: header.seconds,
-        header_microseconds: header.microseconds,
-        status: header.status,
-        length: header.length,
-        delivered: header.delivered,
-        request_type: setup.request_type,
-        request: setup.request,
-        value: setup.value,
-        index: setup.index,
-        setup_length: setup.length,
-        payload_start: read.payload_start,
-        payload_length: read.payload_length,
-        next: read.next,
-    }
+    capture_numbers::read_record(input, at)
 }
 
 // ---- The IN endpoint in place: its block is a lent row of `polvihe_in_block_length` bytes, whose layout is in_bytes'
@@ -617,7 +447,7 @@ pub extern "C" fn polvihe_in_submit(
     low_len: usize,
     high_base: u64,
     high_len: usize,
-) -> answer_numbers::Answered
+) -> Answered
     ensures { λ r. ⌜ SubmitsInPlace (lentLog (now (log .entry)) (now (block .entry))) (trbOf (trbNumbers kind flags addr value «transfer_length»)) (guestRegions «low_base» «low_len» «high_base» «high_len») (now (log .entry)) (now (block .entry)) r (now (log .exit)) (now (block .exit)) ⌝ }
 {
     let numbers = TrbNumbers {
@@ -627,7 +457,7 @@ pub extern "C" fn polvihe_in_submit(
         value: value,
         transfer_length: transfer_length,
     };
-    in_place::submit_trb(log, block, numbers, low_base, low_len, high_base, high_len)
+    in_place_submission::submit_trb(log, block, numbers, low_base, low_len, high_base, high_len)
 }
 
 // Completes what was submitted last, with so many bytes of the device's data. Status: 0 Success, 1 Stall, 2 a transaction error, 3 a

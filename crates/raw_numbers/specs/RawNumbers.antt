@@ -1,4 +1,4 @@
--- 02, R-6, for C and Rust: a raw TRB encoded from plain numbers. Assumes nothing.
+-- 02, R-6, for C and Rust: a raw TRB decoded to plain numbers and encoded from them. Assumes nothing.
 use Prim.Native.Nat.{ℕ}
 use mathlib.Core.Bool.{Bool}
 use mathlib.Core.Path.{_≡_}
@@ -8,12 +8,16 @@ use lib.ListN.{length}
 use Rattle.trb.specs.Questions.{firstNo, afterQuestions}
 use Rattle.trb.specs.declared.TransferTrb.{TransferTrb}
 use Rattle.buffers.specs.Patch.{patch}
-use Rattle.raw_trb.specs.Raw.{encodeQuestions, encodeTrb}
+use Rattle.raw_trb.specs.Raw.{decodeTrb, encodeQuestions, encodeTrb}
 use Rattle.held_bytes.specs.Numbers.{trbOf, trbNumbers}
 
 -- 02, R-6: the ring walker gives us 16 bytes
 abbrev pub rawLength : ℕ
 rawLength = 16
+
+-- a TRB at this address by the 16 bytes of the ring
+abbrev pub rawTrb : List ℕ → ℕ → TransferTrb
+rawTrb raw a = record { variant = decodeTrb raw .variant; addr = a; «cycle_bit» = decodeTrb raw .«cycle_bit» }
 
 -- the TRB of these numbers
 abbrev pub numberedTrb : ℕ → ℕ → ℕ → ℕ → TransferTrb

@@ -1,4 +1,4 @@
-// Raw TRBs for C and Rust, encoded from plain numbers.
+// Raw TRBs for C and Rust, decoded to plain numbers and encoded from them.
 use held_bytes::TrbNumbers;
 use trb::Answer;
 use trb::Refusal;
@@ -8,7 +8,22 @@ ghost use Prim.Native.Nat.{_≤_};
 ghost use lib.ListN.{length};
 ghost use Rattle.buffers.specs.Patch.{patch};
 ghost use Rattle.raw_trb.specs.Raw.{encodeQuestions};
-ghost use Rattle.raw_numbers.specs.RawNumbers.{rawLength, numberedTrb, roomQuestions, Encodes};
+ghost use Rattle.held_bytes.specs.Numbers.{trbOf};
+ghost use Rattle.raw_numbers.specs.RawNumbers.{rawLength, rawTrb, numberedTrb, roomQuestions, Encodes};
+
+// The numbers of a TRB by its 16 bytes in the ring, and its address.
+pub fn decode_trb(raw: [u8; 16], addr: u64) -> TrbNumbers
+    ensures { λ r. ⌜ trbOf r ≡ rawTrb raw addr ⌝ }
+{
+    let decoded = raw_trb_decoder::decode(raw);
+    let variant = decoded.variant;
+    let t = TransferTrb {
+        variant: variant,
+        addr: addr,
+        cycle_bit: decoded.cycle_bit,
+    };
+    held_bytes::numbers_of(t)
+}
 
 // Bytes of a raw TRB.
 const RAW: usize = 16;

@@ -1,11 +1,11 @@
 -- The questions asked of a row are those asked of what its loop found; what each yes leaves; and 5 is never the answer to a row. Assumes nothing.
-use Prim.Native.Nat.{ℕ, zero, suc, _+_, _*_, _≤_}
+use Prim.Native.Nat.{ℕ, zero, suc, _+_, _*_, _<_, _≤_}
 use mathlib.Core.Path.{_≡_, refl, sym, ap, _∙_}
 use mathlib.Core.Bool.{Bool, true, false, not, cond, _&&_, or-true, true≢false}
 use mathlib.Core.List.{List, [], _∷_, _++_}
 use native.Mathlib.Nat.{zero-add, mul-suc}
 use native.Mathlib.Omega.{arith}
-use borrow.Author.Tests.{leb-true, le-leb, eqb-true, eq-eqb, not-true}
+use borrow.Author.Tests.{leb-true, le-leb, lt-leb, eqb-true, eq-eqb, not-true}
 use lib.Dec.{leb, eqb}
 use lib.ListN.{length, take}
 use Rattle.trb.specs.Answers.{numberOf, isAccepted}
@@ -85,7 +85,7 @@ ends-few (t ∷ ts) = by-chain (chainOf (t .variant)) (ends-few ts)
     by-chain true h = omega arith
     by-chain false h = omega arith
 
-module _ (regions : Regions) (results : List TdResult) (ts : List TransferTrb) (few : length ts ≤ length results) where
+module _ (regions : Regions) (results : List TdResult) (ts : List TransferTrb) where
   abbrev test : RowTest
   test = testedRow regions results untested ts
 
@@ -97,23 +97,22 @@ module _ (regions : Regions) (results : List TdResult) (ts : List TransferTrb) (
   tds-found : test .tds ≡ ends ts
   tds-found = found-tds regions results untested ts ∙ zero-add (ends ts)
 
-  module _ (whole : endsTd ts ≡ true) (m n : ℕ) where
+  module _ (m n : ℕ) (few : ends ts ≡ m → m ≤ length results) where
     given-found : ends ts ≡ m → test .given ≡ dataLength (take m results)
     given-found e =
-        found-given regions results untested ts (omega (arith, ends-few ts))
+        found-given regions results untested ts (omega (arith, few e))
         ∙ zero-add _ ∙ ap (λ (k : ℕ). dataLength (take k results)) e
 
-    rightly-found : ends ts ≡ m → test .«given_rightly» ≡ all givenRightly (rowTds ts (take m results))
-    rightly-found e =
+    rightly-found : endsTd ts ≡ true → ends ts ≡ m → test .«given_rightly» ≡ all givenRightly (rowTds ts (take m results))
+    rightly-found whole e =
         found-rightly regions results untested ts
-        ∙ rightly-tds results false 0 ts whole (omega (arith, ends-few ts))
+        ∙ rightly-tds results false 0 ts whole (omega (arith, few e))
         ∙ all-from (tdsOf ts) results
         ∙ ap (all givenRightly) (sym (withResults-take (tdsOf ts) results m (length-tds ts whole ∙ e)))
 
-  module _ (m n : ℕ) where
     counted-by : endsTd ts ≡ true → (c : Bool) → eqb (ends ts) m ≡ c
         → (c && (eqb (dataLength (take m results)) n && all givenRightly (rowTds ts (take m results)))) ≡ (c && (eqb (test .given) n && test .«given_rightly»))
-    counted-by whole true e = let k : ends ts ≡ m = eqb-true (ends ts) m e in rw (given-found whole m n k, rightly-found whole m n k)
+    counted-by whole true e = let k : ends ts ≡ m = eqb-true (ends ts) m e in rw (given-found k, rightly-found whole k)
     counted-by whole false e = refl
 
     ended-by : (b : Bool) → endsTd ts ≡ b
@@ -133,14 +132,36 @@ module _ (regions : Regions) (results : List TdResult) (ts : List TransferTrb) (
 -- ---- The questions of the row, by what the loop found
 
 module _ (l : ℕ) (regions : Regions) (f : BlockFacts) (k : ℕ) (ts : List TransferTrb) (m : ℕ) (results : List TdResult) (n : ℕ) where
-  pub asked-as : length ts ≤ length results
+  -- where a row of m TDs has results for them
+  pub asked-of : (ends ts ≡ m → m ≤ length results)
       → firstNo (askedAs l regions f k (testedRow regions results untested ts) m n) ≡ firstNo (rowQuestions l regions f k ts m (take m results) n)
   unfolding askedAs rowQuestions firstNo
-  asked-as few =
+  asked-of few =
       rw (
-        shaped-as regions results ts few m n k,
-        each-asked regions ts ((leb n maxData, 9) ∷ []) (testedRow regions results untested ts .asked) (number-as regions results ts few),
+        shaped-as regions results ts m n few k,
+        each-asked regions ts ((leb n maxData, 9) ∷ []) (testedRow regions results untested ts .asked) (number-as regions results ts),
       )
+
+  pub asked-as : length ts ≤ length results
+      → firstNo (askedAs l regions f k (testedRow regions results untested ts) m n) ≡ firstNo (rowQuestions l regions f k ts m (take m results) n)
+  asked-as few = asked-of (λ e. omega (arith, e, ends-few ts))
+
+-- a row that is too long is not looked at
+no-later : (p q r s : Bool) (x y : List (Bool × ℕ))
+    → firstNo ((p, 1) ∷ (q, 13) ∷ (r, 2) ∷ (s, 3) ∷ (false, 15) ∷ x) ≡ firstNo ((p, 1) ∷ (q, 13) ∷ (r, 2) ∷ (s, 3) ∷ (false, 15) ∷ y)
+unfolding firstNo
+no-later true true true true x y = refl
+no-later true true true false x y = refl
+no-later true true false s x y = refl
+no-later true false r s x y = refl
+no-later false q r s x y = refl
+
+pub asked-long : (l : ℕ) (regions : Regions) (f : BlockFacts) (k : ℕ) (ts : List TransferTrb) (m : ℕ) (rs : List TdResult) (n : ℕ) (a : RowTest) → maxRow < k
+    → firstNo (askedAs l regions f k a m n) ≡ firstNo (rowQuestions l regions f k ts m rs n)
+unfolding askedAs rowQuestions rowShaped
+asked-long l regions f k ts m rs n a over =
+    let no : leb k maxRow ≡ false = lt-leb k maxRow over in
+    rw no (no-later (leb minRowLog l) (not (shareAnAddress regions)) (soundBlock f) (rowDue f) _ _)
 
 -- ---- What each yes leaves
 

@@ -127,6 +127,23 @@ module _ (td : InTd) (ts : List TransferTrb) (first : ℕ) (p₀ : TdProcessed) 
       pub walkedFrom-stop : ended p ≡ true → Meets (walk (processTrb td) ended p₀ (take n (drop first ts))) (p₀ .progress .records) l₀ p l
       walkedFrom-stop h = walked-stop (tdWalker td) (drop first ts) n there p₀ l₀ l p j w h
 
+-- ---- A TD and a state by other names
+
+pub le-trans-lt : {a b c : ℕ} → a ≤ b → b < c → a < c
+le-trans-lt h k = omega arith
+
+-- what is known of a TD and a state, of those that they are
+module _ (td this : InTd) (p from-here : TdProcessed) (td-is : td ≡ this) (p-is : p ≡ from-here) where
+  pub within-as : Within (this .info) (from-here .progress) → Within (td .info) (p .progress)
+  within-as h = rw (td-is, p-is) h
+
+  pub room-as : (size long : ℕ) → recordLength * (from-here .progress .records + size) ≤ long → recordLength * (p .progress .records + size) ≤ long
+  room-as size long h = rw p-is h
+
+  pub walked-as : (ts : List TransferTrb) (l l' : List ℕ) (q : TdProcessed) → Meets (walk (processTrb td) ended p ts) (p .progress .records) l q l'
+      → Meets (walk (processTrb this) ended from-here ts) (from-here .progress .records) l q l'
+  walked-as ts l l' q m = rw (td-is, p-is) at m
+
 -- ---- The TDs of a row
 
 length-withResults : (tds : List (List TransferTrb)) (rs : List TdResult) → length tds ≡ length rs → length (withResults tds rs) ≡ length rs

@@ -38,12 +38,13 @@ pub struct RowProgress {
 }
 
 // What a TD asks of the device, as far as it was looked at: S, and its Normals.
-struct TdAsk {
-    length: u32,
-    normals: usize,
+pub struct TdAsk {
+    pub length: u32,
+    pub normals: usize,
 }
 
-fn nothing_asked() -> TdAsk
+// Before its first TRB was looked at.
+pub fn nothing_asked() -> TdAsk
     ensures { λ r. ⌜ r ≡ nothingAsked ⌝ }
 {
     TdAsk {
@@ -60,7 +61,7 @@ fn normal_count(variant: TransferTrbVariant) -> usize
 }
 
 // With one TRB more.
-fn asked_more(asked: TdAsk, t: TransferTrb) -> TdAsk
+pub fn asked_more(asked: TdAsk, t: TransferTrb) -> TdAsk
     requires { ⌜ (asked .length + normalLength t < 2 ^ 32) × (asked .normals + normalCount (t .variant) < 2 ^ 64) ⌝ }
     ensures { λ r. ⌜ r ≡ askedMore asked t ⌝ }
 {
@@ -74,7 +75,7 @@ fn asked_more(asked: TdAsk, t: TransferTrb) -> TdAsk
 }
 
 // Logs the request of a TD whose first TRB is at `addr`, if it has a Normal.
-fn log_request(
+pub fn log_request(
     log: &mut [u8],
     records: usize,
     asked: TdAsk,
@@ -90,7 +91,7 @@ fn log_request(
 }
 
 // The TD whose data starts at byte `start` of the joined data.
-fn td_from(
+pub fn td_from(
     endpoint_id: EndpointId,
     slot_id: SlotId,
     mode: InMode,
@@ -105,7 +106,7 @@ fn td_from(
 }
 
 // Before its first TRB.
-fn unprocessed_from(start: u32, records: usize, normals: usize) -> TdProcessed
+pub fn unprocessed_from(start: u32, records: usize, normals: usize) -> TdProcessed
     ensures { λ r. ⌜ r ≡ from start records normals ⌝ }
 {
     let progress = TdProgress {
@@ -121,7 +122,8 @@ fn unprocessed_from(start: u32, records: usize, normals: usize) -> TdProcessed
     }
 }
 
-fn at_start_of_row() -> RowProgress
+// Before the first TD.
+pub fn at_start_of_row() -> RowProgress
     ensures { λ r. ⌜ r ≡ unstarted ⌝ }
 {
     RowProgress {
@@ -133,7 +135,7 @@ fn at_start_of_row() -> RowProgress
 }
 
 // Behind a TD, finished well or failed.
-fn td_done(so_far: RowProgress, given: TdResult, processed: TdProcessed) -> RowProgress
+pub fn td_done(so_far: RowProgress, given: TdResult, processed: TdProcessed) -> RowProgress
     requires { ⌜ («so_far» .finished + 1 < 2 ^ 64) × («so_far» .start + given .length < 2 ^ 32) ⌝ }
     ensures { λ r. ⌜ r ≡ tdDone «so_far» given (processed .result) (processed .progress .records) ⌝ }
 {

@@ -1,5 +1,11 @@
--- Where a step over the lines of an input may stand. Assumes nothing.
-use Prim.Native.Nat.{ℕ, _≤_}
+-- What a step over the lines of an input finds. Assumes nothing.
+use Prim.Native.Nat.{ℕ, _+_, _-_, _≤_, _<_}
+use mathlib.Core.Path.{_≡_}
+use mathlib.Core.List.{List}
+use lib.ListN.{length, take, drop}
+use Rattle.script_lines.specs.Lines.{firstLine}
+use Rattle.script_lines.specs.declared.Found.{Found}
+use Rattle.script_lines.specs.declared.Found.the-variants.{Line, Piece, End, Unfinished}
 use Rattle.script_lines.specs.declared.Step.{Step}
 
 -- in a buffer of n bytes, the line and what is left behind it lie in the bytes that are filled
@@ -8,3 +14,40 @@ pub record Stepped (n : ℕ) (s : Step) : Type 0 where
   pub inside : s .end ≤ n
   pub left : s .next ≤ s .filled
   pub room : s .filled ≤ n
+
+-- no line was found: the next step starts at the front, with so many bytes in the buffer
+abbrev pub noLine : Found → ℕ → Step
+noLine f n = record { found = f; from = 0; end = 0; next = 0; filled = n }
+
+-- the input has ended: a line is unfinished where n of its bytes are held
+abbrev pub AtEnd : Found → ℕ → Type 0
+AtEnd Line n = ⊥
+AtEnd Piece n = ⊥
+AtEnd End n = n ≡ 0
+AtEnd Unfinished n = 0 < n
+
+-- a line was found: the bytes from index from up to the first line feed. The input is as it was
+pub record LineTaken (l : List ℕ) (from filled : ℕ) (s : Step) (l' : List ℕ) : Type 0 where
+  pub input : l' ≡ l
+  pub start : s .from ≡ from
+  pub line : s .end ≡ from + length (firstLine (drop from (take filled l)))
+  pub ended : s .end < filled
+  pub next : s .next ≡ s .end + 1
+  pub bytes : s .filled ≡ filled
+
+-- a piece of input was read behind the bytes that were left, which stand at the front
+pub record PieceRead (l : List ℕ) (from filled : ℕ) (s : Step) (l' : List ℕ) : Type 0 where
+  pub front : take (filled - from) l' ≡ take (filled - from) (drop from l)
+  pub more : filled - from < s .filled
+  pub next : s .next ≡ 0
+
+-- what a step found, from index from of the input l on, of which so many bytes were filled
+abbrev pub Finds : Found → List ℕ → ℕ → ℕ → Step → List ℕ → Type 0
+Finds Line l from filled s l' = LineTaken l from filled s l'
+Finds Piece l from filled s l' = PieceRead l from filled s l'
+Finds End l from filled s l' = from ≡ filled
+Finds Unfinished l from filled s l' = from < filled
+
+pub record NextLine (l : List ℕ) (from filled : ℕ) (s : Step) (l' : List ℕ) : Type 0 where
+  pub stepped : Stepped (length l) s
+  pub finds : Finds (s .found) l from filled s l'

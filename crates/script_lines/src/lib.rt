@@ -4,7 +4,8 @@ use libc::STDOUT_FILENO;
 ghost use mathlib.Core.Path.{_≡_};
 ghost use Prim.Native.Nat.{_+_, _≤_, _<_};
 ghost use lib.ListN.{length};
-ghost use Rattle.script_lines.specs.Steps.{Stepped};
+ghost use Rattle.script_lines.specs.Lines.{LineEnd, MovedToFront, ReadBehind};
+ghost use Rattle.script_lines.specs.Steps.{noLine, AtEnd, NextLine};
 
 // Characters of the longest line that can be good: `u`, an address and a raw TRB, and the spaces between them.
 pub const MAX_LINE: usize = 3 + numerals::HEX_PLACES + call_number::RAW_PLACES;
@@ -29,9 +30,9 @@ pub struct Step {
 }
 
 // The index of the first line feed from `from` on, or the input's length.
-fn line_end(input: &[u8], from: usize) -> usize
+pub fn line_end(input: &[u8], from: usize) -> usize
     requires { ⌜ from ≤ length (now input) ⌝ }
-    ensures { λ r. ⌜ (from ≤ r) × (r ≤ length (now (input .entry))) ⌝ }
+    ensures { λ r. ⌜ LineEnd (now (input .entry)) from r ⌝ }
 {
     let mut at = from;
     while at < input.len() {
@@ -46,7 +47,7 @@ fn line_end(input: &[u8], from: usize) -> usize
 // Reads behind the first `held` bytes of the input. Returns how many bytes there are then.
 fn read_behind(input: &mut [u8], held: usize) -> usize
     requires { ⌜ held ≤ length (now input) ⌝ }
-    ensures { λ r. ⌜ (held ≤ r) × (r ≤ length (now (input .exit))) ⌝ }
+    ensures { λ r. ⌜ ReadBehind held r (now (input .entry)) (now (input .exit)) ⌝ }
 {
     let rest = &mut input[held..];
     let got = libc::read(STDIN_FILENO, rest);
@@ -56,7 +57,7 @@ fn read_behind(input: &mut [u8], held: usize) -> usize
 // Moves the bytes from `from` up to `end` to the front. Returns how many they are.
 fn move_to_front(input: &mut [u8], from: usize, end: usize) -> usize
     requires { ⌜ (from ≤ end) × (end ≤ length (now input)) ⌝ }
-    ensures { λ r. ⌜ r + from ≡ end ⌝ }
+    ensures { λ r. ⌜ MovedToFront from end r (now (input .entry)) (now (input .exit)) ⌝ }
 {
     let mut to = 0;
     let mut at = from;
@@ -70,7 +71,7 @@ fn move_to_front(input: &mut [u8], from: usize, end: usize) -> usize
 
 // No line: the next step starts at the front, with so many bytes in the buffer.
 fn no_line(found: Found, filled: usize) -> Step
-    ensures { λ r. ⌜ (r .from ≡ 0) × ((r .end ≡ 0) × ((r .next ≡ 0) × (r .filled ≡ filled))) ⌝ }
+    ensures { λ r. ⌜ r ≡ noLine found filled ⌝ }
 {
     Step {
         found: found,
@@ -82,7 +83,9 @@ fn no_line(found: Found, filled: usize) -> Step
 }
 
 // The input has ended, with so many bytes of a line that no line feed ends.
-fn at_end(held: usize) -> Found {
+fn at_end(held: usize) -> Found
+    ensures { λ r. ⌜ AtEnd r held ⌝ }
+{
     if 0 < held {
         return Found::Unfinished;
     }
@@ -92,7 +95,7 @@ fn at_end(held: usize) -> Found {
 // Reads a piece of input behind the bytes of an unfinished line.
 fn refill(input: &mut [u8], from: usize, filled: usize) -> Step
     requires { ⌜ (from ≤ filled) × (filled ≤ length (now input)) ⌝ }
-    ensures { λ r. ⌜ Stepped (length (now (input .entry))) r ⌝ }
+    ensures { λ r. ⌜ NextLine (now (input .entry)) from filled r (now (input .exit)) ⌝ }
 {
     let held = move_to_front(input, from, filled);
     if MAX_LINE < held {
@@ -108,7 +111,7 @@ fn refill(input: &mut [u8], from: usize, filled: usize) -> Step
 // The next line of the input, or a further piece of it.
 pub fn next_line(input: &mut [u8], from: usize, filled: usize) -> Step
     requires { ⌜ (from ≤ filled) × (filled ≤ length (now input)) ⌝ }
-    ensures { λ r. ⌜ Stepped (length (now (input .entry))) r ⌝ }
+    ensures { λ r. ⌜ NextLine (now (input .entry)) from filled r (now (input .exit)) ⌝ }
 {
     let end = line_end(&input[..filled], from);
     if end < filled {

@@ -256,7 +256,7 @@ fn run_other(
     requires { ⌜ length (now log) ≤ minRowLog ⌝ }
 {
     let start = call_script::least(1, data.len());
-    let ran = session::run_call(
+    let ran = session_calls::run_call(
         text,
         0,
         session,
@@ -296,7 +296,7 @@ fn run_line(
     let second = progress.second;
     let before = progress.verdict;
     let call = call_script::read_call(line);
-    let ran = session::run_call(text, 0, first, call, log, collect, data, low, high);
+    let ran = session_calls::run_call(text, 0, first, call, log, collect, data, low, high);
     let other_ran = run_other(
         other_text,
         second,

@@ -1,5 +1,4 @@
-// What a call script has come to, and what each call makes of it.
-use call_script::Call;
+// What a call script has come to, and each change of it.
 use control_block::ControlBlock;
 use control_block::GuestRelease;
 use control_calls::ControlRan;
@@ -13,10 +12,7 @@ use trb::InTrbProcessingStatus;
 use trb::SlotId;
 use trb::TransferTrb;
 ghost use mathlib.Core.Path.{_≡_};
-ghost use Prim.Native.Nat.{_+_, _≤_};
-ghost use lib.ListN.{length};
-ghost use Rattle.trb.specs.Limits.{minRowLog};
-ghost use Rattle.state_text.specs.Widths.{maxAnswer};
+ghost use Rattle.session.specs.Sessions.{newSession, isIn, withIn, withControl, withoutRow, lentOf, quietRan, badQuiet, goodQuiet, inRan, controlRan};
 
 // Guest memory at the start: one region of this base and length.
 pub const FIRST_BASE: u64 = 0x8000;
@@ -48,20 +44,27 @@ pub struct Session {
     pub result_count: usize,
 }
 
-pub fn new_session() -> Session {
-    let in_created = in_endpoint::create(EndpointId(0), SlotId(0), InMode::AsPorted);
-    let control_created = control_endpoint::create(
-        EndpointId(0),
-        SlotId(0),
-        GuestRelease::Release4,
-    );
-    let in_block = in_created.block;
-    let control_block = control_created.block;
+// What a line leaves: the session, the index behind the answer, how many records were logged, and whether the line was good.
+pub struct Ran {
+    pub session: Session,
+    pub end: usize,
+    pub records: usize,
+    pub good: bool,
+}
+
+// A script's session before its first line.
+pub fn new_session() -> Session
+    ensures { λ r. ⌜ r ≡ newSession ⌝ }
+{
+    let in_block = in_block::fresh(EndpointId(0), SlotId(0), InMode::AsPorted);
+    let control_block = control_block::fresh(EndpointId(0), SlotId(0), GuestRelease::Release4);
     let blank = held::blank();
     let nothing = TdResult {
         status: InTrbProcessingStatus::Success,
         length: 0,
     };
+    let row = [blank; trb::MAX_ROW];
+    let results = [nothing; trb::MAX_ROW];
     Session {
         endpoint: Endpoint::Nothing,
         in_block: in_block,
@@ -72,23 +75,27 @@ pub fn new_session() -> Session {
         high_length: 0,
         log_length: call_script::MAX_LENT_LOG,
         collect_length: trb::MAX_COLLECTED,
-        row: [blank; trb::MAX_ROW],
+        row: row,
         row_count: 0,
-        results: [nothing; trb::MAX_ROW],
+        results: results,
         result_count: 0,
     }
 }
 
-// What a line leaves: the session, the index behind the answer, how many records were logged, and whether the line was good.
-pub struct Ran {
-    pub session: Session,
-    pub end: usize,
-    pub records: usize,
-    pub good: bool,
+// Are calls made on an IN endpoint?
+pub fn is_in(endpoint: Endpoint) -> bool
+    ensures { λ r. ⌜ r ≡ isIn endpoint ⌝ }
+{
+    match endpoint {
+        Endpoint::Nothing => false,
+        Endpoint::In => true,
+        Endpoint::Control => false,
+    }
 }
 
-fn bad(session: Session, at: usize) -> Ran
-    ensures { λ r. ⌜ r .end ≡ at ⌝ }
+// A bad line: nothing is done and nothing printed.
+pub fn bad(session: Session, at: usize) -> Ran
+    ensures { λ r. ⌜ r ≡ quietRan (badQuiet session) at ⌝ }
 {
     Ran {
         session: session,
@@ -99,8 +106,8 @@ fn bad(session: Session, at: usize) -> Ran
 }
 
 // A good line that prints nothing.
-fn silent(session: Session, at: usize) -> Ran
-    ensures { λ r. ⌜ r .end ≡ at ⌝ }
+pub fn silent(session: Session, at: usize) -> Ran
+    ensures { λ r. ⌜ r ≡ quietRan (goodQuiet session) at ⌝ }
 {
     Ran {
         session: session,
@@ -110,8 +117,9 @@ fn silent(session: Session, at: usize) -> Ran
     }
 }
 
-fn after_in(session: Session, ran: InRan) -> Ran
-    ensures { λ r. ⌜ r .end ≡ ran .end ⌝ }
+// What a call on an IN endpoint leaves, which calls are made on from here on.
+pub fn after_in(session: Session, ran: InRan) -> Ran
+    ensures { λ r. ⌜ r ≡ inRan session ran ⌝ }
 {
     let in_block = ran.block;
     let control_block = session.control_block;
@@ -140,8 +148,9 @@ fn after_in(session: Session, ran: InRan) -> Ran
     }
 }
 
-fn after_control(session: Session, ran: ControlRan) -> Ran
-    ensures { λ r. ⌜ r .end ≡ ran .end ⌝ }
+// What a call on a control endpoint leaves, likewise.
+pub fn after_control(session: Session, ran: ControlRan) -> Ran
+    ensures { λ r. ⌜ r ≡ controlRan session ran ⌝ }
 {
     let in_block = session.in_block;
     let control_block = ran.block;
@@ -170,97 +179,20 @@ fn after_control(session: Session, ran: ControlRan) -> Ran
     }
 }
 
-// As many of the bytes of `memory` as a region of this length has, filled anew.
-fn fill_region(memory: &mut [u8], base: u64, length: usize) -> usize {
-    let end = call_script::least(length, memory.len());
-    script_bytes::fill_guest(&mut memory[..end], base);
-    end
-}
-
-fn move_window(
-    session: Session,
-    at: usize,
-    low_base: u64,
-    low_length: usize,
-    high_base: u64,
-    high_length: usize,
-    low: &mut [u8],
-    high: &mut [u8],
-) -> Ran
-    ensures { λ r. ⌜ r .end ≡ at ⌝ }
+// No row is being written down.
+pub fn without_row(session: Session) -> Session
+    ensures { λ r. ⌜ r ≡ withoutRow session ⌝ }
 {
-    let low_end = fill_region(low, low_base, low_length);
-    let high_end = fill_region(high, high_base, high_length);
-    let mut next = session;
-    next.low_base = low_base;
-    next.low_length = low_end;
-    next.high_base = high_base;
-    next.high_length = high_end;
-    silent(next, at)
-}
-
-fn lend_buffers(session: Session, at: usize, log_length: usize, collect_length: usize) -> Ran
-    ensures { λ r. ⌜ r .end ≡ at ⌝ }
-{
-    let mut next = session;
-    next.log_length = log_length;
-    next.collect_length = collect_length;
-    silent(next, at)
-}
-
-// ---- The row that is being written down
-
-// Nothing is written down.
-fn without_row(session: Session) -> Session {
     let mut next = session;
     next.row_count = 0;
     next.result_count = 0;
     next
 }
 
-// The TRB goes to its end.
-fn append_trb(session: Session, at: usize, t: TransferTrb) -> Ran
-    ensures { λ r. ⌜ r .end ≡ at ⌝ }
+// How much of each buffer the script lends.
+pub fn lent_of(session: Session) -> Lent
+    ensures { λ r. ⌜ r ≡ lentOf session ⌝ }
 {
-    let place = session.row_count;
-    if trb::MAX_ROW < place {
-        return bad(session, at);
-    }
-    let mut next = session;
-    if place < trb::MAX_ROW {
-        next.row[place] = t;
-    }
-    next.row_count = place + 1;
-    silent(next, at)
-}
-
-// Its next TD is given this.
-fn append_result(session: Session, at: usize, given: TdResult) -> Ran
-    ensures { λ r. ⌜ r .end ≡ at ⌝ }
-{
-    let place = session.result_count;
-    if trb::MAX_ROW < place {
-        return bad(session, at);
-    }
-    let mut next = session;
-    if place < trb::MAX_ROW {
-        next.results[place] = given;
-    }
-    next.result_count = place + 1;
-    silent(next, at)
-}
-
-fn is_in(endpoint: Endpoint) -> bool {
-    match endpoint {
-        Endpoint::Nothing => false,
-        Endpoint::In => true,
-        Endpoint::Control => false,
-    }
-}
-
-// ---- Calls
-
-fn lent_of(session: Session) -> Lent {
     Lent {
         log: session.log_length,
         collect: session.collect_length,
@@ -269,222 +201,4 @@ fn lent_of(session: Session) -> Lent {
         high_base: session.high_base,
         high: session.high_length,
     }
-}
-
-// The row call: the row written down is empty afterwards, whatever the answer.
-fn run_row(
-    text: &mut [u8],
-    at: usize,
-    session: Session,
-    bytes: usize,
-    log: &mut [u8],
-    data: &[u8],
-    low: &mut [u8],
-    high: &mut [u8],
-) -> Ran
-    requires { ⌜ at + maxAnswer ≤ length (now text) ⌝ }
-    requires { ⌜ length (now log) ≤ minRowLog ⌝ }
-    ensures { λ r. ⌜ r .end ≤ at + maxAnswer ⌝ }
-{
-    let block = session.in_block;
-    let row = session.row;
-    let results = session.results;
-    let ran = lent_calls::run_row(
-        text,
-        at,
-        lent_of(session),
-        block,
-        row,
-        session.row_count,
-        results,
-        session.result_count,
-        bytes,
-        log,
-        data,
-        low,
-        high,
-    );
-    after_in(without_row(session), ran)
-}
-
-fn run_in(
-    text: &mut [u8],
-    at: usize,
-    session: Session,
-    call: Call,
-    log: &mut [u8],
-    data: &[u8],
-    low: &mut [u8],
-    high: &mut [u8],
-) -> Ran
-    requires { ⌜ at + maxAnswer ≤ length (now text) ⌝ }
-    requires { ⌜ length (now log) ≤ minRowLog ⌝ }
-    ensures { λ r. ⌜ r .end ≤ at + maxAnswer ⌝ }
-{
-    let block = session.in_block;
-    let ran = lent_calls::run_in(
-        text,
-        at,
-        lent_of(session),
-        block,
-        call,
-        log,
-        data,
-        low,
-        high,
-    );
-    after_in(session, ran)
-}
-
-fn run_control(
-    text: &mut [u8],
-    at: usize,
-    session: Session,
-    call: Call,
-    log: &mut [u8],
-    collect: &mut [u8],
-    data: &[u8],
-    low: &mut [u8],
-    high: &mut [u8],
-) -> Ran
-    requires { ⌜ at + maxAnswer ≤ length (now text) ⌝ }
-    requires { ⌜ length (now log) ≤ minRowLog ⌝ }
-    ensures { λ r. ⌜ r .end ≤ at + maxAnswer ⌝ }
-{
-    let block = session.control_block;
-    let ran = lent_calls::run_control(
-        text,
-        at,
-        lent_of(session),
-        block,
-        call,
-        log,
-        collect,
-        data,
-        low,
-        high,
-    );
-    after_control(session, ran)
-}
-
-// A call on the endpoint that there is.
-fn run_on_endpoint(
-    text: &mut [u8],
-    at: usize,
-    session: Session,
-    call: Call,
-    log: &mut [u8],
-    collect: &mut [u8],
-    data: &[u8],
-    low: &mut [u8],
-    high: &mut [u8],
-) -> Ran
-    requires { ⌜ at + maxAnswer ≤ length (now text) ⌝ }
-    requires { ⌜ length (now log) ≤ minRowLog ⌝ }
-    ensures { λ r. ⌜ r .end ≤ at + maxAnswer ⌝ }
-{
-    let endpoint = session.endpoint;
-    match endpoint {
-        Endpoint::Nothing => bad(session, at),
-        Endpoint::In => run_in(text, at, session, call, log, data, low, high),
-        Endpoint::Control => run_control(text, at, session, call, log, collect, data, low, high),
-    }
-}
-
-fn create_in(
-    text: &mut [u8],
-    at: usize,
-    session: Session,
-    endpoint_id: EndpointId,
-    slot_id: SlotId,
-    mode: InMode,
-) -> Ran
-    requires { ⌜ at + maxAnswer ≤ length (now text) ⌝ }
-    ensures { λ r. ⌜ r .end ≤ at + maxAnswer ⌝ }
-{
-    after_in(
-        without_row(session),
-        in_calls::create(text, at, endpoint_id, slot_id, mode),
-    )
-}
-
-fn create_control(
-    text: &mut [u8],
-    at: usize,
-    session: Session,
-    endpoint_id: EndpointId,
-    slot_id: SlotId,
-    release: GuestRelease,
-    collect: &[u8],
-) -> Ran
-    requires { ⌜ at + maxAnswer ≤ length (now text) ⌝ }
-    ensures { λ r. ⌜ r .end ≤ at + maxAnswer ⌝ }
-{
-    after_control(
-        without_row(session),
-        control_calls::create(text, at, endpoint_id, slot_id, release, collect),
-    )
-}
-
-// Makes a call and writes its answer.
-pub fn run_call(
-    text: &mut [u8],
-    at: usize,
-    session: Session,
-    call: Call,
-    log: &mut [u8],
-    collect: &mut [u8],
-    data: &[u8],
-    low: &mut [u8],
-    high: &mut [u8],
-) -> Ran
-    requires { ⌜ at + maxAnswer ≤ length (now text) ⌝ }
-    requires { ⌜ length (now log) ≤ minRowLog ⌝ }
-    ensures { λ r. ⌜ r .end ≤ at + maxAnswer ⌝ }
-{
-    if let Call::Window(low_base, low_length, high_base, high_length) = call {
-        return move_window(
-            session,
-            at,
-            low_base,
-            low_length,
-            high_base,
-            high_length,
-            low,
-            high,
-        );
-    }
-    if let Call::Buffers(log_length, collect_length) = call {
-        return lend_buffers(session, at, log_length, collect_length);
-    }
-    if let Call::CreateIn(endpoint_id, slot_id, mode) = call {
-        return create_in(text, at, session, endpoint_id, slot_id, mode);
-    }
-    if let Call::CreateControl(endpoint_id, slot_id, release) = call {
-        return create_control(text, at, session, endpoint_id, slot_id, release, collect);
-    }
-    if let Call::Time(_, _) = call {
-        return silent(session, at);
-    }
-    if let Call::Captured(_, _, _) = call {
-        return silent(session, at);
-    }
-    let endpoint = session.endpoint;
-    if !is_in(endpoint) {
-        return run_on_endpoint(text, at, session, call, log, collect, data, low, high);
-    }
-    if let Call::AppendTrb(t) = call {
-        return append_trb(session, at, t);
-    }
-    if let Call::AppendResult(status, length) = call {
-        let given = TdResult {
-            status: status,
-            length: length,
-        };
-        return append_result(session, at, given);
-    }
-    if let Call::CompleteRow(length) = call {
-        return run_row(text, at, session, length, log, data, low, high);
-    }
-    run_on_endpoint(text, at, session, call, log, collect, data, low, high)
 }

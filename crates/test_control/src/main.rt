@@ -193,7 +193,7 @@ fn complete(block: ControlBlock) -> ControlBlock {
     let device = [7u8; 18];
     let state = block.state;
     let result = device_result(state);
-    let completed = control_endpoint::next_completion(&mut log, block, result, &device);
+    let completed = control_completion::next_completion(&mut log, block, result, &device);
     let answer = completed.answer;
     print_completion(answer);
     print_records(&log, completed.records);
@@ -205,7 +205,7 @@ fn complete(block: ControlBlock) -> ControlBlock {
 fn submit(window: &[u8], block: ControlBlock, t: TransferTrb) -> ControlBlock {
     let mut log = log_buffer();
     let mut collect = io::large_buffer();
-    let submitted = control_endpoint::submit_trb(
+    let submitted = control_submission::submit_trb(
         &mut log,
         &mut collect,
         block,
@@ -239,7 +239,7 @@ fn run(window: &[u8], block: ControlBlock, trbs: [TransferTrb; ROW], count: usiz
 fn pass(window: &[u8], block: ControlBlock, t: TransferTrb) -> ControlBlock {
     let mut log = log_buffer();
     let mut collect = io::large_buffer();
-    let submitted = control_endpoint::submit_trb(
+    let submitted = control_submission::submit_trb(
         &mut log,
         &mut collect,
         block,
@@ -250,7 +250,7 @@ fn pass(window: &[u8], block: ControlBlock, t: TransferTrb) -> ControlBlock {
         b"",
     );
     let between = submitted.block;
-    let completed = control_endpoint::next_completion(
+    let completed = control_completion::next_completion(
         &mut log,
         between,
         ControlRequestProcessingResult::NoneGiven,

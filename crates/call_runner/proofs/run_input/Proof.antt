@@ -39,9 +39,9 @@ loop-again c =
     let t = c .before .before .before .before .before .before .before .before .before .before .before .run-step in
     let n = c .before .before .before .before .before .before .before .before .before .before .before .before .before .before .before .before .before .before .before .before .next-line in
     let kept = c .before .before .before .before .before .before .before .before .before .before .before .before .before .before .before .before .before .before .before .before .before .before .before .loop .inv .1 .1 in (
-      n .ensures .left,
+      n .ensures .stepped .left,
       (
-        omega (arith, n .ensures .room, kept .1 .0),
+        omega (arith, n .ensures .stepped .room, kept .1 .0),
         (
           t .kept .0 ∙ kept .0,
           (

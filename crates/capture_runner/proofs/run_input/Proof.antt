@@ -32,7 +32,7 @@ run-step-requires c κs =
     let n = c .before .before .before .before .before .before .before .before .before .next-line in
     let kept = c .before .before .before .before .before .before .before .before .before .before .before .before .loop .inv .1 .1 in
     let pre = c .before .before .before .before .before .before .before .before .before .before .before .before .before .before .before .before .before .before .before .before .before .before .pre in
-    (omega (arith, pre .0, kept .1 .0), (omega (arith, pre .1, kept .1 .1 .1 .0), subst (λ k. Stepped k (n .result)) (sym (n .kept .0)) (n .ensures)))
+    (omega (arith, pre .0, kept .1 .0), (omega (arith, pre .1, kept .1 .1 .1 .0), subst (λ k. Stepped k (n .result)) (sym (n .kept .0)) (n .ensures .stepped)))
 
 turns-left-requires : tie.Need-turns-left-requires Inv-loop μ-loop
 turns-left-requires c κs = omega (arith, c .before .before .before .before .before .before .before .before .before .before .before .before .before .before .before .before .before .before .before .before .before .before .before .before .loop-test .taken)
@@ -45,9 +45,9 @@ loop-again c =
     let t = c .before .before .before .before .before .before .before .before .before .before .before .before .before .run-step in
     let n = c .before .before .before .before .before .before .before .before .before .before .before .before .before .before .before .before .before .before .before .before .before .before .before .next-line in
     let kept = c .before .before .before .before .before .before .before .before .before .before .before .before .before .before .before .before .before .before .before .before .before .before .before .before .before .before .loop .inv .1 .1 in (
-      n .ensures .left,
+      n .ensures .stepped .left,
       (
-        omega (arith, n .ensures .room, kept .1 .1 .0),
+        omega (arith, n .ensures .stepped .room, kept .1 .1 .0),
         (
           t .kept .0 ∙ kept .0,
           (

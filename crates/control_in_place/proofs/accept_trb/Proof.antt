@@ -18,33 +18,29 @@ abbrev memory : tie.Start → Memory
 memory s = memoryOf (s .args .low-base) (s .args .low .now) (s .args .high-base) (s .args .high .now)
 
 passed : (s : tie.Start) → let a = s .args in Passed (length (a .log .now)) (length (a .collect .now)) (factsOf (blockOf (a .block .now))) (a .outcome) (trbOf (a .numbers))
-passed s = let a = s .args in pass (a .log .now) (a .collect .now) (a .block .now) (trbOf (a .numbers)) (memory s) (a .outcome) (s .pre)
-
-trb-of-requires : tie.Need-trb-of-requires
-trb-of-requires c κs = search needs
+passed s = let a = s .args in pass (a .log .now) (a .collect .now) (a .block .now) (trbOf (a .numbers)) (memory s) (a .outcome) (s .pre .1)
 
 transfer-requires : tie.Need-transfer-requires
 transfer-requires c κs = search needs
 
 log-submission-requires : tie.Need-log-submission-requires
 log-submission-requires c κs =
-    let s = c .before .before .before .before .before .before .before .before .before .before in
-    (s .pre .long, (passed s .log-long, passed s .held))
+    let s = c .before .before .before .before .before .before .before .before .before in
+    (s .pre .1 .long, (passed s .log-long, passed s .held))
 
 collect-trb-requires : tie.Need-collect-trb-requires
 collect-trb-requires c κs =
     let w = c .before .before .before .before .before .before in
-    let v = w .before .before in
-    let s = v .before .before .before .before .before .before in
+    let s = w .before .before .before .before .before .before .before in
     let old = w .transfer .ensures in
-    let kind = v .trb-of .ensures in
+    let kind = s .pre .0 in
     (passed s .collect-long, (λ j. collectable (s .args .outcome) (old j .direction) (old j .collected) (dataOf (kind j .variant))) ∙ passed s .size)
 
 take-trb-requires : tie.Need-take-trb-requires
 take-trb-requires c κs =
-    let s = c .before .before .before .before .before .before .before .before .before .before .before .before .before .before .before .before .before .before in
+    let s = c .before .before .before .before .before .before .before .before .before .before .before .before .before .before .before .before .before in
     let a = s .args in
-    ((s .pre .long, (passed s .held, passed s .collected)), holdable (a .log .now) (a .collect .now) (a .block .now) (trbOf (a .numbers)) (memory s) (a .outcome) (s .pre))
+    ((s .pre .1 .long, (passed s .held, (passed s .collected, s .pre .0))), holdable (a .log .now) (a .collect .now) (a .block .now) (trbOf (a .numbers)) (memory s) (a .outcome) (s .pre .1))
 
 same-length : tie.Need-same-length
 same-length c = search needs
@@ -61,10 +57,9 @@ returns c =
     let k = t .before .before .before .before in
     let l = k .before .before .before .before in
     let w = l .before .before .before in
-    let v = w .before .before in
-    let s = v .before .before .before .before .before .before in
+    let s = w .before .before .before .before .before .before .before in
     let old = w .transfer .ensures in
-    let kind = v .trb-of .ensures in
+    let kind = s .pre .0 in
     record {
       log = l .log-submission .ensures;
       collect = k .collect-trb .ensures ∙ (λ j. patch (s .args .collect .now) (old j .collected) (bytesTaken (s .args .outcome) (old j .direction) (kind j .variant) (memory s)));
@@ -75,7 +70,6 @@ pub accept-trb-spec : {M : Type 1} → statement M
 accept-trb-spec =
     tie.close
     (tie.spec
-    trb-of-requires
     transfer-requires
     log-submission-requires
     collect-trb-requires

@@ -48,7 +48,9 @@ enum-told : tie.Need-enum-told
 enum-told c = search needs
 
 accept-trb-requires : tie.Need-accept-trb-requires
-accept-trb-requires c κs = acceptable (c .before .before .before .before .before) (c .before .before .before .enum-told .given .1)
+accept-trb-requires c κs =
+    let k = c .before .before .before .before .before in
+    (k .before .before .before .trb-of .ensures, acceptable k (c .before .before .before .enum-told .given .1))
 
 same-length : tie.Need-same-length
 same-length c = search needs

@@ -16,7 +16,7 @@ use Rattle.control_stores.proofs.take_trb.Statement.{statement}
 use Rattle.control_stores.proofs.take_trb.Tie as tie
 
 abbrev start : tie.After-places-dropped → tie.Start
-start d = d .before .before .before .before .before .before .before .before
+start d = d .before .before .before .before .before .before .before
 
 -- as many stay as are not dropped
 kept : (d : tie.After-places-dropped) → let s = start d .args in
@@ -25,9 +25,6 @@ kept d =
     let count = d .before .before .held .ensures .0 in
     let dropped = d .places-dropped .ensures ∙ (λ j. placesDropped (d .before .is-restart .ensures j) (count j)) in
     λ j. count j - dropped j
-
-trb-of-requires : tie.Need-trb-of-requires
-trb-of-requires c κs = search needs
 
 transfer-requires : tie.Need-transfer-requires
 transfer-requires c κs = search needs
@@ -54,7 +51,7 @@ hold-trb-requires c κs =
 transfer-after-requires : tie.Need-transfer-after-requires
 transfer-after-requires c κs =
     let d = c .before .before .before .before in
-    omega (arith, ap (λ (w : ControlTransfer). w .collected) (d .before .before .before .before .transfer .ensures), start d .pre .0 .1 .1)
+    omega (arith, ap (λ (w : ControlTransfer). w .collected) (d .before .before .before .before .transfer .ensures), start d .pre .0 .1 .1 .0)
 
 state-after-requires : tie.Need-state-after-requires
 state-after-requires c κs = search needs
@@ -78,9 +75,8 @@ returns c =
     let h = w .before .before .before in
     let d = h .before .before in
     let t = d .before .before .before .before in
-    let v = t .before .before in
     let a = start d .args in
-    let kind = v .trb-of .ensures in
+    let kind = start d .pre .0 .1 .1 .1 in
     let old = t .transfer .ensures in
     taken (a .block .now) (h .hold-trb .last .0) (a .outcome) (trbOf (a .numbers)) (d .before .before .held .result - d .places-dropped .result) (h .hold-trb .result) (kept d) (h .hold-trb .ensures) (w .transfer-after .result)
     (n .state-after .result) (p .put-head .last .0) (w .transfer-after .ensures ∙ (λ j. transferAfter (a .outcome) (kind j .variant) (kind j .addr) (old j)))
@@ -90,7 +86,6 @@ pub take-trb-spec : {M : Type 1} → statement M
 take-trb-spec =
     tie.close
     (tie.spec
-    trb-of-requires
     transfer-requires
     held-requires
     is-restart-requires

@@ -36,27 +36,22 @@ mul-one c = search needs
 array-copy-out-one : tie.Need-array-copy-out-one Inv-loop μ-loop
 array-copy-out-one c = search needs
 
-normal-length-requires : tie.Need-normal-length-requires Inv-loop μ-loop
-normal-length-requires c κs = search needs
+bytes-taken-requires : tie.Need-bytes-taken-requires Inv-loop μ-loop
+bytes-taken-requires c κs = search needs
 
-smaller-requires : tie.Need-smaller-requires Inv-loop μ-loop
-smaller-requires c κs = search needs
-
-normal-pointer-requires : tie.Need-normal-pointer-requires Inv-loop μ-loop
-normal-pointer-requires c κs = search needs
-
-range-inside-requires : tie.Need-range-inside-requires Inv-loop μ-loop
-range-inside-requires c κs = search needs
+write-inside-requires : tie.Need-write-inside-requires Inv-loop μ-loop
+write-inside-requires c κs = search needs
 
 -- the answer to the question of a turn
-asked : (c : tie.After-range-inside Inv-loop μ-loop) →
-    let l = c .before .before .before .before .before .before in
+asked : (c : tie.After-write-inside Inv-loop μ-loop) →
+    let l = c .before .before .before .before in
     let s = l .before .before .args in
     let normal = normalOf (getD (s .t1) (l .loop .i) pastEnd .variant) in
-    c .range-inside .result ≡ rangeInside (s .regions) (pointerOf normal) (min (lengthOf normal) (l .loop .left))
+    c .write-inside .result ≡ rangeInside (s .regions) (pointerOf normal) (min (lengthOf normal) (l .loop .left))
 asked c =
-    let b = c .before in
-    rw (← b .before .before .normal-length .ensures, ← b .before .smaller .ensures, ← b .normal-pointer .ensures) (c .range-inside .ensures)
+    let l = c .before .before .before .before in
+    let s = l .before .before .args in
+    c .write-inside .ensures ∙ ap (rangeInside (s .regions) (pointerOf (normalOf (getD (s .t1) (l .loop .i) pastEnd .variant)))) (c .before .bytes-taken .ensures)
 
 -- no more places are read than there are
 few : (c : tie.After-places-held Inv-loop μ-loop) → c .places-held .result ≤ length (c .before .args .t1)
@@ -72,11 +67,11 @@ held-inside c =
 returns : tie.Need-returns Inv-loop μ-loop
 returns c =
     let asking = c .before in
-    let turn = asking .before .before .before .before .before in
+    let turn = asking .before .before .before in
     let l = turn .before in
     let s = l .before .before .args in
     left-out (s .regions) (s .t1) (l .before .places-held .result) (few (l .before)) (s .given) (l .loop .left) (l .loop .i) (l .loop .inv .0) (turn .loop-test .taken)
-    (sym (asked asking) ∙ not-true (asking .range-inside .result) (c .if1 .taken))
+    (sym (asked asking) ∙ not-true (asking .write-inside .result) (c .if1 .taken))
     ∙ held-inside (l .before)
 
 sub-left : tie.Need-sub-left Inv-loop μ-loop
@@ -91,12 +86,12 @@ loop-less c = search needs
 loop-again : tie.Need-loop-again Inv-loop μ-loop
 loop-again c =
     let asking = c .before in
-    let turn = asking .before .before .before .before .before in
+    let turn = asking .before .before .before in
     let l = turn .before in
     let s = l .before .before .args in (
-      rw (asking .before .before .smaller .ensures, asking .before .before .before .normal-length .ensures)
+      rw (asking .before .bytes-taken .ensures)
           (left-next (s .regions) (s .t1) (l .before .places-held .result) (few (l .before)) (s .given) (l .loop .left) (l .loop .i) (l .loop .inv .0) (turn .loop-test .taken)
-          (sym (asked asking) ∙ not-false (asking .range-inside .result) (c .if1 .left))),
+          (sym (asked asking) ∙ not-false (asking .write-inside .result) (c .if1 .left))),
       search needs,
     )
 
@@ -117,10 +112,8 @@ writes-inside-spec =
     loop-holds
     mul-one
     array-copy-out-one
-    normal-length-requires
-    smaller-requires
-    normal-pointer-requires
-    range-inside-requires
+    bytes-taken-requires
+    write-inside-requires
     returns
     sub-left
     add-i

@@ -4,7 +4,8 @@ use mathlib.Core.Path.{sym, subst}
 use lib.ListN.{length}
 use Rattle.trb.specs.declared.InTrbProcessingResult.{InTrbProcessingResult}
 use Rattle.in_place.specs.InPlace.{resultOf, CompletesInPlace}
-use Rattle.in_place.proofs.CallLaws.{lent-long, completes-short}
+use Rattle.in_place_questions.proofs.LentLaws.{lent-long}
+use Rattle.in_place.proofs.CallLaws.{completes-short}
 use borrow.Author.Needs.{needs}
 use Rattle.in_place.proofs.next_completion.Statement.{statement}
 use Rattle.in_place.proofs.next_completion.Tie as tie

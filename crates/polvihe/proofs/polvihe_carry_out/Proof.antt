@@ -20,6 +20,9 @@ carry-out-requires c κs = search needs
 number-of-requires : tie.Need-number-of-requires
 number-of-requires c κs = search needs
 
+cast-result : tie.Need-cast-result
+cast-result c = search needs
+
 same-length : tie.Need-same-length
 same-length c = search needs
 
@@ -31,4 +34,4 @@ returns c = by-number (c .number-of .ensures) (c .before .before .before .before
 
 pub polvihe-carry-out-spec : {M : Type 1} → statement M
 polvihe-carry-out-spec =
-    tie.close (tie.spec carry-out-requires number-of-requires same-length same-length-2 returns)
+    tie.close (tie.spec carry-out-requires number-of-requires cast-result same-length same-length-2 returns)

@@ -5,11 +5,11 @@ use borrow.Author.Needs.{needs}
 use Rattle.polvihe.proofs.polvihe_decode_trb.Statement.{statement}
 use Rattle.polvihe.proofs.polvihe_decode_trb.Tie as tie
 
-raw-numbers-requires : tie.Need-raw-numbers-requires
-raw-numbers-requires c κs = search needs
+decode-trb-requires : tie.Need-decode-trb-requires
+decode-trb-requires c κs = search needs
 
 returns : tie.Need-returns
-returns c a = ap (λ (t : TransferTrb). record { variant = t .variant; addr = a; «cycle_bit» = t .«cycle_bit» }) (c .raw-numbers .ensures)
+returns c a = ap (λ (t : TransferTrb). record { variant = t .variant; addr = a; «cycle_bit» = t .«cycle_bit» }) (c .decode-trb .ensures)
 
 pub polvihe-decode-trb-spec : {M : Type 1} → statement M
-polvihe-decode-trb-spec = tie.close (tie.spec raw-numbers-requires returns)
+polvihe-decode-trb-spec = tie.close (tie.spec decode-trb-requires returns)

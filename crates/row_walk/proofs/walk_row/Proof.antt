@@ -23,7 +23,7 @@ use Rattle.td_part.specs.Parts.{Within}
 use Rattle.row_walk.specs.declared.TdResult.{TdResult}
 use Rattle.row_walk.specs.Rows.{tdDone, processRow, from, tdFrom, Walkable, pastResults}
 use Rattle.row_walk.proofs.TdsLaws.{Looked, looked-none, looked-turn, looked-fits, looked-few, Found, looked-end}
-use Rattle.row_walk.proofs.RowLaws.{WalkedFrom, walkedFrom-none, walkedFrom-room, walkedFrom-turn, walkedFrom-end, walkedFrom-stop, RowWalked, row-none, row-end, row-more, row-data, row-space, row-room, row-stop, row-turn}
+use Rattle.row_walk.proofs.RowLaws.{le-trans-lt, within-as, room-as, walked-as, WalkedFrom, walkedFrom-none, walkedFrom-room, walkedFrom-turn, walkedFrom-end, walkedFrom-stop, RowWalked, row-none, row-end, row-more, row-data, row-space, row-room, row-stop, row-turn}
 use Rattle.row_walk.proofs.walk_row.Statement.{statement}
 use Rattle.row_walk.proofs.walk_row.Tie as tie
 
@@ -48,21 +48,6 @@ Inv-row log₀ endpoint-id slot-id mode count tds row results so-far₀ first₀
 
 abbrev μ-row : tie.MeasureT-row
 μ-row log₀ endpoint-id slot-id mode count tds row results so-far₀ first₀ i₀ log so-far first i = tds - i
-
-le-trans-lt : {a b c : ℕ} → a ≤ b → b < c → a < c
-le-trans-lt h k = omega arith
-
--- what is known of a TD and a state, of those that they are
-module _ (td this : InTd) (p from-here : TdProcessed) (td-is : td ≡ this) (p-is : p ≡ from-here) where
-  within-as : Within (this .info) (from-here .progress) → Within (td .info) (p .progress)
-  within-as h = rw (td-is, p-is) h
-
-  room-as : (size long : ℕ) → recordLength * (from-here .progress .records + size) ≤ long → recordLength * (p .progress .records + size) ≤ long
-  room-as size long h = rw p-is h
-
-  walked-as : (ts : List TransferTrb) (l l' : List ℕ) (q : TdProcessed) → Meets (walk (processTrb td) ended p ts) (p .progress .records) l q l'
-      → Meets (walk (processTrb this) ended from-here ts) (from-here .progress .records) l q l'
-  walked-as ts l l' q m = rw (td-is, p-is) at m
 
 -- the row and its results
 module _ (s : tie.Start Inv-loop μ-loop Inv-loop2 μ-loop2 Inv-row μ-row) where

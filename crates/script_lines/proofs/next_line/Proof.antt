@@ -1,5 +1,5 @@
 -- `script_lines::next_line` meets its contract: a line ends in what is filled, and where there is none, the input is filled anew. Assumes nothing.
-use mathlib.Core.Path.{sym}
+use mathlib.Core.Path.{refl, sym}
 use native.Mathlib.Omega.{arith}
 use lib.Seq.{length-take-le}
 use borrow.Author.Needs.{needs}
@@ -24,7 +24,10 @@ same-length : tie.Need-same-length
 same-length c = search needs
 
 returns : tie.Need-returns
-returns c = search needs
+returns c = record {
+  stepped = search needs;
+  finds = record { input = refl; start = refl; line = c .before .line-end .ensures .line; ended = c .if1 .taken; next = refl; bytes = refl };
+}
 
 refill-requires : tie.Need-refill-requires
 refill-requires c κs = search needs
@@ -33,7 +36,7 @@ same-length-2 : tie.Need-same-length-2
 same-length-2 c = search needs
 
 returns-2 : tie.Need-returns-2
-returns-2 c = search needs
+returns-2 c = c .before .before .refill .ensures
 
 pub next-line-spec : {M : Type 1} → statement M
 next-line-spec =

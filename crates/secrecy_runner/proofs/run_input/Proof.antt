@@ -39,7 +39,7 @@ run-step-requires c κs =
     let n = c .before .before .before .before .before .before .before .before .before .before .before .before .before .next-line in
     let inv = c .before .before .before .before .before .before .before .before .before .before .before .before .before .before .before .before .loop .inv .1 .1 in
     let pre = c .before .before .before .before .before .before .before .before .before .before .before .before .before .before .before .before .before .before .before .before .before .before .before .before .before .before .before .before .before .before .pre in
-    (subst (λ k. Stepped k (n .result)) (sym (n .kept .0)) (n .ensures), (at-least (pre .0) (inv .1 .0), (at-least (pre .1 .0) (inv .1 .1 .0), (at-most (pre .1 .1 .0) (inv .1 .1 .1 .0), at-most (pre .1 .1 .1) (inv .1 .1 .1 .1 .0)))))
+    (subst (λ k. Stepped k (n .result)) (sym (n .kept .0)) (n .ensures .stepped), (at-least (pre .0) (inv .1 .0), (at-least (pre .1 .0) (inv .1 .1 .0), (at-most (pre .1 .1 .0) (inv .1 .1 .1 .0), at-most (pre .1 .1 .1) (inv .1 .1 .1 .1 .0)))))
 
 turns-left-requires : tie.Need-turns-left-requires Inv-loop μ-loop
 turns-left-requires c κs = omega (arith, c .before .before .before .before .before .before .before .before .before .before .before .before .before .before .before .before .before .before .before .before .before .before .before .before .before .before .before .before .before .before .before .before .before .before .before .before .before .loop-test .taken)
@@ -52,7 +52,7 @@ loop-again c =
     let t = c .before .before .before .before .before .before .before .before .before .before .before .before .before .before .before .before .before .before .before .before .before .before .run-step in
     let n = c .before .before .before .before .before .before .before .before .before .before .before .before .before .before .before .before .before .before .before .before .before .before .before .before .before .before .before .before .before .before .before .before .before .before .before .before .next-line in
     let inv = c .before .before .before .before .before .before .before .before .before .before .before .before .before .before .before .before .before .before .before .before .before .before .before .before .before .before .before .before .before .before .before .before .before .before .before .before .before .before .before .loop .inv .1 .1 in
-    (n .ensures .left, (omega (arith, n .ensures .room, inv .0), (n .kept .0 ∙ inv .0, (t .kept .1 .1 .1 .0 ∙ inv .1 .0, (t .kept .1 .1 .1 .1 .0 ∙ inv .1 .1 .0, (t .kept .1 .1 .1 .1 .1 .0 ∙ inv .1 .1 .1 .0, (t .kept .1 .1 .1 .1 .1 .1 .0 ∙ inv .1 .1 .1 .1 .0, (t .kept .1 .1 .1 .1 .1 .1 .1 .0 ∙ inv .1 .1 .1 .1 .1 .0, (t .kept .1 .1 .1 .1 .1 .1 .1 .1 .0 ∙ inv .1 .1 .1 .1 .1 .1 .0, (t .kept .1 .1 .1 .1 .1 .1 .1 .1 .1 .1 .0 ∙ inv .1 .1 .1 .1 .1 .1 .1 .0, (t .kept .1 .1 .1 .1 .1 .1 .1 .1 .1 .1 .1 .0 ∙ inv .1 .1 .1 .1 .1 .1 .1 .1 .0, (t .kept .1 .1 .1 .1 .1 .1 .1 .1 .1 .1 .1 .1 .0 ∙ inv .1 .1 .1 .1 .1 .1 .1 .1 .1 .0, t .kept .1 .1 .1 .1 .1 .1 .1 .1 .1 .1 .1 .1 .1 .0 ∙ inv .1 .1 .1 .1 .1 .1 .1 .1 .1 .1))))))))))))
+    (n .ensures .stepped .left, (omega (arith, n .ensures .stepped .room, inv .0), (n .kept .0 ∙ inv .0, (t .kept .1 .1 .1 .0 ∙ inv .1 .0, (t .kept .1 .1 .1 .1 .0 ∙ inv .1 .1 .0, (t .kept .1 .1 .1 .1 .1 .0 ∙ inv .1 .1 .1 .0, (t .kept .1 .1 .1 .1 .1 .1 .0 ∙ inv .1 .1 .1 .1 .0, (t .kept .1 .1 .1 .1 .1 .1 .1 .0 ∙ inv .1 .1 .1 .1 .1 .0, (t .kept .1 .1 .1 .1 .1 .1 .1 .1 .0 ∙ inv .1 .1 .1 .1 .1 .1 .0, (t .kept .1 .1 .1 .1 .1 .1 .1 .1 .1 .1 .0 ∙ inv .1 .1 .1 .1 .1 .1 .1 .0, (t .kept .1 .1 .1 .1 .1 .1 .1 .1 .1 .1 .1 .0 ∙ inv .1 .1 .1 .1 .1 .1 .1 .1 .0, (t .kept .1 .1 .1 .1 .1 .1 .1 .1 .1 .1 .1 .1 .0 ∙ inv .1 .1 .1 .1 .1 .1 .1 .1 .1 .0, t .kept .1 .1 .1 .1 .1 .1 .1 .1 .1 .1 .1 .1 .1 .0 ∙ inv .1 .1 .1 .1 .1 .1 .1 .1 .1 .1))))))))))))
 
 same-length : tie.Need-same-length Inv-loop μ-loop
 same-length c = c .before .loop .inv .1 .1 .0

@@ -1,0 +1,5 @@
+pub mod WrittenLaws
+pub mod SubmittedLaws
+pub mod LeastLaws
+pub mod RowLaws
+pub mod CaptureLaws

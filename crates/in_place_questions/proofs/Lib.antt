@@ -1,0 +1,2 @@
+pub mod FactLaws
+pub mod LentLaws

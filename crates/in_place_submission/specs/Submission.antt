@@ -1,0 +1,26 @@
+-- What a submission in place is: by the definition of the endpoint by value, of the block that the bytes are. Assumes nothing.
+use Prim.Native.Nat.{ℕ, _<_}
+use mathlib.Core.Path.{_≡_}
+use mathlib.Core.List.{List}
+use Rattle.trb.specs.Questions.{firstNo}
+use Rattle.trb.specs.declared.TransferTrb.{TransferTrb}
+use Rattle.log.specs.Calls.{Out, Meets}
+use Rattle.guest_memory.specs.declared.Regions.{Regions}
+use Rattle.in_block.specs.Facts.{factsOf}
+use Rattle.in_questions.specs.Questions.{submissionQuestions}
+use Rattle.in_endpoint.specs.Submission.{submission}
+use Rattle.in_endpoint.specs.declared.Submitted.{Submitted}
+use Rattle.answer_numbers.specs.Numbers.{answeredAs}
+use Rattle.answer_numbers.specs.declared.Answered.{Answered}
+use Rattle.in_bytes.specs.Layout.{blockOf}
+use Rattle.in_place_store.specs.Becomes.{Becomes}
+
+abbrev pub submittedNumbers : Out Submitted → Out Answered
+submittedNumbers o = record { state = answeredAs (o .state .answer) (o .state .records); records = o .records }
+
+-- of a submission with the log l, of which k bytes count, over the bytes b, which answered r and left the log l' and the bytes b'
+pub record SubmitsInPlace (k : ℕ) (t : TransferTrb) (regions : Regions) (l b : List ℕ) (r : Answered) (l' b' : List ℕ) : Type 0 where
+  pub number : r .number ≡ firstNo (submissionQuestions k (factsOf (blockOf b)) t regions)
+  pub met : Meets (submittedNumbers (submission k (blockOf b) t regions)) 0 l r l'
+  pub becomes : Becomes b (submission k (blockOf b) t regions .state .block) b'
+  pub unchanged : 0 < r .number → b' ≡ b

@@ -1,0 +1,1 @@
+// A stored log printed in pieces: theorems alone.

@@ -1,0 +1,2 @@
+pub mod PieceLaws
+pub mod LineLaws
