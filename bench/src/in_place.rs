@@ -2,11 +2,11 @@
 
 use polvihe_hal::{
     log, Completed, ControlEndpoint, DataStage, DeviceResult, EndpointId, GuestMemory, GuestRelease, InEndpoint, Mode,
-    Normal, Outcome, Refusal, Region, SetupStage, SlotId, StatusStage, Submitted, Trb,
+    Normal, Outcome, Refusal, Region, RowTrb, SetupStage, SlotId, StatusStage, Submitted, TdResult, Trb,
 };
 
 use crate::product::Lent;
-use crate::work::{InWork, COLLECT_BYTES, CONTROL_TRBS};
+use crate::work::{InWork, RowWork, COLLECT_BYTES, CONTROL_TRBS};
 
 /// The checksum that all sides answer.
 const FAILED: u64 = 1 << 20;
@@ -19,15 +19,40 @@ fn sum_of(submitted: Result<Submitted, Refusal>) -> u64 {
     submitted.map_or(REFUSED, |submitted| submitted.records().len() as u64)
 }
 
+fn sum_of_outcome(outcome: Outcome) -> u64 {
+    if outcome == Outcome::Ok {
+        0
+    } else {
+        FAILED
+    }
+}
+
 fn sum_of_completion(completed: Result<Completed, Refusal>) -> u64 {
-    completed.map_or(REFUSED, |completed| {
-        let failed = if completed.outcome == Outcome::Ok { 0 } else { FAILED };
-        completed.records().len() as u64 + failed
-    })
+    completed.map_or(REFUSED, |completed| completed.records().len() as u64 + sum_of_outcome(completed.outcome))
 }
 
 fn address(i: u32) -> u64 {
     FIRST_TRB + TRB_BYTES * u64::from(i)
+}
+
+/// Number `i` of TDs whose buffers lie end to end: interrupt-on-short, and where it ends its TD interrupt-on-completion.
+fn normal(i: u32, ends: bool, work: &InWork) -> Trb {
+    Trb::Normal(Normal {
+        pointer: u64::from(i) * u64::from(work.transfer_length),
+        length: work.transfer_length,
+        chain: !ends,
+        interrupt_on_completion: ends,
+        interrupt_on_short: true,
+        immediate_data: false,
+    })
+}
+
+fn result_of(work: &InWork) -> DeviceResult {
+    if work.status == 0 {
+        DeviceResult::Success
+    } else {
+        DeviceResult::Stall
+    }
 }
 
 /// TDs of Normals: each TRB is submitted and its completion asked for; the last one has the device's result, or is cancelled.
@@ -41,20 +66,12 @@ fn in_tds(
     let mut endpoint = InEndpoint::create(EndpointId(3), SlotId(2), Mode::AsPorted).expect("ids in range");
     let Lent { log, memory } = lent;
     let memory = GuestMemory::one(0, &mut memory[..work.window.len()]);
-    let result = if work.status == 0 { DeviceResult::Success } else { DeviceResult::Stall };
+    let result = result_of(work);
     let mut sum = 0;
     for _ in 0..repeats {
         for i in 0..work.trbs {
             let ends = i + 1 == work.trbs;
-            let trb = Trb::Normal(Normal {
-                pointer: u64::from(i) * u64::from(work.transfer_length),
-                length: work.transfer_length,
-                chain: !ends,
-                interrupt_on_completion: ends,
-                interrupt_on_short: true,
-                immediate_data: false,
-            });
-            sum += submit(&mut endpoint, i, trb, &memory, log);
+            sum += submit(&mut endpoint, i, normal(i, ends, work), &memory, log);
             if ends && !completes {
                 endpoint.cancel();
             } else {
@@ -66,7 +83,7 @@ fn in_tds(
     sum
 }
 
-/// TRBs handed over decoded, as they are by value and by reference.
+/// TRBs handed over decoded, as they are by value.
 pub fn decoded(lent: &mut Lent, work: &InWork, completes: bool, repeats: u32) -> u64 {
     in_tds(lent, work, completes, repeats, |endpoint, i, trb, memory, log| {
         sum_of(endpoint.submit(address(i), trb, true, memory, log))
@@ -84,6 +101,39 @@ pub fn raw(lent: &mut Lent, work: &InWork, completes: bool, repeats: u32) -> u64
         bytes[12..14].copy_from_slice(&[if chain { 0x15 } else { 0x25 }, 1 << 2]);
         sum_of(endpoint.submit_raw(address(i), &bytes, memory, log))
     })
+}
+
+/// Rows of TDs, each completed in one call. Row, results and endpoint are made once.
+pub struct Row {
+    lent: Lent,
+    endpoint: InEndpoint,
+    row: Vec<RowTrb>,
+    results: Vec<TdResult>,
+    data: &'static [u8],
+}
+
+impl Row {
+    pub fn new(work: &RowWork) -> Self {
+        let RowWork { others, last, tds } = work;
+        let trb = |i| RowTrb::new(address(i), normal(i, (i + 1) % last.trbs == 0, last), true);
+        let given = |td: &InWork| TdResult::new(result_of(td), td.data.len() as u32);
+        let results: Vec<_> = (1..*tds).map(|_| given(others)).chain([given(last)]).collect();
+        // The bytes of a row lie one behind the other in the same memory.
+        let data = &last.window[..others.data.len() * (*tds as usize - 1) + last.data.len()];
+        let endpoint = InEndpoint::create(EndpointId(3), SlotId(2), Mode::AsPorted).expect("ids in range");
+        Self { lent: Lent::new(), endpoint, row: (0..work.trbs()).map(trb).collect(), results, data }
+    }
+
+    pub fn run(&mut self, repeats: u32) -> u64 {
+        let Self { lent: Lent { log, memory }, endpoint, row, results, data } = self;
+        let memory = GuestMemory::one(0, memory);
+        let mut sum = 0;
+        for _ in 0..repeats {
+            let completed = endpoint.complete_row(std::hint::black_box(row), results, data, &memory, log);
+            sum += completed.map_or(REFUSED, |row| row.records().len() as u64 + sum_of_outcome(row.outcome));
+        }
+        sum
+    }
 }
 
 /// Control transfers: Setup 80 06, Data IN, Status.
@@ -113,7 +163,7 @@ impl Control {
         let stages = [Trb::SetupStage(setup), Trb::DataStage(data_stage), Trb::StatusStage(status)];
         let mut sum = 0;
         for _ in 0..repeats {
-            for (i, stage) in (0..CONTROL_TRBS).zip(std::hint::black_box(stages)) {
+            for (i, &stage) in (0..CONTROL_TRBS).zip(std::hint::black_box(&stages)) {
                 sum += submit(&mut endpoint, i, stage, &memory, collect, log);
                 let (result, data) =
                     if i + 1 == CONTROL_TRBS { (Some(DeviceResult::Success), data) } else { (None, &[][..]) };

@@ -7,7 +7,7 @@ mod work;
 
 use measure::{Calls, Dumps, Instructions, Measure, Nanoseconds, RUNS};
 use product::Lent;
-use work::{bytes, End, InWork, CONTROL_LENGTH, CONTROL_TRBS, FRAME_TRBS, ROWS, TRANSFER_LENGTH};
+use work::{bytes, End, InWork, RowWork, CONTROL_LENGTH, CONTROL_TRBS, FRAME_TRBS, TRANSFER_LENGTH};
 
 #[global_allocator]
 static ALLOCATOR: lending::LendingAllocator = lending::LendingAllocator;
@@ -15,19 +15,29 @@ static ALLOCATOR: lending::LendingAllocator = lending::LendingAllocator;
 type InCalls = fn(&mut Lent, &InWork, bool, u32) -> u64;
 
 /// Those that submit and complete a TD, the two baselines first.
-const SIDES: [(&str, InCalls); 6] = [
-    ("Rust unchanged", |_, work, completes, repeats| {
-        unchanged::calls::in_td(work.data, work.trbs, work.transfer_length, work.status, completes, repeats)
-    }),
+const SIDES: [(&str, InCalls); 5] = [
+    ("Rust unchanged", |_, work, completes, repeats| unchanged_rows(work, work, 1).run(completes, repeats)),
     ("Rust, capture left out", |_, work, completes, repeats| {
-        capture_left_out::calls::in_td(work.data, work.trbs, work.transfer_length, work.status, completes, repeats)
+        capture_left_out_rows(work, work, 1).run(completes, repeats)
     }),
     ("in place", in_place::decoded),
     ("in place, raw TRBs", in_place::raw),
     ("by value", product::in_by_value),
-    ("by reference", product::in_by_reference),
 ];
 const BASELINES: usize = 2;
+
+macro_rules! rows_on_the_rust {
+    ($name:ident, $rust:ident) => {
+        /// Rows of TDs on the Rust by single calls.
+        fn $name(others: &InWork, last: &InWork, tds: u32) -> $rust::calls::InRows {
+            let [first, second] = [others, last].map(|td| $rust::calls::Given { data: td.data, status: td.status });
+            $rust::calls::InRows::new(first, second, tds, last.trbs, last.transfer_length)
+        }
+    };
+}
+
+rows_on_the_rust!(unchanged_rows, unchanged);
+rows_on_the_rust!(capture_left_out_rows, capture_left_out);
 
 fn main() {
     let argument = std::env::args().nth(1).unwrap_or_default();
@@ -59,7 +69,7 @@ fn main() {
     }
 }
 
-/// The block in place beside the Rust with its capture left out: a whole TD; and a control transfer on every side.
+/// The block in place beside the Rust with its capture left out: a whole TD; a row of TDs beside both; and a control transfer on every side.
 fn main_tables(measure: &mut dyn Measure) {
     let bytes = bytes();
     println!("In place beside the Rust with its capture left out, per TRB\n");
@@ -74,6 +84,7 @@ fn main_tables(measure: &mut dyn Measure) {
         print_line(&work.name(), cells.iter().chain(&[format!("{raw:.0}"), format!("{:.2}", raw / rust)]));
     }
     println!();
+    row_table(bytes, measure);
     control_table(bytes, measure);
 }
 
@@ -94,7 +105,6 @@ fn tables(measure: &mut dyn Measure) {
     print_tables("A whole TD, per TRB", &names, &wholes);
     print_tables("Submissions, per TRB", &names, &submissions);
     print_tables("The TD's completion, per TRB", &names, &completions);
-    row_table(bytes, measure);
     carry_out_table(bytes, measure);
     raw_table(measure);
     compact_table(measure);
@@ -161,36 +171,27 @@ fn print_rule(columns: usize) {
     println!("|---|{}", "---|".repeat(columns));
 }
 
-/// Rows of frames beside the same TDs on the Rust, one by one. What it costs to pass arrays and block is the cost of a row of no TDs; the rest is the row's
-/// questions and its walk.
+/// Rows of frames in place, each completed in one call, beside the same TDs on the Rust by single calls.
 fn row_table(bytes: &'static [u8], measure: &mut dyn Measure) {
     println!("A row of TDs of {FRAME_TRBS} Normals, per TRB\n");
-    println!(
-        "| TDs | Rust unchanged | Rust, capture left out | row | of it passing arrays and block | questions and walk | to unchanged | to capture left out |"
-    );
-    print_rule(7);
-    for end in [End::Full, End::Short] {
-        let td = InWork::new(bytes, FRAME_TRBS, end);
-        for tds in ROWS {
-            let (mut log, mut empty) = (Lent::new(), Lent::new());
-            let mut sides: [Calls; 4] = [
-                Box::new(|repeats| {
-                    unchanged::calls::in_td(td.data, td.trbs, td.transfer_length, td.status, true, tds * repeats)
-                }),
-                Box::new(|repeats| {
-                    capture_left_out::calls::in_td(td.data, td.trbs, td.transfer_length, td.status, true, tds * repeats)
-                }),
-                Box::new(|repeats| product::in_row(&mut log, &td, tds, repeats)),
-                Box::new(|repeats| product::in_row(&mut empty, &td, 0, repeats)),
-            ];
-            let sums: Vec<u64> = sides.iter_mut().map(|calls| calls(2)).collect();
-            assert!(sums[..3].iter().all(|sum| *sum == sums[0]), "a row of {tds}: the answers differ: {sums:?}");
-            let costs = measure.measure(tds * FRAME_TRBS, &mut sides);
-            let walk = costs[2] - costs[3];
-            let ratios = [walk / costs[0], walk / costs[1]].map(|ratio| format!("{ratio:.2}"));
-            let figures = [costs[0], costs[1], costs[2], costs[3], walk].map(|cost| format!("{cost:.0}"));
-            print_line(&format!("{tds} {}", end.name()), figures.iter().chain(&ratios));
-        }
+    let names = [SIDES[0].0, SIDES[1].0, "row in place", "to unchanged", "to capture left out"];
+    print_line("TDs", names.iter());
+    print_rule(names.len());
+    for work in RowWork::all(bytes) {
+        let RowWork { others, last, tds } = &work;
+        let mut unchanged = unchanged_rows(others, last, *tds);
+        let mut capture_left_out = capture_left_out_rows(others, last, *tds);
+        let mut row = in_place::Row::new(&work);
+        let mut sides: [Calls; 3] = [
+            Box::new(|repeats| unchanged.run(true, repeats)),
+            Box::new(|repeats| capture_left_out.run(true, repeats)),
+            Box::new(|repeats| row.run(repeats)),
+        ];
+        let sums: Vec<u64> = sides.iter_mut().map(|calls| calls(2)).collect();
+        assert!(sums.iter().all(|sum| *sum == sums[0]), "a row, {}: the answers differ: {sums:?}", work.name());
+        let costs = measure.measure(work.trbs(), &mut sides);
+        let ratios = [costs[2] / costs[0], costs[2] / costs[1]].map(|ratio| format!("{ratio:.2}"));
+        print_line(&work.name(), costs.iter().map(|cost| format!("{cost:.0}")).chain(ratios));
     }
     println!();
 }

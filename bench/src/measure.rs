@@ -14,8 +14,8 @@ pub trait Measure {
 
 pub struct Nanoseconds;
 
-/// Units of work in one run, about: enough that what a call does once, as creating the endpoint, does not count.
-const UNITS: u32 = 600;
+/// Units of work in one run, about: enough that what a run does once, as creating the endpoint, does not count: the Rust's records are 64 KiB to clear.
+const UNITS: u32 = 10_240;
 
 impl Measure for Nanoseconds {
     /// The sides take turns, so that what else the machine does falls on all of them.
@@ -36,9 +36,12 @@ impl Measure for Nanoseconds {
 /// Under callgrind: each piece of work is dumped to a file of its own, and its cost is read later.
 pub struct Dumps;
 
+/// Fewer are enough where instructions are counted, since what is done once takes few.
 fn repeats_counted(units: u32) -> u32 {
-    (UNITS / units).max(20)
+    (UNITS_COUNTED / units).max(20)
 }
+
+const UNITS_COUNTED: u32 = 600;
 
 impl Measure for Dumps {
     fn measure(&mut self, units: u32, sides: &mut [Calls]) -> Vec<f64> {

@@ -1,4 +1,4 @@
-//! The product by value and by reference, and a row by value: each exported function repeats its calls.
+//! The product by value: each exported function repeats its calls.
 
 use crate::work::{InWork, COLLECT_BYTES, CONTROL_LENGTH, LOG_BYTES, MEMORY_BYTES};
 
@@ -14,36 +14,6 @@ extern "C" {
         transfer_length: u32,
         status: u8,
         completes: bool,
-        repeats: u32,
-    ) -> u64;
-
-    fn bench_calls_in_by_reference(
-        log: *mut u8,
-        log_length: usize,
-        window: *const u8,
-        window_length: usize,
-        data: *const u8,
-        data_length: usize,
-        trbs: u32,
-        transfer_length: u32,
-        status: u8,
-        completes: bool,
-        repeats: u32,
-    ) -> u64;
-
-    fn bench_calls_in_row(
-        log: *mut u8,
-        log_length: usize,
-        window: *const u8,
-        window_length: usize,
-        data: *const u8,
-        data_length: usize,
-        count: u32,
-        tds: u32,
-        trbs: u32,
-        transfer_length: u32,
-        status: u8,
-        length: u32,
         repeats: u32,
     ) -> u64;
 
@@ -73,52 +43,20 @@ impl Lent {
     }
 }
 
-macro_rules! in_calls {
-    ($name:ident, $exported:ident) => {
-        pub fn $name(lent: &mut Lent, work: &InWork, completes: bool, repeats: u32) -> u64 {
-            // SAFETY: each pointer stands with the length of its slice, and the library keeps none of them.
-            unsafe {
-                $exported(
-                    lent.log.as_mut_ptr(),
-                    lent.log.len(),
-                    work.window.as_ptr(),
-                    work.window.len(),
-                    work.data.as_ptr(),
-                    work.data.len(),
-                    work.trbs,
-                    work.transfer_length,
-                    work.status,
-                    completes,
-                    repeats,
-                )
-            }
-        }
-    };
-}
-
-in_calls!(in_by_value, bench_calls_in_by_value);
-in_calls!(in_by_reference, bench_calls_in_by_reference);
-
-/// Rows of so many TDs, each as `td`; a row of none has the cost of passing the arrays and the block, and no other.
-pub fn in_row(lent: &mut Lent, td: &InWork, tds: u32, repeats: u32) -> u64 {
-    let length = td.data.len() as u32;
-    // The bytes of a row lie behind those of its first TD in the same memory.
-    let joined = &td.window[..(tds * length) as usize];
-    // SAFETY: as above.
+pub fn in_by_value(lent: &mut Lent, work: &InWork, completes: bool, repeats: u32) -> u64 {
+    // SAFETY: each pointer stands with the length of its slice, and the library keeps none of them.
     unsafe {
-        bench_calls_in_row(
+        bench_calls_in_by_value(
             lent.log.as_mut_ptr(),
             lent.log.len(),
-            td.window.as_ptr(),
-            td.window.len(),
-            joined.as_ptr(),
-            joined.len(),
-            tds * td.trbs,
-            tds,
-            td.trbs,
-            td.transfer_length,
-            td.status,
-            length,
+            work.window.as_ptr(),
+            work.window.len(),
+            work.data.as_ptr(),
+            work.data.len(),
+            work.trbs,
+            work.transfer_length,
+            work.status,
+            completes,
             repeats,
         )
     }

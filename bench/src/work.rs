@@ -72,6 +72,35 @@ impl InWork {
     }
 }
 
+/// A row of TDs of the frame's Normals, of which the last may end otherwise than those before it.
+pub struct RowWork {
+    pub others: InWork,
+    pub last: InWork,
+    pub tds: u32,
+}
+
+impl RowWork {
+    pub fn all(bytes: &'static [u8]) -> Vec<RowWork> {
+        // The TDs before one that stalls are full.
+        let ends = [(End::Full, End::Full), (End::Short, End::Short), (End::Full, End::Stalled)];
+        let td = |end| InWork::new(bytes, FRAME_TRBS, end);
+        let of_ends = |(others, last)| ROWS.map(|tds| RowWork { others: td(others), last: td(last), tds });
+        ends.into_iter().flat_map(of_ends).collect()
+    }
+
+    pub fn trbs(&self) -> u32 {
+        self.tds * FRAME_TRBS
+    }
+
+    pub fn name(&self) -> String {
+        let end = match self.last.end {
+            End::Stalled => "stalled in the middle of the last",
+            end => end.name(),
+        };
+        format!("{} {end}", self.tds)
+    }
+}
+
 /// Guest memory, and the device's data: as much as the largest TD asks for.
 pub fn bytes() -> &'static [u8] {
     Vec::leak((0..MEMORY_BYTES as u32).map(|k| (k * 11 + 5) as u8).collect())

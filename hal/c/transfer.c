@@ -1,4 +1,4 @@
-/* The header held to the library: an IN transfer, a row of TDs and a control transfer, from submission to guest memory, and a capture. Exit status 0 where all is as document 01
+/* The header held to the library: an IN transfer, a row of TDs and control transfers, from submission to guest memory or device, and a capture. Exit status 0 where all is as document 01
  * has it, and otherwise a line that says what is not. */
 #include "polvihe.h"
 #include <stdio.h>
@@ -29,10 +29,11 @@ static void deliver(uint8_t *block, size_t length) {
     EXPECT(done.number == 0 && done.result == 0 && done.records == 4 && memcmp(delivered, data, sizeof data) == 0);
 }
 
-static uint64_t field(const uint8_t *record, int at, int bytes) {
-    uint64_t number = 0;
-    while (bytes-- > 0) number = number << 8 | record[at + bytes];
-    return number;
+/* Record number i of a log. */
+static struct polvihe_log_record record_of(const uint8_t *log, size_t i) {
+    struct polvihe_log_record record;
+    memcpy(&record, log + 32 * i, sizeof record);
+    return record;
 }
 
 /* Document 01's TD T, Success, 600 bytes. */
@@ -54,7 +55,8 @@ static void in_transfer(void) {
         EXPECT(submitted.number == 0 && submitted.count == (i == 2));
         if (i < 2) EXPECT(polvihe_in_complete(log_bytes, sizeof log_bytes, block, length, POLVIHE_NONE, 0).number == 0);
     }
-    EXPECT(log_bytes[0] == 3 && field(log_bytes, 8, 8) == 0x1000 && field(log_bytes, 16, 4) == 1536);
+    struct polvihe_log_record request = record_of(log_bytes, 0);
+    EXPECT(sizeof request == 32 && request.kind == 3 && request.endpoint_id == 3 && request.slot_id == 2 && request.address == 0x1000 && request.length == 1536);
     EXPECT(polvihe_in_complete(log_bytes, sizeof log_bytes, block, length, POLVIHE_NONE, 0).number == 8);
     for (size_t k = 0; k < sizeof data; k++) data[k] = (uint8_t)(11 * k + 5);
     uint8_t *copy = malloc(length);
@@ -99,7 +101,8 @@ static void row_of_tds(void) {
     EXPECT(done.number == 0 && done.finished == 1 && done.result == 1 && done.code == 6 && done.located && done.address == 0x1040);
     EXPECT(done.records == 9 && memcmp(block, before, length) == 0);
     /* The second TD's request and its write, which starts behind the first one's 600 bytes. */
-    EXPECT(row_log[32 * 5] == 3 && field(row_log + 32 * 5, 8, 8) == 0x1030 && row_log[32 * 6] == 1 && field(row_log + 32 * 6, 20, 4) == 600);
+    struct polvihe_log_record request = record_of(row_log, 5), write = record_of(row_log, 6);
+    EXPECT(request.kind == 3 && request.address == 0x1030 && write.kind == 1 && write.start == 600 && write.length == 512);
     EXPECT(polvihe_carry_out(row_log, 32 * done.records, joined, sizeof joined, 0x8000, memory, sizeof memory, 0, NULL, 0) == 0);
     EXPECT(memcmp(memory, joined + 600, 512) == 0 && memcmp(memory + 512, joined + 512, 88) == 0);
     EXPECT(polvihe_in_complete_row(row_log, sizeof row_log, block, length, row, sizeof row - 1, results, sizeof results, sizeof joined, 0x8000, sizeof memory, 0, 0).number == 15);
@@ -122,11 +125,36 @@ static void control_transfer(void) {
         EXPECT(submitted.number == 0 && submitted.count == (i == 2));
         if (i < 2) EXPECT(polvihe_control_complete(log_bytes, sizeof log_bytes, block, length, POLVIHE_NONE, 0).number == 0);
     }
-    EXPECT(log_bytes[0] == 3 && field(log_bytes, 16, 4) == 18 && log_bytes[24] == 0x80 && log_bytes[25] == 6);
+    struct polvihe_log_record request = record_of(log_bytes, 0);
+    EXPECT(request.kind == 3 && request.length == 18 && request.request_type == 0x80 && request.request == 6 && request.value == 0x100 && request.index == 0);
     struct polvihe_completion done = polvihe_control_complete(log_bytes, sizeof log_bytes, block, length, POLVIHE_STALL, 0);
     EXPECT(done.number == 0 && done.result == 1 && done.code == 6 && done.located == 0 && done.records == 1);
-    EXPECT(log_bytes[0] == 2 && log_bytes[1] == 6 && field(log_bytes, 8, 8) == 0x1010);
+    struct polvihe_log_record event = record_of(log_bytes, 0);
+    EXPECT(event.kind == 2 && event.code == 6 && event.event_data == 0 && event.address == 0x1010);
     EXPECT(polvihe_control_cancel(block, length) == 0);
+    free(block);
+}
+
+/* Setup 00 09, Data OUT of 12 immediate bytes, Status: eight bytes are collected for the device. */
+static void control_out_transfer(void) {
+    size_t length = polvihe_control_block_length();
+    uint8_t *block = malloc(length);
+    EXPECT(block != NULL);
+    EXPECT(polvihe_control_create(block, length, 3, 0, 4) == POLVIHE_ID_OUT_OF_RANGE);
+    EXPECT(polvihe_control_complete(log_bytes, sizeof log_bytes, block, length, POLVIHE_NONE, 0).number == POLVIHE_UNSOUND_BLOCK);
+    EXPECT(polvihe_control_create(block, length, 3, 2, 4) == 0);
+    static const struct { uint8_t kind, flags; uint64_t value; uint32_t length; } trbs[] = {{2, 0, 0x0900, 0}, {3, POLVIHE_IMMEDIATE_DATA, 0x1122334455667788, 12}, {4, 0, 0, 0}};
+    for (int i = 0; i < 3; i++) {
+        uint8_t raw[16];
+        EXPECT(polvihe_encode_trb(trbs[i].kind, trbs[i].flags, trbs[i].value, trbs[i].length, raw, sizeof raw) == 0);
+        EXPECT(polvihe_control_submit_raw(log_bytes, sizeof log_bytes, collect, sizeof collect, block, length, raw, 0x1000 + 16 * i, 0x8000, memory, sizeof memory, 0, NULL, 0).number == 0);
+        if (i < 2) EXPECT(polvihe_control_complete(log_bytes, sizeof log_bytes, block, length, POLVIHE_NONE, 0).number == 0);
+    }
+    uint64_t collected;
+    memcpy(&collected, block + POLVIHE_CONTROL_COLLECTED, sizeof collected);
+    static const uint8_t expected[] = {0x88, 0x77, 0x66, 0x55, 0x44, 0x33, 0x22, 0x11};
+    EXPECT(record_of(log_bytes, 0).kind == 3 && record_of(log_bytes, 0).length == 0 && collected == sizeof expected && memcmp(collect, expected, sizeof expected) == 0);
+    EXPECT(polvihe_control_complete(log_bytes, sizeof log_bytes, block, length, POLVIHE_SUCCESS_OUT, 0).number == 0);
     free(block);
 }
 
@@ -151,7 +179,8 @@ int main(void) {
     in_transfer();
     row_of_tds();
     control_transfer();
+    control_out_transfer();
     capture();
-    puts("transfer.c: an IN transfer, a row of TDs and a control transfer, as documents 01 and 02 have them, and a capture read again");
+    puts("transfer.c: an IN transfer, a row of TDs and control transfers IN and OUT, as documents 01 and 02 have them, and a capture read again");
     return 0;
 }

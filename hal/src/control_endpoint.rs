@@ -93,6 +93,7 @@ impl ControlEndpoint {
 
     /// Submits a TRB that stands at `address` on the ring. The last TRB of a transfer logs its request to the device. The bytes of an OUT
     /// transfer are collected in `collect`, behind those collected already: lend the same buffer until the transfer is complete.
+    #[inline]
     pub fn submit<'l>(
         &mut self,
         address: u64,
@@ -129,6 +130,7 @@ impl ControlEndpoint {
     }
 
     /// Submits the TRB that 16 bytes of the ring, at `address`, are.
+    #[inline]
     pub fn submit_raw<'l>(
         &mut self,
         address: u64,
@@ -161,6 +163,7 @@ impl ControlEndpoint {
 
     /// Completes what was submitted. A device result is given exactly where the last submission logged a request; `data` is what the
     /// device sent. Carry the log out before its events are shown to the guest.
+    #[inline]
     pub fn complete<'l>(
         &mut self,
         result: Option<DeviceResult>,
@@ -179,6 +182,13 @@ impl ControlEndpoint {
             )
         };
         Completed::of(answered, log)
+    }
+
+    /// Changes nothing: what was submitted stays, and the call that was due is due. To cancel the transfer at the device is left to the caller.
+    pub fn cancel(&mut self) {
+        // SAFETY: the pointer stands with the length of its array, which the library neither writes to nor keeps.
+        let number = unsafe { exported::polvihe_control_cancel(self.block.as_ptr(), BLOCK) };
+        accepted(number).expect("a whole block is never refused");
     }
 }
 
@@ -240,11 +250,12 @@ mod tests {
                         .count()
                         .err(),
                     complete(),
+                    accepted(exported::polvihe_control_cancel(block, length)).err(),
                 ]
             }
         };
-        assert_eq!(numbers(BLOCK - 1), [SHORT; 5]);
-        assert_eq!(numbers(BLOCK), [None; 5]);
+        assert_eq!(numbers(BLOCK - 1), [SHORT; 6]);
+        assert_eq!(numbers(BLOCK), [None; 6]);
         // SAFETY: it takes nothing.
         assert_eq!(unsafe { exported::polvihe_control_block_length() }, BLOCK);
     }
@@ -270,6 +281,9 @@ mod tests {
         let (mut endpoint, memory) = (endpoint(), GuestMemory::default());
         let (mut log, mut collect) = ([0; LOG], [0; COLLECT]);
         endpoint.submit(0x1000, Trb::Isoch, true, &memory, &mut collect, &mut log).unwrap();
+        let before = endpoint.block;
+        endpoint.cancel();
+        assert_eq!(endpoint.block, before);
         let completed = ControlEndpoint::from_block(*endpoint.block()).complete(None, &[], &mut log).unwrap().outcome;
         assert_eq!(completed, crate::Outcome::TrbError);
         let mut zeros = ControlEndpoint::from_block([0; BLOCK]);

@@ -234,6 +234,8 @@ extern "C" {
         data_length: usize,
     ) -> CompletionAnswered;
 
+    pub fn polvihe_control_cancel(block: *const u8, block_length: usize) -> u32;
+
     pub fn polvihe_check_log(log: *const u8, log_length: usize) -> u32;
 
     pub fn polvihe_compact(log: *mut u8, log_length: usize) -> Answered;

@@ -233,5 +233,15 @@ mod tests {
         assert_eq!(asked(&[no_op(false)], &[TdResult::new(DeviceResult::Stall, 0)], all), Err(Refusal::MalformedRow));
         assert_eq!(asked(&[RowTrb::new(0, Trb::Isoch, true)], &[TdResult::NOT_ASKED], all), Err(Refusal::MalformedRow));
         assert!(log.iter().all(|&byte| byte == 0xaa));
+        // One byte more than a row can take, and just as many: the questions are asked of its length alone.
+        let trbs = [RowTrb::new(0x1000, Trb::Normal(Normal::default()), true)];
+        let data = vec![0; 67_108_353];
+        let mut given = |length: usize| {
+            let results = [TdResult::new(DeviceResult::Success, length as u32)];
+            endpoint
+                .complete_row(&trbs, &results, &data[..length], &memory, &mut log)
+                .map(|completed| completed.finished)
+        };
+        assert_eq!((given(67_108_353), given(67_108_352)), (Err(Refusal::DataTooLong), Ok(1)));
     }
 }

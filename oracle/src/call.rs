@@ -144,27 +144,64 @@ impl Display for Region {
 #[derive(Debug, Clone, Copy, PartialEq, Eq)]
 pub enum Call {
     /// Where one region is named, the other is empty.
-    Window { low: Region, high: Option<Region> },
-    Buffers { log: u64, collect: u64 },
+    Window {
+        low: Region,
+        high: Option<Region>,
+    },
+    Buffers {
+        log: u64,
+        collect: u64,
+    },
     /// In the mode named; where none is, as ported.
-    CreateIn { endpoint: u8, slot: u8, mode: Option<u8> },
+    CreateIn {
+        endpoint: u8,
+        slot: u8,
+        mode: Option<u8>,
+    },
     /// For guests of the release named; where none is, of release 4.
-    CreateControl { endpoint: u8, slot: u8, release: Option<u8> },
+    CreateControl {
+        endpoint: u8,
+        slot: u8,
+        release: Option<u8>,
+    },
     Submit(Trb),
-    SubmitRaw { address: u64, bytes: [u8; 16] },
-    CompleteWithResult { status: Status, length: u64 },
-    CompleteWithout { length: u64 },
+    SubmitRaw {
+        address: u64,
+        bytes: [u8; 16],
+    },
+    CompleteWithResult {
+        status: Status,
+        length: u64,
+    },
+    CompleteWithout {
+        length: u64,
+    },
     Cancel,
     Hold(Trb),
-    MakeUpIn { state: u8 },
-    MakeUpControl { phase: u8, state: u8, direction: bool, length: u32 },
+    MakeUpIn {
+        state: u8,
+    },
+    MakeUpControl {
+        phase: u8,
+        state: u8,
+        direction: bool,
+        length: u32,
+    },
     /// To the end of the row that is being written down.
     AppendTrb(Trb),
     /// What the next TD of that row is given.
-    AppendResult { status: Status, length: u32 },
-    CompleteRow { length: u64 },
+    AppendResult {
+        status: Status,
+        length: u32,
+    },
+    CompleteRow {
+        length: u64,
+    },
     /// The time of what follows, in captures; the Rust looks at its own clock.
-    Time { seconds: u32, microseconds: u32 },
+    Time {
+        seconds: u32,
+        microseconds: u32,
+    },
     /// What captures say of the endpoint.
     Captured(Captured),
 }

@@ -13,6 +13,7 @@ use crate::{
     call::{parse, Call},
     device::pcap::UsbPcapManager,
     driver::{Driver, Stop},
+    filling::Filling,
 };
 
 const FILE_HEADER: usize = 24;
@@ -91,7 +92,9 @@ impl Expected {
         let goes_on = |pair: &[u8]| pair[1] == pair[0].wrapping_add(11);
         let is_completion = self.record.headers[16 + 8] == b'C';
         let from = kept.len().saturating_sub(1);
-        if kept != self.record.payload || (is_completion && !cut.is_empty() && !made.payload[from..].windows(2).all(goes_on)) {
+        if kept != self.record.payload
+            || (is_completion && !cut.is_empty() && !made.payload[from..].windows(2).all(goes_on))
+        {
             return Some(format!("line {line}: another payload"));
         }
         None
@@ -128,7 +131,7 @@ impl CaptureFile {
     /// The records of a script. A call that the Rust cannot be asked has none in the product either, and is left out; so are the calls on a block that it
     /// cannot have. Release 5 changes events alone, and strict mode events and where a row ends, so that captures are those of the endpoint as ported.
     pub fn of_script(&mut self, script: &str) -> io::Result<Vec<Expected>> {
-        let mut driver = Driver::<AskedRust>::new();
+        let mut driver = Driver::<AskedRust>::over(Filling::OfScripts);
         let (mut seconds, mut microseconds) = (0, 0);
         let mut is_unlike = false;
         let mut found = vec![];
@@ -139,7 +142,9 @@ impl CaptureFile {
                     driver.is_strict = mode == Some(1);
                     Call::CreateIn { endpoint, slot, mode: None }
                 }
-                Some(Call::CreateControl { endpoint, slot, .. }) => Call::CreateControl { endpoint, slot, release: None },
+                Some(Call::CreateControl { endpoint, slot, .. }) => {
+                    Call::CreateControl { endpoint, slot, release: None }
+                }
                 Some(call) => call,
             };
             if let Call::Time { seconds: whole, microseconds: parts } = call {

@@ -6,13 +6,15 @@ use crate::{
     asked_rust::{asked, AskedRust},
     call::{parse, Call, Captured, Kind, Region, Status, Trb, FIRST_CAPTURED, FIRST_REGION, MAX_LOG},
     device::xhci::{
+        endpoint_handle::TrbProcessingResult,
         interrupter::EventSender,
         real_endpoint_handle::{ControlRequestProcessingResult, InTrbProcessingResult, InTrbProcessingStatus},
         trb::RawTrb,
     },
     effects::EffectLog,
     endpoint::ResultFields,
-    engine::{Connections, Engine, No},
+    engine::{Connections, Engine, No, RowCompleted},
+    filling::Filling,
     guest_memory::GuestMemory,
     questions::{self, Buffers, MAX_HELD, MAX_ROW},
     record::Record,
@@ -62,7 +64,7 @@ pub fn run(script: &[u8]) -> Run {
 }
 
 pub fn run_on<E: Engine>(script: &[u8]) -> Run {
-    let mut driver = Driver::<E>::new();
+    let mut driver = Driver::<E>::over(Filling::OfScripts);
     let mut run = Run::default();
     for (line, bytes) in (1..).zip(script.split_inclusive(|byte| *byte == b'\n')) {
         match call_of(bytes).ok_or(Stop::BadLine).and_then(|call| driver.call(call)) {
@@ -80,6 +82,7 @@ pub fn run_on<E: Engine>(script: &[u8]) -> Run {
 pub(crate) struct Driver<E> {
     effects: EffectLog,
     connections: Connections,
+    filling: Filling,
     buffers: Buffers,
     captured: Captured,
     endpoint: Option<E>,
@@ -89,10 +92,6 @@ pub(crate) struct Driver<E> {
 }
 
 const FIRST_BUFFERS: Buffers = Buffers { log: MAX_LOG, collect: 0xffff };
-
-fn device_data(length: u64) -> Vec<u8> {
-    (0..length).map(|k| k.wrapping_mul(11).wrapping_add(5) as u8).collect()
-}
 
 fn in_result(status: Status, data: Vec<u8>) -> Option<DeviceResult> {
     let status = match status {
@@ -125,15 +124,16 @@ fn append<T>(to: &mut Vec<T>, one: T) -> Result<(), Stop> {
 }
 
 impl<E: Engine> Driver<E> {
-    pub(crate) fn new() -> Self {
+    pub(crate) fn over(filling: Filling) -> Self {
         let effects = EffectLog::default();
         Self {
             connections: Connections {
                 device: ScriptedDevice::new(effects.clone()),
-                memory: Arc::new(GuestMemory::new(FIRST_REGION, Region::NONE, effects.clone())),
+                memory: Arc::new(GuestMemory::new(FIRST_REGION, Region::NONE, filling, effects.clone())),
                 events: EventSender::new(effects.clone()),
             },
             effects,
+            filling,
             buffers: FIRST_BUFFERS,
             captured: FIRST_CAPTURED,
             endpoint: None,
@@ -223,7 +223,7 @@ impl<E: Engine> Driver<E> {
     }
 
     fn complete(&mut self, status: Option<Status>, length: u64) -> Result<String, No> {
-        let (lent, data) = (self.buffers, device_data(length));
+        let (lent, data) = (self.buffers, self.filling.of_device(length));
         let endpoint = self.endpoint()?;
         let result = match status {
             None => None,
@@ -240,35 +240,58 @@ impl<E: Engine> Driver<E> {
         Ok(&mut self.row)
     }
 
-    /// A row by single calls, as the Rust has no rows: each TD is submitted TRB by TRB and completed, until one fails. What they did is
-    /// joined.
+    /// A row by the engine's own call, if it has one, and by single calls, as the Rust has no rows: both come to the same, and the call is
+    /// refused where document 02 refuses the row.
     fn complete_row(&mut self, length: u64) -> Result<String, No> {
         let row = std::mem::take(self.row_of_in()?);
         let (lent, memory) = (self.buffers, self.connections.memory.clone());
-        asked(questions::of_row(self.endpoint()?, &row, length, lent, &memory))?;
-        let data = device_data(length);
-        let mut joined: Vec<Record> = vec![];
-        let mut result = ResultFields::OK;
-        let (mut finished, mut start) = (0, 0);
+        let data = self.filling.of_device(length);
+        let endpoint = self.endpoint()?;
+        let question = questions::of_row(endpoint, &row, length, lent, &memory);
+        let in_one_call = endpoint.complete_row(&row, &data, lent).transpose();
+        match &in_one_call {
+            Ok(None) => asked(question)?,
+            Ok(Some(_)) => assert_eq!(None, question, "a row is accepted that document 02 refuses"),
+            Err(No::Refused(number)) => assert_eq!(Some(*number), question, "not the number of document 02"),
+            Err(No::Stopped(_)) => {}
+        }
+        let in_one_call = in_one_call?;
+        let completed = self.single_calls(&row, &data)?;
+        if let Some(in_one_call) = in_one_call {
+            assert_eq!(in_one_call, completed, "a row in one call is not its single calls");
+        }
+        let RowCompleted { records, result, finished } = completed;
+        let (result, endpoint) = (ResultFields(result), self.endpoint()?);
+        let carried_out = endpoint.carry_out(&records, &data);
+        let state = endpoint.state_line();
+        Ok(format!("ok {} {result} {finished}\n{}out {carried_out}\n{state}\n", records.len(), lines_of(&records)))
+    }
+
+    /// Each TD is submitted TRB by TRB and completed, until one fails. What they did is joined.
+    fn single_calls(&mut self, row: &Row, data: &[u8]) -> Result<RowCompleted, No> {
+        let mut joined = RowCompleted { records: vec![], result: TrbProcessingResult::Ok, finished: 0 };
+        let mut start = 0;
         for (trbs, (status, given)) in row.tds().into_iter().zip(&row.results) {
             let own = &data[start..start + *given as usize];
-            let (fields, own_records) = self.complete_td(trbs, *status, own)?;
-            joined.extend(own_records.into_iter().map(|record| record.moved_by(start)));
+            let (result, own_records) = self.complete_td(trbs, *status, own)?;
+            joined.records.extend(own_records.into_iter().map(|record| record.moved_by(start)));
             start += own.len();
-            result = fields;
-            if !result.is_ok() || (self.is_strict && *status != Status::Success) {
+            joined.result = result;
+            if result != TrbProcessingResult::Ok || (self.is_strict && *status != Status::Success) {
                 break;
             }
-            finished += 1;
+            joined.finished += 1;
         }
-        let endpoint = self.endpoint()?;
-        let carried_out = endpoint.carry_out(&joined, &data);
-        let state = endpoint.state_line();
-        Ok(format!("ok {} {result} {finished}\n{}out {carried_out}\n{state}\n", joined.len(), lines_of(&joined)))
+        Ok(joined)
     }
 
     /// One TD by single calls, which are accepted where the row is.
-    fn complete_td(&mut self, trbs: &[Trb], status: Status, data: &[u8]) -> Result<(ResultFields, Vec<Record>), No> {
+    fn complete_td(
+        &mut self,
+        trbs: &[Trb],
+        status: Status,
+        data: &[u8],
+    ) -> Result<(TrbProcessingResult, Vec<Record>), No> {
         let (lent, effects) = (self.buffers, self.effects.clone());
         let endpoint = self.endpoint()?;
         let (last, chained) = trbs.split_last().ok_or(Stop::BadLine)?;
@@ -281,7 +304,7 @@ impl<E: Engine> Driver<E> {
         let result = in_result(status, data.to_vec()).filter(|_| is_asked);
         // Before the completion: the Rust names a TD by the first TRB that it holds.
         let mut records = endpoint.records(&effects.take(), data);
-        let result = ResultFields(endpoint.complete(result, data, lent)?);
+        let result = endpoint.complete(result, data, lent)?;
         records.extend(endpoint.records(&effects.take(), data));
         Ok((result, records))
     }

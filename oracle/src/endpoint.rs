@@ -238,14 +238,6 @@ pub fn weighted_sum(bytes: &[u8]) -> u32 {
 /// RESULT, ADDR and CYCLE of an answer.
 pub struct ResultFields(pub TrbProcessingResult);
 
-impl ResultFields {
-    pub const OK: Self = Self(TrbProcessingResult::Ok);
-
-    pub fn is_ok(&self) -> bool {
-        matches!(self.0, TrbProcessingResult::Ok)
-    }
-}
-
 impl Display for ResultFields {
     fn fmt(&self, f: &mut Formatter<'_>) -> fmt::Result {
         let (name, place) = match self.0 {

@@ -10,6 +10,7 @@ use crate::{
     guest_memory::GuestMemory,
     questions::Buffers,
     record::Record,
+    row::Row,
     scripted_device::{DeviceResult, ScriptedDevice},
 };
 
@@ -33,6 +34,15 @@ impl From<Stop> for No {
     fn from(stop: Stop) -> Self {
         Self::Stopped(stop)
     }
+}
+
+/// What an accepted row of TDs came to.
+#[derive(Debug, PartialEq, Eq)]
+pub struct RowCompleted {
+    pub records: Vec<Record>,
+    pub result: TrbProcessingResult,
+    /// TDs that were finished well.
+    pub finished: usize,
 }
 
 /// An endpoint of the engine. What its calls do goes to the connections that it was made with.
@@ -60,6 +70,10 @@ pub trait Engine: Sized {
     fn complete(&mut self, result: Option<DeviceResult>, data: &[u8], lent: Buffers)
         -> Result<TrbProcessingResult, No>;
     fn cancel(&mut self);
+    /// A row of TDs in one call, if the engine has such a call. It leaves the endpoint as it was, and nothing goes to the connections.
+    fn complete_row(&mut self, _row: &Row, _data: &[u8], _lent: Buffers) -> Option<Result<RowCompleted, No>> {
+        None
+    }
 
     fn held(&mut self) -> usize;
     fn hold(&mut self, trb: &Trb) -> Result<(), Stop>;

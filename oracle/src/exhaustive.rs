@@ -2,7 +2,7 @@
 //! request length past 2^32.
 
 use crate::{
-    call::{Call, Kind, Status, Trb, CHAIN, CYCLE, Region, INTERRUPT_ON_COMPLETION, INTERRUPT_ON_SHORT, MAX_WINDOW},
+    call::{Call, Kind, Region, Status, Trb, CHAIN, CYCLE, INTERRUPT_ON_COMPLETION, INTERRUPT_ON_SHORT, MAX_WINDOW},
     model::{Due, Script},
     questions::{MAX_HELD, MAX_TRB_LENGTH},
 };

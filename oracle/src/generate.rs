@@ -2,8 +2,8 @@
 
 use crate::{
     call::{
-        parse, Call, Captured, Kind, Region, Status, Trb, CHAIN, CYCLE, DIRECTION, IMMEDIATE_DATA, INTERRUPT_ON_COMPLETION, INTERRUPT_ON_SHORT,
-        MAX_COLLECT, MAX_DATA, MAX_WINDOW,
+        parse, Call, Captured, Kind, Region, Status, Trb, CHAIN, CYCLE, DIRECTION, IMMEDIATE_DATA,
+        INTERRUPT_ON_COMPLETION, INTERRUPT_ON_SHORT, MAX_COLLECT, MAX_DATA, MAX_WINDOW,
     },
     model::{Due, Model, Phase, Script, PHASES},
     questions::{MAX_ENDPOINT, MAX_HELD, MAX_ROW, MAX_TRB_LENGTH, MIN_COLLECT, MIN_LOG},
@@ -263,7 +263,8 @@ impl Generator {
             self.script.call(Call::Buffers { log: MIN_LOG, collect });
         }
         if self.model().held.len() <= 1 {
-            self.target = self.random.pick(&[1, 1, 2, 3, 4, 6, 20, 64, MAX_HELD - 1, MAX_HELD - 1, MAX_HELD, MAX_HELD + 1]);
+            self.target =
+                self.random.pick(&[1, 1, 2, 3, 4, 6, 20, 64, MAX_HELD - 1, MAX_HELD - 1, MAX_HELD, MAX_HELD + 1]);
         }
         let trb = self.submitted_trb(kind);
         self.script.call(Call::Submit(trb));
@@ -467,7 +468,8 @@ impl Generator {
             self.script.call(Call::AppendTrb(trb));
         }
         let anything = self.random.below(asked + 20);
-        let length = self.random.pick(&[asked, asked, asked, asked + 1, asked.saturating_sub(1), anything, 0]).min(room);
+        let length =
+            self.random.pick(&[asked, asked, asked, asked + 1, asked.saturating_sub(1), anything, 0]).min(room);
         let error = self.random.pick(&[Status::Stall, Status::TransactionError, Status::Disconnect]);
         let status = if self.random.percent(93) { Status::Success } else { error };
         let (status, length) = if normal { (status, length) } else { (Status::Success, 0) };

@@ -6,6 +6,7 @@ use crate::{
     call::Region,
     device::bus::{BusDevice, Request},
     effects::{Effect, EffectLog},
+    filling::Filling,
 };
 
 #[derive(Debug)]
@@ -15,9 +16,8 @@ struct Memory {
 }
 
 impl Memory {
-    fn filled(region: Region) -> Self {
-        let byte_at = |offset: u64| region.base.wrapping_add(offset).wrapping_mul(7).wrapping_add(13) as u8;
-        Self { region, bytes: (0..region.length).map(byte_at).collect() }
+    fn filled(region: Region, filling: Filling) -> Self {
+        Self { region, bytes: filling.of_region(region) }
     }
 
     /// The bytes of a range, if it lies in here.
@@ -34,8 +34,8 @@ struct Memories {
 }
 
 impl Memories {
-    fn filled(low: Region, high: Region) -> Self {
-        Self { low: Memory::filled(low), high: Memory::filled(high) }
+    fn filled(low: Region, high: Region, filling: Filling) -> Self {
+        Self { low: Memory::filled(low, filling), high: Memory::filled(high, filling) }
     }
 
     /// The bytes of a range, of whichever region holds all of it.
@@ -52,16 +52,17 @@ impl Memories {
 #[derive(Debug)]
 pub struct GuestMemory {
     memories: Mutex<Memories>,
+    filling: Filling,
     effects: EffectLog,
 }
 
 impl GuestMemory {
-    pub fn new(low: Region, high: Region, effects: EffectLog) -> Self {
-        Self { memories: Mutex::new(Memories::filled(low, high)), effects }
+    pub fn new(low: Region, high: Region, filling: Filling, effects: EffectLog) -> Self {
+        Self { memories: Mutex::new(Memories::filled(low, high, filling)), filling, effects }
     }
 
     pub fn fill_anew(&self, low: Region, high: Region) {
-        *self.memories.lock().unwrap() = Memories::filled(low, high);
+        *self.memories.lock().unwrap() = Memories::filled(low, high, self.filling);
     }
 
     pub fn share_an_address(&self) -> bool {

@@ -175,14 +175,7 @@ pub struct Script {
 
 impl Default for Script {
     fn default() -> Self {
-        Self {
-            text: String::new(),
-            answered: 0,
-            model: None,
-            low: FIRST_REGION,
-            high: Region::NONE,
-            collect: 0xffff,
-        }
+        Self { text: String::new(), answered: 0, model: None, low: FIRST_REGION, high: Region::NONE, collect: 0xffff }
     }
 }
 

@@ -86,12 +86,9 @@ pub fn parsed(raw: &RawTrb) -> Trb {
             t.event_data,
             0,
         ),
-        TransferTrbVariant::NoOp(t) => trb(
-            Kind::NoOp,
-            flag(t.chain, CHAIN) | flag(t.interrupt_on_completion, INTERRUPT_ON_COMPLETION),
-            0,
-            0,
-        ),
+        TransferTrbVariant::NoOp(t) => {
+            trb(Kind::NoOp, flag(t.chain, CHAIN) | flag(t.interrupt_on_completion, INTERRUPT_ON_COMPLETION), 0, 0)
+        }
         TransferTrbVariant::Unrecognized(..) => trb(Kind::Unrecognized, 0, 0, 0),
     }
 }

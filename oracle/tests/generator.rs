@@ -142,8 +142,12 @@ fn random_scripts_reach_every_case() {
     let control_due = ["submit", "collecting", "parser", "unexpected", "request"];
     wanted.extend(control_due.map(|due| format!("control cancel in {due}")));
     wanted.extend(["in collecting full", "in real full", "control request full"].map(str::to_string));
-    wanted.extend(["in out 11", "control out 11", "collected 65535", "write with a region past 2^64"].map(str::to_string));
-    wanted.extend(["low", "high", "low, touching,", "high, touching,"].map(|region| format!("write in the {region} region")));
+    wanted.extend(
+        ["in out 11", "control out 11", "collected 65535", "write with a region past 2^64"].map(str::to_string),
+    );
+    wanted.extend(
+        ["low", "high", "low, touching,", "high, touching,"].map(|region| format!("write in the {region} region")),
+    );
     wanted.push("request length past 2^32".to_string());
     let missing: Vec<_> = wanted.iter().filter(|case| !seen.contains(*case)).collect();
     assert!(missing.is_empty(), "never reached: {missing:?}");

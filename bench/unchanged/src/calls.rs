@@ -93,22 +93,56 @@ fn run_td<E: EndpointHandle>(
     sum
 }
 
-/// `repeats` TDs of `trbs` Normals, whose buffers lie end to end.
-pub fn in_td(data: &'static [u8], trbs: u32, transfer_length: u32, status: u8, completes: bool, repeats: u32) -> u64 {
-    let records = Records::new();
-    let mut endpoint = TdBasedInEndpointHandle::new(
-        SLOT,
-        ENDPOINT,
-        EndpointPcapMeta::bulk(CAPTURE_BUS, SLOT, ENDPOINT),
-        Device { records: records.clone(), status, data: LentData::new(data) },
-        Arc::new(Memory(records.clone())),
-        EventSender::new(records.clone()),
-    );
-    let normal = |i: u32, ends: bool| {
-        let flags = INTERRUPT_ON_SHORT | if ends { INTERRUPT_ON_COMPLETION } else { CHAIN };
-        raw_trb(i, NORMAL, u64::from(i) * u64::from(transfer_length), transfer_length, flags, 0)
-    };
-    (0..repeats).map(|_| run_td(&mut endpoint, &records, trbs, completes, normal)).sum()
+/// What the device gives for a TD: its data, and 0 Success, 1 Stall, 2 transaction error or any other number for a disconnect.
+#[derive(Clone, Copy)]
+pub struct Given {
+    pub data: &'static [u8],
+    pub status: u8,
+}
+
+/// Rows of `tds` TDs of `trbs` Normals by single calls; the buffers of a TD lie end to end.
+pub struct InRows {
+    records: Records,
+    /// One for the last TD of a row, whose device gives something else, behind one for those before it.
+    endpoints: [TdBasedInEndpointHandle<Device>; 2],
+    tds: u32,
+    trbs: u32,
+    transfer_length: u32,
+}
+
+impl InRows {
+    /// The data of both begin at the same byte.
+    pub fn new(others: Given, last: Given, tds: u32, trbs: u32, transfer_length: u32) -> Self {
+        let records = Records::new();
+        let endpoints = [others, last].map(|given| {
+            TdBasedInEndpointHandle::new(
+                SLOT,
+                ENDPOINT,
+                EndpointPcapMeta::bulk(CAPTURE_BUS, SLOT, ENDPOINT),
+                Device { records: records.clone(), status: given.status, data: LentData::new(given.data) },
+                Arc::new(Memory(records.clone())),
+                EventSender::new(records.clone()),
+            )
+        });
+        Self { records, endpoints, tds, trbs, transfer_length }
+    }
+
+    /// Not inlined, so that each timed function of the Rust has one call site.
+    #[inline(never)]
+    pub fn run(&mut self, completes: bool, repeats: u32) -> u64 {
+        let Self { records, endpoints, tds, trbs, transfer_length } = self;
+        let normal = |i: u32, ends: bool| {
+            let flags = INTERRUPT_ON_SHORT | if ends { INTERRUPT_ON_COMPLETION } else { CHAIN };
+            raw_trb(i, NORMAL, u64::from(i) * u64::from(*transfer_length), *transfer_length, flags, 0)
+        };
+        let mut sum = 0;
+        for _ in 0..repeats {
+            for left in (0..*tds).rev() {
+                sum += run_td(&mut endpoints[usize::from(left == 0)], records, *trbs, completes, normal);
+            }
+        }
+        sum
+    }
 }
 
 /// `repeats` control transfers: Setup 80 06, Data IN of `length` bytes, Status.

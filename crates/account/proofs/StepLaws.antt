@@ -26,7 +26,7 @@ use Rattle.td_part.specs.Parts.{edtlaAfter, putDma, realizeDma, eventAt, codeAf
 use Rattle.td_part.specs.declared.TdInfo.{TdInfo}
 use Rattle.td_part.specs.declared.TdProcessingState.{TdProcessingState}
 use Rattle.td_part.specs.declared.TdProcessingState.the-variants.{Default, ShortTransfer}
-use Rattle.in_td.specs.Td.{normalCount, normals, goingOn, goesOn, failsAtLast, handleNormal, trbIn, processTrb, ended}
+use Rattle.in_td.specs.Td.{normalCount, normals, goingOn, goesOn, failsAtLast, handleNormal, trbByKind, processTrb, ended}
 use Rattle.in_td.specs.declared.InMode.{InMode}
 use Rattle.in_td.specs.declared.InMode.the-variants.{AsPorted, Strict}
 use Rattle.in_td.specs.declared.InTd.{InTd}
@@ -88,7 +88,7 @@ pub record Passed (p : TdProcessed) (o : Out TdProcessed) : Type 0 where
 passed-silent : (p : TdProcessed) → Passed p (goesOn (p .«normals_left») (silent (p .progress)))
 passed-silent p = record { edtla = p .progress .edtla; count = p .progress .records; next = refl; quiet = refl; writeless = refl }
 
-passed-kind : (td : InTd) (p : TdProcessed) (v : TransferTrbVariant) (a : ℕ) (cycle : Bool) → normalOf v ≡ none → Passed p (trbIn v td p a cycle)
+passed-kind : (td : InTd) (p : TdProcessed) (v : TransferTrbVariant) (a : ℕ) (cycle : Bool) → normalOf v ≡ none → Passed p (trbByKind v td p a cycle)
 passed-kind td p (Normal m) a cycle h = let z : _≡_ {A = ℕ} 0 1 = cc in absurd (omega arith)
 passed-kind td p (EventData t) a cycle h =
     let ioc : Bool = t .«interrupt_on_completion» in

@@ -27,7 +27,7 @@ use Rattle.td_part.specs.Parts.{edtlaAfter}
 use Rattle.td_part.specs.declared.TdProcessingState.{TdProcessingState}
 use Rattle.td_part.specs.declared.TdProcessingState.the-variants.{Default, ShortTransfer}
 use Rattle.walks.specs.Walk.{join, walk}
-use Rattle.in_td.specs.Td.{isNormal, normals, failsAtLast, normalIn, handleNormal, trbIn, processTrb, processTd, inTd}
+use Rattle.in_td.specs.Td.{isNormal, normals, failsAtLast, normalByState, handleNormal, trbByKind, processTrb, processTd, inTd}
 use Rattle.in_td.specs.declared.InMode.the-variants.{AsPorted, Strict}
 use Rattle.in_td.specs.declared.InTd.{InTd}
 use Rattle.in_td.specs.declared.TdProcessed.{TdProcessed}
@@ -99,7 +99,7 @@ module _ (e : EndpointId) (s : SlotId) (st : InTrbProcessingStatus) (n : ℕ) wh
   strict = inTd e s Strict st n
 
   -- a TRB of another kind
-  kind-same : (v : TransferTrbVariant) (p : TdProcessed) (a : ℕ) (cycle : Bool) → normalOf v ≡ none → trbIn v strict p a cycle ≡ trbIn v ported p a cycle
+  kind-same : (v : TransferTrbVariant) (p : TdProcessed) (a : ℕ) (cycle : Bool) → normalOf v ≡ none → trbByKind v strict p a cycle ≡ trbByKind v ported p a cycle
   kind-same (SetupStage t) p a cycle h = refl
   kind-same (DataStage t) p a cycle h = refl
   kind-same (StatusStage t) p a cycle h = refl
@@ -124,7 +124,7 @@ module _ (e : EndpointId) (s : SlotId) (st : InTrbProcessingStatus) (n : ℕ) wh
   going-same p t m kind goes = rw kind (by-state (p .progress .state))
     where
       by-state : (x : TdProcessingState)
-          → normalIn x strict (p .«normals_left») (p .progress) m (t .addr) (t .«cycle_bit») ≡ normalIn x ported (p .«normals_left») (p .progress) m (t .addr) (t .«cycle_bit»)
+          → normalByState x strict (p .«normals_left») (p .progress) m (t .addr) (t .«cycle_bit») ≡ normalByState x ported (p .«normals_left») (p .progress) m (t .addr) (t .«cycle_bit»)
       by-state (ShortTransfer short) = refl
       by-state Default = rw goes
 

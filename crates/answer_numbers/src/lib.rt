@@ -28,6 +28,7 @@ pub struct CompletionAnswered {
     pub address: u64,
 }
 
+// The number of an answer: document 01's for a no, 0 for a call that was accepted.
 pub fn number_of(answer: Answer) -> u8
     ensures { λ r. ⌜ r ≡ numberOf answer ⌝ }
 {
@@ -37,6 +38,7 @@ pub fn number_of(answer: Answer) -> u8
     }
 }
 
+// What C and Rust get of a submission: the number of its answer, and its records.
 pub fn answered_as(answer: Answer, records: usize) -> Answered
     ensures { λ r. ⌜ r ≡ answeredAs answer records ⌝ }
 {
@@ -117,6 +119,7 @@ fn completed_with(result: TrbProcessingResult, records: usize) -> CompletionAnsw
     }
 }
 
+// What C and Rust get of a completion: the number of its answer, its result with address and cycle bit, and its records.
 pub fn completed_as(answer: CompletionAnswer, records: usize) -> CompletionAnswered
     ensures { λ r. ⌜ r ≡ completionAnswered answer records ⌝ }
 {

@@ -23,6 +23,7 @@ pub const HIGH_BASE: u64 = 0x100000000;
 
 // ---- The checksum
 
+// What a call adds to the checksum by which the sides are held to each other.
 pub fn sum_of(answer: Answer, records: usize) -> u64 {
     match answer {
         Answer::Accepted => records as u64,
@@ -42,6 +43,7 @@ fn sum_of_result(result: TrbProcessingResult) -> u64 {
     }
 }
 
+// The same of a completion, its result among it.
 pub fn sum_of_completion(answer: CompletionAnswer, records: usize) -> u64 {
     match answer {
         CompletionAnswer::Completed(result) => std::num::wrapping_add_u64(
@@ -55,7 +57,7 @@ pub fn sum_of_completion(answer: CompletionAnswer, records: usize) -> u64 {
 // ---- The work
 
 // The device result of this number.
-pub fn status_of(number: u8) -> InTrbProcessingStatus {
+fn status_of(number: u8) -> InTrbProcessingStatus {
     if number == 0 {
         return InTrbProcessingStatus::Success;
     }

@@ -16,7 +16,7 @@ ghost use Rattle.in_endpoint.specs.Submission.{Submits as SubmitsIn};
 ghost use Rattle.in_endpoint.specs.Completion.{Completes as CompletesIn};
 ghost use Rattle.control_endpoint.specs.Submission.{Submits as SubmitsControl};
 ghost use Rattle.control_endpoint.specs.Completion.{Completes as CompletesControl};
-ghost use Rattle.by_reference.specs.Outcomes.{submittedIn, completedIn, submittedControl, completedControl};
+ghost use Rattle.by_reference.specs.Outcomes.{inSubmitted, inCompleted, controlSubmitted, controlCompleted};
 
 pub struct SubmissionOutcome {
     pub answer: Answer,
@@ -30,6 +30,7 @@ pub struct CompletionOutcome {
 
 // ---- IN endpoint
 
+// `in_submission::submit_trb` of the block that is lent, which becomes the one of its answer.
 pub fn in_submit_trb(
     log: &mut [u8],
     block: &mut InBlock,
@@ -39,7 +40,7 @@ pub fn in_submit_trb(
     high_base: u64,
     high: &[u8],
 ) -> SubmissionOutcome
-    ensures { λ r. ⌜ SubmitsIn (now (block .entry)) t (guestRegions «low_base» (length (now (low .entry))) «high_base» (length (now (high .entry)))) (now (log .entry)) (submittedIn r (now (block .exit))) (now (log .exit)) ⌝ }
+    ensures { λ r. ⌜ SubmitsIn (now (block .entry)) t (guestRegions «low_base» (length (now (low .entry))) «high_base» (length (now (high .entry)))) (now (log .entry)) (inSubmitted r (now (block .exit))) (now (log .exit)) ⌝ }
 {
     let r = in_submission::submit_trb(log, *block, t, low_base, low, high_base, high);
     *block = r.block;
@@ -49,13 +50,14 @@ pub fn in_submit_trb(
     }
 }
 
+// `in_completion::next_completion`, likewise.
 pub fn in_next_completion(
     log: &mut [u8],
     block: &mut InBlock,
     result: InTrbProcessingResult,
     data: &[u8],
 ) -> CompletionOutcome
-    ensures { λ r. ⌜ CompletesIn (now (block .entry)) result (length (now («data» .entry))) (now (log .entry)) (completedIn r (now (block .exit))) (now (log .exit)) ⌝ }
+    ensures { λ r. ⌜ CompletesIn (now (block .entry)) result (length (now («data» .entry))) (now (log .entry)) (inCompleted r (now (block .exit))) (now (log .exit)) ⌝ }
 {
     let r = in_completion::next_completion(log, *block, result, data);
     *block = r.block;
@@ -65,6 +67,7 @@ pub fn in_next_completion(
     }
 }
 
+// `in_endpoint::cancel`, likewise.
 pub fn in_cancel(block: &mut InBlock)
     ensures { λ _. ⌜ now (block .exit) ≡ cancelled (now (block .entry)) ⌝ }
 {
@@ -73,6 +76,7 @@ pub fn in_cancel(block: &mut InBlock)
 
 // ---- Control endpoint
 
+// `control_submission::submit_trb` of the block that is lent, which becomes the one of its answer.
 pub fn control_submit_trb<'a>(
     log: &mut [u8],
     collect: &mut [u8],
@@ -83,7 +87,7 @@ pub fn control_submit_trb<'a>(
     high_base: u64,
     high: &'a [u8],
 ) -> SubmissionOutcome
-    ensures { λ r. ⌜ SubmitsControl (now (block .entry)) t (memoryOf «low_base» (now (low .entry)) «high_base» (now (high .entry))) (now (log .entry)) (now (collect .entry)) (submittedControl r (now (block .exit))) (now (log .exit)) (now (collect .exit)) ⌝ }
+    ensures { λ r. ⌜ SubmitsControl (now (block .entry)) t (memoryOf «low_base» (now (low .entry)) «high_base» (now (high .entry))) (now (log .entry)) (now (collect .entry)) (controlSubmitted r (now (block .exit))) (now (log .exit)) (now (collect .exit)) ⌝ }
 {
     let r = control_submission::submit_trb(log, collect, *block, t, low_base, low, high_base, high);
     *block = r.block;
@@ -93,13 +97,14 @@ pub fn control_submit_trb<'a>(
     }
 }
 
+// `control_completion::next_completion`, likewise.
 pub fn control_next_completion(
     log: &mut [u8],
     block: &mut ControlBlock,
     result: ControlRequestProcessingResult,
     data: &[u8],
 ) -> CompletionOutcome
-    ensures { λ r. ⌜ CompletesControl (now (block .entry)) result (length (now («data» .entry))) (now (log .entry)) (completedControl r (now (block .exit))) (now (log .exit)) ⌝ }
+    ensures { λ r. ⌜ CompletesControl (now (block .entry)) result (length (now («data» .entry))) (now (log .entry)) (controlCompleted r (now (block .exit))) (now (log .exit)) ⌝ }
 {
     let r = control_completion::next_completion(log, *block, result, data);
     *block = r.block;
@@ -109,6 +114,7 @@ pub fn control_next_completion(
     }
 }
 
+// `control_endpoint::cancel`, likewise.
 pub fn control_cancel(block: &mut ControlBlock)
     ensures { λ _. ⌜ now (block .exit) ≡ now (block .entry) ⌝ }
 {

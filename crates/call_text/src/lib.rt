@@ -53,6 +53,7 @@ pub fn put_hex_behind(text: &mut [u8], at: usize, n: u64) -> usize
 
 // ---- The first line of an answer
 
+// Of a call that was refused: `no NUMBER`.
 pub fn put_refused(text: &mut [u8], at: usize, number: u8) -> usize
     requires { ⌜ at + maxFirst ≤ length (now text) ⌝ }
     ensures { λ r. ⌜ Written maxFirst (now (text .entry)) at (refusedLine number) r (now (text .exit)) ⌝ }

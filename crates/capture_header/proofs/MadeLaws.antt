@@ -18,7 +18,7 @@ use Rattle.capture_record.specs.declared.UsbDevice.{UsbDevice}
 use Rattle.capture_record.specs.declared.UsbHeader.{UsbHeader}
 use Rattle.capture_record.specs.declared.UsbSetup.{UsbSetup}
 use Rattle.capture_record.specs.Headers.{noSetup, usbHeader, HeaderFits}
-use Rattle.capture_record.specs.Events.{submission, completion, control, withSetup, transferType, pipeIn, rotatedRight, endpointZero, inStatus, errorStatus, trbErrorStatus, toHost, setupOf, carries, headerOf}
+use Rattle.capture_record.specs.Events.{submission, completion, control, withSetup, transferType, isInPipe, rotatedRight, endpointZero, inStatus, errorStatus, trbErrorStatus, toHost, setupOf, carries, headerOf}
 use Rattle.capture_record.specs.Calls.{RequestFits, EventFits}
 use Rattle.capture_header.specs.Made.{rotatedLeft, pipeNamed, statusNamed, errorNamed, requestNamed, submissionNamed, completionNamed, failureNamed, controlNamed, inNamed, eventNamed, countNamed, madeAgain, sameSetup, sameFront, sameNumbers, sameHeader}
 
@@ -254,7 +254,7 @@ module _ (d : UsbDevice) (s m : ℕ) (bus : d .«bus_number» < 256 ^ 2) (second
   pub headerOf-fits : (e : CaptureEvent) (n : ℕ) → EventFits e → n < 256 ^ 4 → HeaderFits (headerOf d s m e n)
   headerOf-fits (InSubmission p id length) n fits few = plain-header id 0 length 0 (fits .1) (omega arith) (fits .2) (omega arith) _ _ _ _ _
   headerOf-fits (InCompletion p id status) n fits few =
-      plain-header id (inStatus status) n (cond (pipeIn p) n 0) (fits .1) (in-status status) few (one-of (pipeIn p) n 0 few (omega arith)) _ _ _ _ _
+      plain-header id (inStatus status) n (cond (isInPipe p) n 0) (fits .1) (in-status status) few (one-of (isInPipe p) n 0 few (omega arith)) _ _ _ _ _
   headerOf-fits (ControlSubmission r) n fits few =
       request-header r fits 0 (cond (toHost r) (r .length) 0) (cond (toHost r) 0 n) (omega arith) (one-of (toHost r) (r .length) 0 (fits .length) (omega arith)) (one-of (toHost r) 0 n (omega arith) few) _ _ _ _ _
   headerOf-fits (ControlCompletionIn id) n fits few = plain-header id 0 n n fits (omega arith) few few _ _ _ _ _

@@ -248,6 +248,7 @@ fn same_numbers(a: UsbHeader, b: UsbHeader) -> bool
     )
 }
 
+// Are all fields of two usbmon headers the same?
 pub fn same_header(a: UsbHeader, b: UsbHeader) -> bool
     ensures { λ r. ⌜ r ≡ sameHeader a b ⌝ }
 {

@@ -90,8 +90,8 @@ rotatedRight byte = byte / 2 + 128 * (byte % 2)
 abbrev pub odd : ℕ → Bool
 odd byte = eqb (byte % 2) 1
 
-abbrev pub pipeIn : InPipe → Bool
-pipeIn p = odd (p .«endpoint_id» .0)
+abbrev pub isInPipe : InPipe → Bool
+isInPipe p = odd (p .«endpoint_id» .0)
 
 abbrev pub pipeAddress : InPipe → ℕ
 pipeAddress p = rotatedRight (p .«endpoint_id» .0)
@@ -113,7 +113,7 @@ setupOf r = record { «request_type» = r .«request_type»; request = r .reques
 -- packet.rs, `packet_payload`: does a record of the event carry its payload?
 abbrev pub carries : CaptureEvent → Bool
 carries (InSubmission p id n) = false
-carries (InCompletion p id status) = pipeIn p
+carries (InCompletion p id status) = isInPipe p
 carries (ControlSubmission r) = not (toHost r)
 carries (ControlCompletionIn id) = true
 carries (ControlCompletionOut id n) = false
@@ -127,9 +127,9 @@ deliveredOf e payload none = cond (carries e) payload none
 -- status, length, delivered length, setup bytes. 02, R-2: a control OUT submission has 0 as its length
 abbrev pub headerOf : UsbDevice → ℕ → ℕ → CaptureEvent → ℕ → UsbHeader
 headerOf d s m (InSubmission p id length) n =
-    usbHeader d s m id submission (transferType p) (pipeAddress p) withoutSetup (submissionFlag (pipeIn p)) 0 length 0 noSetup
+    usbHeader d s m id submission (transferType p) (pipeAddress p) withoutSetup (submissionFlag (isInPipe p)) 0 length 0 noSetup
 headerOf d s m (InCompletion p id status) n =
-    usbHeader d s m id completion (transferType p) (pipeAddress p) withoutSetup (completionFlag (pipeIn p)) (inStatus status) n (cond (pipeIn p) n 0) noSetup
+    usbHeader d s m id completion (transferType p) (pipeAddress p) withoutSetup (completionFlag (isInPipe p)) (inStatus status) n (cond (isInPipe p) n 0) noSetup
 headerOf d s m (ControlSubmission r) n =
     usbHeader d s m (r .address) submission control (endpointZero (toHost r)) withSetup (submissionFlag (toHost r)) 0 (cond (toHost r) (r .length) 0) (cond (toHost r) 0 n) (setupOf r)
 headerOf d s m (ControlCompletionIn id) n =

@@ -82,6 +82,7 @@ pub struct UsbHeader {
     pub setup: UsbSetup,
 }
 
+// Is the endpoint with this id an IN endpoint? Ports `endpoint_direction`.
 pub fn is_odd(byte: u8) -> bool
     ensures { λ r. ⌜ r ≡ odd byte ⌝ }
 {

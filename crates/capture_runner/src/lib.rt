@@ -1,25 +1,18 @@
 // Runs a call script and writes the capture of its requests and completions: takes its lines from standard input, makes the calls as `replay` does, and
 // writes the records of each.
 use call_script::Call;
-use call_script::InTransferType;
-use capture_record::UsbDevice;
 use captured_calls::Setting;
-use control_block::ControlBlock;
-use in_block::InBlock;
 use libc::STDOUT_FILENO;
 use script_lines::Found;
 use script_lines::Step;
-use session::Endpoint;
 use session::Ran;
 use session::Session;
-use trb::ControlRequestProcessingResult;
 ghost use mathlib.Core.Path.{_≡_};
 ghost use Prim.Native.Nat.{_≤_};
 ghost use lib.ListN.{length};
 ghost use Rattle.trb.specs.Limits.{minRowLog};
 ghost use Rattle.script_lines.specs.Steps.{Stepped};
 ghost use Rattle.state_text.specs.Widths.{maxAnswer};
-ghost use Rattle.capture_runner.specs.Settings.{isInterrupt, firstSetting};
 
 // ---- Bytes out
 
@@ -27,239 +20,6 @@ ghost use Rattle.capture_runner.specs.Settings.{isInterrupt, firstSettin
 fn write_out(output: &[u8], length: usize) {
     let end = call_script::least(length, output.len());
     io::write_all(STDOUT_FILENO, &output[..end]);
-}
-
-// ---- What captures say
-
-// Until a script says otherwise.
-fn first_setting() -> Setting
-    ensures { λ r. ⌜ r ≡ firstSetting ⌝ }
-{
-    let device = UsbDevice {
-        bus_number: 1,
-        device_address: 1,
-    };
-    Setting {
-        seconds: 0,
-        microseconds: 0,
-        device: device,
-        interrupt: false,
-    }
-}
-
-fn is_interrupt(transfer_type: InTransferType) -> bool
-    ensures { λ r. ⌜ r ≡ isInterrupt «transfer_type» ⌝ }
-{
-    match transfer_type {
-        InTransferType::Interrupt => true,
-        InTransferType::Bulk => false,
-    }
-}
-
-// Behind a call.
-fn setting_after(setting: Setting, call: Call) -> Setting {
-    if let Call::Time(seconds, microseconds) = call {
-        let device = setting.device;
-        return Setting {
-            seconds: seconds,
-            microseconds: microseconds,
-            device: device,
-            interrupt: setting.interrupt,
-        };
-    }
-    if let Call::Captured(bus_number, device_address, transfer_type) = call {
-        let device = UsbDevice {
-            bus_number: bus_number,
-            device_address: device_address,
-        };
-        return Setting {
-            seconds: setting.seconds,
-            microseconds: setting.microseconds,
-            device: device,
-            interrupt: is_interrupt(transfer_type),
-        };
-    }
-    setting
-}
-
-// ---- The records of a call
-
-// On an IN endpoint. A refused completion leaves its block as it was, and behind an accepted one a submission is due.
-fn put_in_call(
-    output: &mut [u8],
-    setting: Setting,
-    before: InBlock,
-    after: InBlock,
-    call: Call,
-    log: &[u8],
-    records: usize,
-    data: &[u8],
-) -> usize {
-    let endpoint_id = before.endpoint_id;
-    let state = before.state;
-    let trbs = before.trbs;
-    let first = trbs[0];
-    if let Call::Submit(_) = call {
-        return captured_calls::put_in_submission(output, 0, setting, endpoint_id, log, records);
-    }
-    if let Call::CompleteWithResult(status, bytes) = call {
-        let state_after = after.state;
-        if in_block::submission_due(state_after) {
-            let given = call_script::least(bytes, data.len());
-            return captured_calls::put_in_completion(
-                output,
-                0,
-                setting,
-                endpoint_id,
-                state,
-                first.addr,
-                in_calls::result_of(status),
-                &data[..given],
-            );
-        }
-    }
-    0
-}
-
-fn put_control_completion(
-    output: &mut [u8],
-    setting: Setting,
-    before: ControlBlock,
-    after: ControlBlock,
-    result: ControlRequestProcessingResult,
-    data: &[u8],
-) -> usize {
-    let state = before.state;
-    let request = before.request;
-    let state_after = after.state;
-    if control_block::submission_due(state_after) {
-        return captured_calls::put_control_completion(
-            output,
-            0,
-            setting,
-            state,
-            before.direction,
-            request,
-            call_text::count(before.collected),
-            result,
-            data,
-        );
-    }
-    0
-}
-
-// On a control endpoint, likewise. A completion without a device result has a record where it reports a TRB.
-fn put_control_call(
-    output: &mut [u8],
-    setting: Setting,
-    before: ControlBlock,
-    after: ControlBlock,
-    call: Call,
-    log: &[u8],
-    records: usize,
-    collect: &[u8],
-    data: &[u8],
-) -> usize {
-    if let Call::Submit(_) = call {
-        let collected = call_script::least(after.collected, collect.len());
-        return captured_calls::put_control_submission(
-            output,
-            0,
-            setting,
-            log,
-            records,
-            &collect[..collected],
-        );
-    }
-    if let Call::CompleteWithResult(status, bytes) = call {
-        let given = call_script::least(bytes, data.len());
-        let result = control_calls::result_of(status);
-        return put_control_completion(output, setting, before, after, result, &data[..given]);
-    }
-    if let Call::CompleteWithout(_) = call {
-        let result = ControlRequestProcessingResult::NoneGiven;
-        return put_control_completion(output, setting, before, after, result, &[]);
-    }
-    0
-}
-
-// A row on an IN endpoint, as it was written down before the call.
-fn put_row(
-    output: &mut [u8],
-    setting: Setting,
-    before: Session,
-    bytes: usize,
-    log: &[u8],
-    records: usize,
-    data: &[u8],
-) -> usize {
-    let block = before.in_block;
-    let endpoint_id = block.endpoint_id;
-    let row = before.row;
-    let results = before.results;
-    let given = call_script::least(bytes, data.len());
-    captured_calls::put_row(
-        output,
-        0,
-        setting,
-        endpoint_id,
-        row,
-        before.row_count,
-        results,
-        log,
-        records,
-        &data[..given],
-    )
-}
-
-// On the endpoint that there is, from the sessions before and behind the call: the records lie at the buffer's start. Returns the index behind them.
-fn put_call(
-    output: &mut [u8],
-    setting: Setting,
-    before: Session,
-    after: Session,
-    call: Call,
-    log: &[u8],
-    records: usize,
-    collect: &[u8],
-    data: &[u8],
-) -> usize {
-    let endpoint = after.endpoint;
-    if let Call::CompleteRow(bytes) = call {
-        return put_row(output, setting, before, bytes, log, records, data);
-    }
-    match endpoint {
-        Endpoint::Nothing => 0,
-        Endpoint::In => {
-            let block = before.in_block;
-            let block_after = after.in_block;
-            put_in_call(
-                output,
-                setting,
-                block,
-                block_after,
-                call,
-                log,
-                records,
-                data,
-            )
-        }
-        Endpoint::Control => {
-            let block = before.control_block;
-            let block_after = after.control_block;
-            put_control_call(
-                output,
-                setting,
-                block,
-                block_after,
-                call,
-                log,
-                records,
-                collect,
-                data,
-            )
-        }
-    }
 }
 
 // ---- Lines
@@ -273,7 +33,7 @@ struct Progress {
 
 fn started() -> Progress {
     let session = session::new_session();
-    let setting = first_setting();
+    let setting = call_captures::first_setting();
     Progress {
         session: session,
         setting: setting,
@@ -335,8 +95,8 @@ fn run_line(
     let call = call_script::read_call(line);
     let ran = run_call(text, before, call, log, collect, data, longer, shorter);
     let after = ran.session;
-    let next = setting_after(setting, call);
-    let end = put_call(
+    let next = call_captures::setting_after(setting, call);
+    let end = call_captures::put_call(
         output,
         setting,
         before,

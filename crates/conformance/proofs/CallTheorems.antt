@@ -27,7 +27,7 @@ use Rattle.conformance.proofs.InTheorems.{told-events, counted-normal}
 use Rattle.in_block.specs.Blocks.{heldOf}
 use Rattle.in_block.specs.Outcomes.{endingOf as inEndingOf}
 use Rattle.in_block.specs.declared.InBlock.{InBlock}
-use Rattle.in_endpoint.specs.Completion.{transferred, completedAs, isAccepted, completion as completionIn}
+use Rattle.in_endpoint.specs.Completion.{transferred, completedAs, isAccepted, completion as inCompletion}
 use Rattle.in_endpoint.proofs.CompletionLaws.{accepted-none, accepted-completion}
 use Rattle.in_endpoint.specs.declared.Completed.{Completed}
 use Rattle.control_block.specs.declared.ControlBlock.{ControlBlock}
@@ -45,15 +45,15 @@ use Rattle.trb.specs.declared.Answer.the-variants.{Accepted}
 -- ---- IN
 
 -- an accepted completion of a block that awaits the device, with a log of l bytes
-pub completion-processTd : (b : InBlock) (st : InTrbProcessingStatus) (n l : ℕ) → b .state ≡ AwaitingRealTransfer → isAccepted (completionIn l b (Given st) n .state .answer) ≡ true
-    → completionIn l b (Given st) n .records ≡ processTd (inTd (b .«endpoint_id») (b .«slot_id») (b .mode) st n) (heldOf b) .records
+pub completion-processTd : (b : InBlock) (st : InTrbProcessingStatus) (n l : ℕ) → b .state ≡ AwaitingRealTransfer → isAccepted (inCompletion l b (Given st) n .state .answer) ≡ true
+    → inCompletion l b (Given st) n .records ≡ processTd (inTd (b .«endpoint_id») (b .«slot_id») (b .mode) st n) (heldOf b) .records
 unfolding transferred
 completion-processTd b st n l awaits h =
     ap (λ (o : Out Completed). o .records) (accepted-completion l b (Given st) n h)
     ∙ ap (λ (state : TdBasedNormalSubmissionState). completedAs (inEndingOf state (Given st) n) b .records) awaits
 
 -- 02, R-4: such a block holds a Normal
-accepted-normals : (b : InBlock) (r : InTrbProcessingResult) (n l : ℕ) → b .state ≡ AwaitingRealTransfer → isAccepted (completionIn l b r n .state .answer) ≡ true → 0 < normals (heldOf b)
+accepted-normals : (b : InBlock) (r : InTrbProcessingResult) (n l : ℕ) → b .state ≡ AwaitingRealTransfer → isAccepted (inCompletion l b r n .state .answer) ≡ true → 0 < normals (heldOf b)
 accepted-normals b r n l awaits h =
     let known : PassedCompletion l (factsIn b) r n = passed-completion l (factsIn b) r n (accepted-none l b r n h) in
     omega (arith, sound-normals (factsIn b) (known .sound) (ap awaitsDevice awaits))
@@ -66,10 +66,10 @@ agreed-strict status.Disconnect n requested h = tt
 
 -- so in strict mode the events of a failed transfer are the standard's, however many bytes came
 pub strict-events : (b : InBlock) (st : InTrbProcessingStatus) (n l : ℕ) → b .mode ≡ Strict → isFailure st ≡ true → b .state ≡ AwaitingRealTransfer
-    → isAccepted (completionIn l b (Given st) n .state .answer) ≡ true
-    → told (completionIn l b (Given st) n .records) ≡ events repeatedResidual (outcome (endingOfStatus st) n (tdOf (heldOf b))) n (tdOf (heldOf b))
+    → isAccepted (inCompletion l b (Given st) n .state .answer) ≡ true
+    → told (inCompletion l b (Given st) n .records) ≡ events repeatedResidual (outcome (endingOfStatus st) n (tdOf (heldOf b))) n (tdOf (heldOf b))
 strict-events b st n l strict failed awaits h =
-    let made : completionIn l b (Given st) n .records ≡ processTd (inTd (b .«endpoint_id») (b .«slot_id») Strict st n) (heldOf b) .records =
+    let made : inCompletion l b (Given st) n .records ≡ processTd (inTd (b .«endpoint_id») (b .«slot_id») Strict st n) (heldOf b) .records =
     completion-processTd b st n l awaits h ∙ ap (λ (mode : InMode). processTd (inTd (b .«endpoint_id») (b .«slot_id») mode st n) (heldOf b) .records) strict in
     ap told made
     ∙ told-events (b .«endpoint_id») (b .«slot_id») Strict st n (heldOf b) (counted-normal st (heldOf b) (accepted-normals b (Given st) n l awaits h))

@@ -75,7 +75,7 @@ module _ (e : EndpointId) (s : SlotId) (n requested : ℕ) where
   normal-later : (missing : ℕ) (t : NormalTrb) (a : ℕ) (w : TdProgress) → w .state ≡ ShortTransfer missing
       → realizeNormal this w t a ≡ repeatShort (this .info) w missing (t .«interrupt_on_completion») a
   unfolding realizeNormal
-  normal-later missing t a w h = ap (λ state. chain.normalIn state this w t a) h
+  normal-later missing t a w h = ap (λ state. chain.normalByState state this w t a) h
 
   module _ (a : ℕ) (ds : List DataTrb) (before : List Trb) (w : TdProgress) (at : Shortened n before w) (ih : Later ds) where
     later-normal : (t : NormalTrb) → requested ≡ asked before + (t .«transfer_length» + asked (dataOf ds))
@@ -114,7 +114,7 @@ module _ (e : EndpointId) (s : SlotId) (n requested : ℕ) where
 
   normal-first : (t : NormalTrb) (a : ℕ) (w : TdProgress) → w .state ≡ Default → realizeNormal this w t a ≡ realizeDma (this .info) w (ofNormal t a)
   unfolding realizeNormal
-  normal-first t a w h = ap (λ state. chain.normalIn state this w t a) h
+  normal-first t a w h = ap (λ state. chain.normalByState state this w t a) h
 
   module _ (ds : List DataTrb) (before : List Trb) (w : TdProgress) (at : Reached n before w) (ih : Whole ds) where
     -- a TRB that moves data

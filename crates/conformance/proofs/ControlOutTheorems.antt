@@ -91,7 +91,7 @@ module _ (e : EndpointId) (s : SlotId) (n : ℕ) where
 
     normal-sent : (t : NormalTrb) (a : ℕ) → realizeNormal this w t a ≡ sentBy (ofNormal t a)
     unfolding realizeNormal moveOut
-    normal-sent t a = ap (λ state. chain.normalIn state this w t a) (at .state)
+    normal-sent t a = ap (λ state. chain.normalByState state this w t a) (at .state)
 
     sent-normal : (t : NormalTrb) (a : ℕ) → asked before + (t .«transfer_length» + asked (dataOf ds)) ≤ n
         → SentAgrees n before (trbOf (ofNormal t a) ∷ dataOf ds) (join (realizeNormal this w t a) (walked (realizeNormal this w t a .state) ds))

@@ -15,7 +15,7 @@ use Rattle.standard.specs.Xhci.{Trb, normal, stage, eventData, noOp, TransferEv
 use Rattle.standard.specs.Xhci as xhci
 use Rattle.standard.proofs.XhciLaws.{edtla-accumulated, accumulatedInAll-min}
 use Rattle.conformance.specs.Translate.{tdOf, told, eventLengths, everyEventDataTells, endsInEventData}
-use Rattle.conformance.proofs.InTheorems.{told-outcomeIn}
+use Rattle.conformance.proofs.InTheorems.{told-inOutcome}
 
 eventLengths-append : (es fs : List TransferEvent) → eventLengths (es ++ fs) ≡ eventLengths es + eventLengths fs
 eventLengths-append [] fs = omega arith
@@ -105,7 +105,7 @@ pub eventLengths-moved : (e : EndpointId) (s : SlotId) (mode : InMode) (n : ℕ)
     → everyEventDataTells (tdOf ts) ≡ true → endsInEventData (tdOf ts) ≡ true
     → eventLengths (told (processTd (inTd e s mode status.Success n) ts .records)) ≡ min n (asked (tdOf ts))
 eventLengths-moved e s mode n ts h every last =
-    rw (told-outcomeIn e s mode status.Success n ts tt)
+    rw (told-inOutcome e s mode status.Success n ts tt)
     (omega (
       arith,
       tells-all n [] (tdOf ts) (omega arith) every,

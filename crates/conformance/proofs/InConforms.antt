@@ -41,14 +41,14 @@ use Rattle.in_td.specs.declared.TdProcessed.{TdProcessed}
 use Rattle.account.specs.Strict.{isFailure}
 use Rattle.standard.specs.Xhci.{Trb, normal, stage, transferLength, shortResidual, eventData, noOp, Outcome, ended, failed, complete, cut, fate, anyOnBus, asked, repeatedResidual, eventsAt, eventsFrom, events, deliveriesFrom, haltedFrom}
 use Rattle.standard.proofs.XhciLaws.{fate-complete, fate-cut, fate-beyond, fate-failed-ended}
-use Rattle.conformance.specs.Translate.{trbIn, tdOf, told, wrote, outcomeIn, haltOf, haltIn}
+use Rattle.conformance.specs.Translate.{trbByKind, tdOf, told, wrote, inOutcome, haltOf, inHalt}
 use Rattle.conformance.proofs.PartsConform.{trbOf, Reached, Shortened, Conforms, full-reached, full-conforms, short-shortened, short-conforms, failed-events, failed-writes, passed-shortened, passed-conforms, event-reached, event-conforms, event-shortened, event-passed, noOp-reached, noOp-conforms, noOp-shortened, noOp-passed}
 
 -- what a walk made of the TRBs ts behind `before`
 pub record Agrees (st : InTrbProcessingStatus) (o : Outcome) (n : ℕ) (before ts : List Trb) (made : Out TdProcessed) : Type 0 where
   pub events : told (made .records) ≡ eventsFrom repeatedResidual o n before ts
   pub writes : wrote (made .records) ≡ deliveriesFrom n before ts
-  pub halt : haltOf (made .state .result) ≡ haltIn st (haltedFrom o n before ts)
+  pub halt : haltOf (made .state .result) ≡ inHalt st (haltedFrom o n before ts)
 
 -- ---- Outcomes
 
@@ -61,11 +61,11 @@ module _ (n requested : ℕ) (before : List Trb) (b : Trb) (behind : List Trb) (
       (λ (h : n < requested). rw (lt-leb requested n h) (fate-failed-ended code n before b behind (omega arith)))
       (le-or-lt requested n)
 
-  fate-outcomeIn : (st : InTrbProcessingStatus) → fate (outcomeIn AsPorted st n requested) n before b behind ≡ fate ended n before b behind
-  fate-outcomeIn status.Success = refl
-  fate-outcomeIn status.Stall = fate-failure 6
-  fate-outcomeIn status.TransactionError = fate-failure 4
-  fate-outcomeIn status.Disconnect = fate-failure 4
+  fate-inOutcome : (st : InTrbProcessingStatus) → fate (inOutcome AsPorted st n requested) n before b behind ≡ fate ended n before b behind
+  fate-inOutcome status.Success = refl
+  fate-inOutcome status.Stall = fate-failure 6
+  fate-inOutcome status.TransactionError = fate-failure 4
+  fate-inOutcome status.Disconnect = fate-failure 4
 
 -- behind the TRB in which the bytes ended a failed transfer has no event, and no transfer has a delivery
 none-beyond : (code n : ℕ) (before ts : List Trb) → n < asked before → eventsFrom repeatedResidual (failed code) n before ts ≡ []
@@ -100,7 +100,7 @@ module _ (e : EndpointId) (s : SlotId) (mode : InMode) (st : InTrbProcessingStat
 
   -- a TRB of this kind, and the TRBs behind it
   abbrev walkedKind : TransferTrbVariant → ℕ → Bool → ℕ → TdProgress → List TransferTrb → Out TdProcessed
-  walkedKind v a cycle left w ts = join (td.trbIn v this (goingOn left w) a cycle) (walked (td.trbIn v this (goingOn left w) a cycle .state) ts)
+  walkedKind v a cycle left w ts = join (td.trbByKind v this (goingOn left w) a cycle) (walked (td.trbByKind v this (goingOn left w) a cycle .state) ts)
 
   -- ---- Behind a short Normal
 
@@ -110,10 +110,10 @@ module _ (e : EndpointId) (s : SlotId) (mode : InMode) (st : InTrbProcessingStat
   normal-later : (missing : ℕ) (m : NormalTrb) (a : ℕ) (cycle : Bool) (left : ℕ) (w : TdProgress) → w .state ≡ ShortTransfer missing
       → handleNormal this (goingOn left w) m a cycle ≡ goesOn (left - 1) (repeatShort (this .info) w missing (m .«interrupt_on_completion») a)
   unfolding handleNormal
-  normal-later missing m a cycle left w h = ap (λ state. td.normalIn state this left w m a cycle) h
+  normal-later missing m a cycle left w h = ap (λ state. td.normalByState state this left w m a cycle) h
 
   later-kind : (v : TransferTrbVariant) (a : ℕ) (cycle : Bool) (ts : List TransferTrb) (before : List Trb) (left : ℕ) (w : TdProgress) → Shortened n before w → Later ts
-      → Agrees st ended n before (trbIn v a ++ tdOf ts) (walkedKind v a cycle left w ts)
+      → Agrees st ended n before (trbByKind v a ++ tdOf ts) (walkedKind v a cycle left w ts)
   later-kind (Normal m) a cycle ts before left w at ih =
       let d : TrbDmaInfo = ofNormal m a in
       let out : Out TdProgress = repeatShort (this .info) w (shortResidual n before) (m .«interrupt_on_completion») a in
@@ -150,19 +150,19 @@ module _ (e : EndpointId) (s : SlotId) (mode : InMode) (st : InTrbProcessingStat
 
       normal-full : failsAtLast mode st left ≡ false → handleNormal this (goingOn left w) m a cycle ≡ goesOn (left - 1) (realizeDma (this .info) w (ofNormal m a))
       unfolding handleNormal
-      normal-full goes = ap (λ state. td.normalIn state this left w m a cycle) (at .state) ∙ rw (none-missing, goes)
+      normal-full goes = ap (λ state. td.normalByState state this left w m a cycle) (at .state) ∙ rw (none-missing, goes)
 
       -- the transfer fails at it
       normal-failed : failsAtLast mode st left ≡ true → handleNormal this (goingOn left w) m a cycle ≡ endingNormal st (this .info) (left - 1) w m a cycle
       unfolding handleNormal
-      normal-failed fails = ap (λ state. td.normalIn state this left w m a cycle) (at .state) ∙ rw (none-missing, fails)
+      normal-failed fails = ap (λ state. td.normalByState state this left w m a cycle) (at .state) ∙ rw (none-missing, fails)
 
     normal-short : n < m .«transfer_length» + asked before → handleNormal this (goingOn left w) m a cycle ≡ endingNormal st (this .info) (left - 1) w m a cycle
     unfolding handleNormal
     normal-short lacks =
         let some-missing : eqb (m .«transfer_length» - min (m .«transfer_length») (n - w .start)) 0 ≡ false =
         ne-eqb (m .«transfer_length» - min (m .«transfer_length») (n - w .start)) 0 (λ q. omega (arith, at .enough, at .start)) in
-        ap (λ state. td.normalIn state this left w m a cycle) (at .state) ∙ rw some-missing
+        ap (λ state. td.normalByState state this left w m a cycle) (at .state) ∙ rw some-missing
 
   stopped : (p : TdProcessed) (ts : List TransferTrb) → td.ended p ≡ true → walked p ts ≡ silent p
   unfolding walk
@@ -176,7 +176,7 @@ module _ (e : EndpointId) (s : SlotId) (mode : InMode) (st : InTrbProcessingStat
 
     ends : (code : CompletionCode) (r : TrbProcessingResult) → fate (failed (codeNumber code)) n before b (tdOf ts) ≡ cut
         → eventsFrom repeatedResidual (failed (codeNumber code)) n (b ∷ before) (tdOf ts) ≡ [] → deliveriesFrom n (b ∷ before) (tdOf ts) ≡ []
-        → td.isError r ≡ true → haltOf r ≡ haltIn st (some a)
+        → td.isError r ≡ true → haltOf r ≡ inHalt st (some a)
         → Agrees st (failed (codeNumber code)) n before (b ∷ tdOf ts)
         (join (endsWith r left (putDma (this .info) w (ofNormal m a) true code)) (walked (endsWith r left (putDma (this .info) w (ofNormal m a) true code) .state) ts))
     ends code r f untold undelivered error same =
@@ -202,7 +202,7 @@ module _ (e : EndpointId) (s : SlotId) (n : ℕ) (m : NormalTrb) (a : ℕ) (cycl
   fewer : leb requested n ≡ false
   fewer = lt-leb requested n (omega arith)
 
-  short-ends : (st : InTrbProcessingStatus) (code : CompletionCode) (r : TrbProcessingResult) → td.isError r ≡ true → haltOf r ≡ haltIn st (some a)
+  short-ends : (st : InTrbProcessingStatus) (code : CompletionCode) (r : TrbProcessingResult) → td.isError r ≡ true → haltOf r ≡ inHalt st (some a)
       → Agrees st (failed (codeNumber code)) n before (this-normal ∷ tdOf ts)
       (join (endsWith r (left - 1) (putDma (inTd e s AsPorted st n .info) w (ofNormal m a) true code))
       (walked e s AsPorted st n (endsWith r (left - 1) (putDma (inTd e s AsPorted st n .info) w (ofNormal m a) true code) .state) ts))
@@ -211,7 +211,7 @@ module _ (e : EndpointId) (s : SlotId) (n : ℕ) (m : NormalTrb) (a : ℕ) (cycl
       (none-delivered n (this-normal ∷ before) (tdOf ts) (omega arith)) error same
 
   short-agrees : (st : InTrbProcessingStatus)
-      → Agrees st (outcomeIn AsPorted st n requested) n before (this-normal ∷ tdOf ts) (walkedKind e s AsPorted st n (Normal m) a cycle left w ts)
+      → Agrees st (inOutcome AsPorted st n requested) n before (this-normal ∷ tdOf ts) (walkedKind e s AsPorted st n (Normal m) a cycle left w ts)
   short-agrees status.Success =
       let i : TdInfo = inTd e s AsPorted status.Success n .info in
       rw (normal-short e s AsPorted status.Success n m a cycle before left w at lacks)
@@ -230,7 +230,7 @@ module _ (e : EndpointId) (s : SlotId) (st : InTrbProcessingStatus) (n requested
   info = inTd e s AsPorted st n .info
 
   abbrev o : Outcome
-  o = outcomeIn AsPorted st n requested
+  o = inOutcome AsPorted st n requested
 
   abbrev Whole : (ts : List TransferTrb) → Type 0
   Whole ts = (before : List Trb) (left : ℕ) (w : TdProgress) → requested ≡ asked before + asked (tdOf ts) → Reached n before w
@@ -239,7 +239,7 @@ module _ (e : EndpointId) (s : SlotId) (st : InTrbProcessingStatus) (n requested
   -- a TRB that is done in full is complete under this outcome
   is-complete : (before : List Trb) (b : Trb) (behind : List Trb) → requested ≡ asked before + (transferLength b + asked behind)
       → transferLength b + asked before ≤ n → fate o n before b behind ≡ complete
-  is-complete before b behind all fits = fate-outcomeIn n requested before b behind all st ∙ fate-complete n before b behind fits
+  is-complete before b behind all fits = fate-inOutcome n requested before b behind all st ∙ fate-complete n before b behind fits
 
   module _ (a : ℕ) (cycle : Bool) (ts : List TransferTrb) (before : List Trb) (left : ℕ) (w : TdProgress) (at : Reached n before w) (ih : Whole ts) where
     full-agrees : (m : NormalTrb) → requested ≡ asked before + (m .«transfer_length» + asked (tdOf ts)) → m .«transfer_length» + asked before ≤ n
@@ -251,8 +251,8 @@ module _ (e : EndpointId) (s : SlotId) (st : InTrbProcessingStatus) (n requested
         (full-conforms info before w d (tdOf ts) at fits o (is-complete before (trbOf d) (tdOf ts) all fits))
         (ih (trbOf d ∷ before) (left - 1) (realizeDma info w d .state) (omega arith) (full-reached info before w d (tdOf ts) at fits)))
 
-    whole-kind : (v : TransferTrbVariant) → requested ≡ asked before + asked (trbIn v a ++ tdOf ts)
-        → Agrees st o n before (trbIn v a ++ tdOf ts) (walkedKind e s AsPorted st n v a cycle left w ts)
+    whole-kind : (v : TransferTrbVariant) → requested ≡ asked before + asked (trbByKind v a ++ tdOf ts)
+        → Agrees st o n before (trbByKind v a ++ tdOf ts) (walkedKind e s AsPorted st n v a cycle left w ts)
     whole-kind (Normal m) all =
         ⊎-elim
         (λ (fits : m .«transfer_length» + asked before ≤ n). full-agrees m all fits)
@@ -283,7 +283,7 @@ module _ (e : EndpointId) (s : SlotId) (st : InTrbProcessingStatus) (n requested
 -- ---- In strict mode, where all bytes came
 
 -- Normals are what a TD has on the bus
-bus-kind : (v : TransferTrbVariant) (a : ℕ) (ts : List TransferTrb) → anyOnBus (trbIn v a ++ tdOf ts) ≡ (isNormal v || anyOnBus (tdOf ts))
+bus-kind : (v : TransferTrbVariant) (a : ℕ) (ts : List TransferTrb) → anyOnBus (trbByKind v a ++ tdOf ts) ≡ (isNormal v || anyOnBus (tdOf ts))
 bus-kind (SetupStage t) a ts = refl
 bus-kind (DataStage t) a ts = refl
 bus-kind (StatusStage t) a ts = refl
@@ -323,7 +323,7 @@ module _ (code n : ℕ) where
 module _ (e : EndpointId) (s : SlotId) (st : InTrbProcessingStatus) (n : ℕ) (code : CompletionCode) (r : ℕ → Bool → TrbProcessingResult)
     (fails : (left : ℕ) → failsAtLast Strict st left ≡ eqb left 1)
     (failure : (i : TdInfo) (left : ℕ) (w : TdProgress) (m : NormalTrb) (a : ℕ) (cycle : Bool) → endingNormal st i left w m a cycle ≡ endsWith (r a cycle) left (putDma i w (ofNormal m a) true code))
-    (error : (a : ℕ) (cycle : Bool) → td.isError (r a cycle) ≡ true) (same : (a : ℕ) (cycle : Bool) → haltOf (r a cycle) ≡ haltIn st (some a)) where
+    (error : (a : ℕ) (cycle : Bool) → td.isError (r a cycle) ≡ true) (same : (a : ℕ) (cycle : Bool) → haltOf (r a cycle) ≡ inHalt st (some a)) where
   abbrev strict-info : TdInfo
   strict-info = inTd e s Strict st n .info
 
@@ -362,8 +362,8 @@ module _ (e : EndpointId) (s : SlotId) (st : InTrbProcessingStatus) (n : ℕ) (c
           (full-conforms strict-info before w d (tdOf ts) at fits o-failed (complete-before before (trbOf d) ts more fits))
           (ih (trbOf d ∷ before) (left - 1) (realizeDma strict-info w d .state) (omega arith) (omega arith) (omega arith) (full-reached strict-info before w d (tdOf ts) at fits)))
 
-    came-kind : (v : TransferTrbVariant) → left ≡ cond (isNormal v) 1 0 + normals ts → 0 < left → asked before + asked (trbIn v a ++ tdOf ts) ≤ n
-        → Agrees st o-failed n before (trbIn v a ++ tdOf ts) (walkedKind e s Strict st n v a cycle left w ts)
+    came-kind : (v : TransferTrbVariant) → left ≡ cond (isNormal v) 1 0 + normals ts → 0 < left → asked before + asked (trbByKind v a ++ tdOf ts) ≤ n
+        → Agrees st o-failed n before (trbByKind v a ++ tdOf ts) (walkedKind e s Strict st n v a cycle left w ts)
     came-kind (Normal m) counted more came =
         ⊎-elim (λ (h : normals ts ≤ 0). last-agrees m counted came (omega arith)) (λ (h : 0 < normals ts). next-agrees m counted came h) (le-or-lt (normals ts) 0)
     came-kind (EventData t) counted more came =
@@ -395,7 +395,7 @@ at-start = record { enough = omega arith; start = refl; edtla = refl; state = re
 
 -- by the status
 pub failed-whole : (e : EndpointId) (s : SlotId) (st : InTrbProcessingStatus) (n : ℕ) (ts : List TransferTrb) → isFailure st ≡ true → 0 < normals ts → asked (tdOf ts) ≤ n
-    → Agrees st (outcomeIn Strict st n (asked (tdOf ts))) n [] (tdOf ts) (walked e s Strict st n (goingOn (normals ts) atStart) ts)
+    → Agrees st (inOutcome Strict st n (asked (tdOf ts))) n [] (tdOf ts) (walked e s Strict st n (goingOn (normals ts) atStart) ts)
 failed-whole e s status.Success n ts failure some-left came = absurd (true≢false (sym failure))
 failed-whole e s status.Stall n ts failure some-left came =
     all-came e s status.Stall n StallError result.StallAt (λ left. refl) (λ i left w m a cycle. refl) (λ a cycle. refl) (λ a cycle. refl) ts [] (normals ts) atStart refl some-left (omega arith) at-start

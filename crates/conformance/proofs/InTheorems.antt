@@ -27,23 +27,23 @@ use Rattle.standard.specs.Xhci.{Trb, Outcome, ended, outcome, asked, repeatedRe
 use Rattle.in_td.specs.Normals.{normalOf, lengthOf, requested}
 use Rattle.account.specs.Strict.{isFailure, LogAndResult, logAndResult}
 use Rattle.account.proofs.StrictLaws.{lastNormal-none, told-strictly}
-use Rattle.conformance.specs.Translate.{trbIn, tdOf, told, wrote, endingOf, outcomeIn, Agreed, HasNormal, haltOf, haltIn}
+use Rattle.conformance.specs.Translate.{trbByKind, tdOf, told, wrote, endingOf, inOutcome, Agreed, HasNormal, haltOf, inHalt}
 use Rattle.conformance.proofs.InConforms.{Agrees, whole, at-start, failed-whole}
 
 -- ---- The outcome that 01 gives a transfer is the standard's, for as many bytes as can be
 
-outcome-outcomeIn : (mode : InMode) (st : InTrbProcessingStatus) (n : ℕ) (td : List Trb) → Agreed mode st n (asked td) → outcomeIn mode st n (asked td) ≡ outcome (endingOf st) n td
-outcome-outcomeIn mode status.Success n td h = rw (le-leb n (asked td) h)
-outcome-outcomeIn AsPorted status.Stall n td h = rw (lt-leb (asked td) n h)
-outcome-outcomeIn AsPorted status.TransactionError n td h = rw (lt-leb (asked td) n h)
-outcome-outcomeIn AsPorted status.Disconnect n td h = rw (lt-leb (asked td) n h)
-outcome-outcomeIn Strict status.Stall n td h = refl
-outcome-outcomeIn Strict status.TransactionError n td h = refl
-outcome-outcomeIn Strict status.Disconnect n td h = refl
+outcome-inOutcome : (mode : InMode) (st : InTrbProcessingStatus) (n : ℕ) (td : List Trb) → Agreed mode st n (asked td) → inOutcome mode st n (asked td) ≡ outcome (endingOf st) n td
+outcome-inOutcome mode status.Success n td h = rw (le-leb n (asked td) h)
+outcome-inOutcome AsPorted status.Stall n td h = rw (lt-leb (asked td) n h)
+outcome-inOutcome AsPorted status.TransactionError n td h = rw (lt-leb (asked td) n h)
+outcome-inOutcome AsPorted status.Disconnect n td h = rw (lt-leb (asked td) n h)
+outcome-inOutcome Strict status.Stall n td h = refl
+outcome-inOutcome Strict status.TransactionError n td h = refl
+outcome-inOutcome Strict status.Disconnect n td h = refl
 
 -- ---- S: the bytes that the standard's TD asks for are the bytes requested
 
-asked-kind : (v : TransferTrbVariant) (a : ℕ) (ts : List TransferTrb) → asked (trbIn v a ++ tdOf ts) ≡ lengthOf (normalOf v) + asked (tdOf ts)
+asked-kind : (v : TransferTrbVariant) (a : ℕ) (ts : List TransferTrb) → asked (trbByKind v a ++ tdOf ts) ≡ lengthOf (normalOf v) + asked (tdOf ts)
 asked-kind (SetupStage t) a ts = omega arith
 asked-kind (DataStage t) a ts = omega arith
 asked-kind (StatusStage t) a ts = omega arith
@@ -63,7 +63,7 @@ module _ (e : EndpointId) (s : SlotId) (st : InTrbProcessingStatus) (n : ℕ) (t
   abbrev walk-in : InMode → Out TdProcessed
   walk-in mode = processTd (inTd e s mode st n) ts
 
-  as-ported : Agrees st (outcomeIn AsPorted st n (asked (tdOf ts))) n [] (tdOf ts) (walk-in AsPorted)
+  as-ported : Agrees st (inOutcome AsPorted st n (asked (tdOf ts))) n [] (tdOf ts) (walk-in AsPorted)
   as-ported = whole e s st n (asked (tdOf ts)) ts [] (normals ts) atStart (omega arith) at-start
 
   -- a walk in strict mode that told what it tells as ported
@@ -77,18 +77,18 @@ module _ (e : EndpointId) (s : SlotId) (st : InTrbProcessingStatus) (n : ℕ) (t
   fewer-same : n < requested ts → logAndResult (walk-in Strict) ≡ logAndResult (walk-in AsPorted)
   fewer-same h = told-strictly e s st n ts ∙ rw (lt-leb (requested ts) n h, and-false (isFailure st))
 
-  strict-failed : isFailure st ≡ true → 0 < normals ts → outcomeIn AsPorted st n (asked (tdOf ts)) ≡ cond (leb (asked (tdOf ts)) n) ended (outcomeIn Strict st n (asked (tdOf ts)))
-      → Agrees st (outcomeIn Strict st n (asked (tdOf ts))) n [] (tdOf ts) (walk-in Strict)
+  strict-failed : isFailure st ≡ true → 0 < normals ts → inOutcome AsPorted st n (asked (tdOf ts)) ≡ cond (leb (asked (tdOf ts)) n) ended (inOutcome Strict st n (asked (tdOf ts)))
+      → Agrees st (inOutcome Strict st n (asked (tdOf ts))) n [] (tdOf ts) (walk-in Strict)
   strict-failed failed counted by-bytes =
       ⊎-elim
       (λ (h : asked (tdOf ts) ≤ n). failed-whole e s st n ts failed counted h)
       (λ (h : n < asked (tdOf ts)).
-      let same-outcome : outcomeIn AsPorted st n (asked (tdOf ts)) ≡ outcomeIn Strict st n (asked (tdOf ts)) = rw (by-bytes, lt-leb (asked (tdOf ts)) n h) in
-      same-agrees (outcomeIn Strict st n (asked (tdOf ts))) (fewer-same (rw (asked-requested ts) at h)) (rw same-outcome at as-ported))
+      let same-outcome : inOutcome AsPorted st n (asked (tdOf ts)) ≡ inOutcome Strict st n (asked (tdOf ts)) = rw (by-bytes, lt-leb (asked (tdOf ts)) n h) in
+      same-agrees (inOutcome Strict st n (asked (tdOf ts))) (fewer-same (rw (asked-requested ts) at h)) (rw same-outcome at as-ported))
       (le-or-lt (asked (tdOf ts)) n)
 
 agrees : (e : EndpointId) (s : SlotId) (mode : InMode) (st : InTrbProcessingStatus) (n : ℕ) (ts : List TransferTrb) → HasNormal mode st ts
-    → Agrees st (outcomeIn mode st n (asked (tdOf ts))) n [] (tdOf ts) (processTd (inTd e s mode st n) ts)
+    → Agrees st (inOutcome mode st n (asked (tdOf ts))) n [] (tdOf ts) (processTd (inTd e s mode st n) ts)
 agrees e s AsPorted st n ts h = as-ported e s st n ts
 agrees e s Strict status.Success n ts h = same-agrees e s status.Success n ts ended (told-strictly e s status.Success n ts) (as-ported e s status.Success n ts)
 agrees e s Strict status.Stall n ts h = strict-failed e s status.Stall n ts refl h refl
@@ -114,12 +114,12 @@ none-same e s st n ts none-counted = told-strictly e s st n ts ∙ rw (lastNorma
 module _ (e : EndpointId) (s : SlotId) (mode : InMode) (st : InTrbProcessingStatus) (n : ℕ) (ts : List TransferTrb) where
   -- ---- Events: xHCI 1.2, 4.10.1.1, 4.10.2, 4.11.5.2, 6.4.2.1
 
-  pub told-outcomeIn : HasNormal mode st ts → told (processTd (inTd e s mode st n) ts .records) ≡ events repeatedResidual (outcomeIn mode st n (asked (tdOf ts))) n (tdOf ts)
-  told-outcomeIn some-normal = agrees e s mode st n ts some-normal .events
+  pub told-inOutcome : HasNormal mode st ts → told (processTd (inTd e s mode st n) ts .records) ≡ events repeatedResidual (inOutcome mode st n (asked (tdOf ts))) n (tdOf ts)
+  told-inOutcome some-normal = agrees e s mode st n ts some-normal .events
 
   pub told-events : HasNormal mode st ts → Agreed mode st n (asked (tdOf ts))
       → told (processTd (inTd e s mode st n) ts .records) ≡ events repeatedResidual (outcome (endingOf st) n (tdOf ts)) n (tdOf ts)
-  told-events some-normal h = rw (outcome-outcomeIn mode st n (tdOf ts) h) at (agrees e s mode st n ts some-normal .events)
+  told-events some-normal h = rw (outcome-inOutcome mode st n (tdOf ts) h) at (agrees e s mode st n ts some-normal .events)
 
   -- ---- Writes: xHCI 1.2, 4.9.1, 6.4.1.1
 
@@ -130,18 +130,18 @@ module _ (e : EndpointId) (s : SlotId) (mode : InMode) (st : InTrbProcessingStat
       by-mode AsPorted = as-ported e s st n ts .writes
       by-mode Strict =
           ⊎-elim
-          (λ (h : normals ts ≤ 0). same-agrees e s st n ts (outcomeIn AsPorted st n (asked (tdOf ts))) (none-same e s st n ts (omega arith)) (as-ported e s st n ts) .writes)
+          (λ (h : normals ts ≤ 0). same-agrees e s st n ts (inOutcome AsPorted st n (asked (tdOf ts))) (none-same e s st n ts (omega arith)) (as-ported e s st n ts) .writes)
           (λ (h : 0 < normals ts). agrees e s Strict st n ts (counted-normal st ts h) .writes)
           (le-or-lt (normals ts) 0)
 
   -- ---- Result: xHCI 1.2, 4.8.3, 4.10.2
 
-  pub haltOf-outcomeIn : HasNormal mode st ts → haltOf (processTd (inTd e s mode st n) ts .state .result) ≡ haltIn st (haltedAt (outcomeIn mode st n (asked (tdOf ts))) n (tdOf ts))
-  haltOf-outcomeIn some-normal = agrees e s mode st n ts some-normal .halt
+  pub haltOf-inOutcome : HasNormal mode st ts → haltOf (processTd (inTd e s mode st n) ts .state .result) ≡ inHalt st (haltedAt (inOutcome mode st n (asked (tdOf ts))) n (tdOf ts))
+  haltOf-inOutcome some-normal = agrees e s mode st n ts some-normal .halt
 
   pub haltOf-haltedAt : HasNormal mode st ts → Agreed mode st n (asked (tdOf ts))
-      → haltOf (processTd (inTd e s mode st n) ts .state .result) ≡ haltIn st (haltedAt (outcome (endingOf st) n (tdOf ts)) n (tdOf ts))
-  haltOf-haltedAt some-normal h = rw (outcome-outcomeIn mode st n (tdOf ts) h) at (agrees e s mode st n ts some-normal .halt)
+      → haltOf (processTd (inTd e s mode st n) ts .state .result) ≡ inHalt st (haltedAt (outcome (endingOf st) n (tdOf ts)) n (tdOf ts))
+  haltOf-haltedAt some-normal h = rw (outcome-inOutcome mode st n (tdOf ts) h) at (agrees e s mode st n ts some-normal .halt)
 
 -- ---- Codes: xHCI 1.2, table 6-90
 

@@ -16,8 +16,8 @@ use Rattle.in_td.specs.Td.{processTd, inTd}
 use Rattle.in_td.specs.declared.InMode.{InMode}
 use Rattle.standard.specs.Xhci.{Trb, normal, stage, eventData, noOp, TransferEvent, transferEvent, ended, failed, Fate, complete, cut, beyond, fate, asked, shortResidual, ownResidual, repeatedResidual, accumulated, report, iocOf, ispOf, eventIf, eventOf, passedEvent, success, shortPacket, eventsAt, eventsFrom, events}
 use Rattle.standard.proofs.XhciLaws.{fate-complete, fate-cut, fate-beyond}
-use Rattle.conformance.specs.Translate.{tdOf, told, outcomeIn, HasNormal, SamePassed}
-use Rattle.conformance.proofs.InTheorems.{told-outcomeIn}
+use Rattle.conformance.specs.Translate.{tdOf, told, inOutcome, HasNormal, SamePassed}
+use Rattle.conformance.proofs.InTheorems.{told-inOutcome}
 
 -- ---- What does not depend on the reading
 
@@ -130,12 +130,12 @@ module _ (n : ℕ) where
 
 module _ (e : EndpointId) (s : SlotId) (mode : InMode) (n : ℕ) (ts : List TransferTrb) where
   pub told-ownResidual : SamePassed n [] (tdOf ts) → told (processTd (inTd e s mode status.Success n) ts .records) ≡ events ownResidual ended n (tdOf ts)
-  told-ownResidual h = told-outcomeIn e s mode status.Success n ts tt ∙ same-from n [] (tdOf ts) h
+  told-ownResidual h = told-inOutcome e s mode status.Success n ts tt ∙ same-from n [] (tdOf ts) h
 
   pub ownResidual-only : told (processTd (inTd e s mode status.Success n) ts .records) ≡ events ownResidual ended n (tdOf ts) → SamePassed n [] (tdOf ts)
-  ownResidual-only h = only-from n [] (tdOf ts) (sym (told-outcomeIn e s mode status.Success n ts tt) ∙ h)
+  ownResidual-only h = only-from n [] (tdOf ts) (sym (told-inOutcome e s mode status.Success n ts tt) ∙ h)
 
   -- of a transfer that failed, with no condition on the flags of the TRBs
-  pub told-ownResidual-failed : (st : InTrbProcessingStatus) (code : ℕ) → HasNormal mode st ts → outcomeIn mode st n (asked (tdOf ts)) ≡ failed code
+  pub told-ownResidual-failed : (st : InTrbProcessingStatus) (code : ℕ) → HasNormal mode st ts → inOutcome mode st n (asked (tdOf ts)) ≡ failed code
       → told (processTd (inTd e s mode st n) ts .records) ≡ events ownResidual (failed code) n (tdOf ts)
-  told-ownResidual-failed st code some-normal h = (rw h at (told-outcomeIn e s mode st n ts some-normal)) ∙ failed-from n code [] (tdOf ts)
+  told-ownResidual-failed st code some-normal h = (rw h at (told-inOutcome e s mode st n ts some-normal)) ∙ failed-from n code [] (tdOf ts)

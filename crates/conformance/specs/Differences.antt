@@ -18,7 +18,7 @@ use Rattle.standard.specs.Usb.{Setup, setupBytes, stages}
 use Rattle.standard.specs.Usb as usb
 use Rattle.standard.specs.Xhci.{normal, eventData, noOp, transferEvent, ownResidual, succeeded, stalled, unanswered, ended, events, delivery, deliveries, bufferAllowed, isTd}
 use Rattle.conformance.specs.Phases.{OfKind}
-use Rattle.conformance.specs.Runs.{seen, standardSeen, inCall, inRunIn, inRun, inNumber, inMadeUp, ControlCall, controlCall, ControlRan, controlRunFor, controlRun, normalTrb, eventDataTrb, noOpTrb, setupStageTrb, dataStageTrb, statusStageTrb, unrecognizedTrb}
+use Rattle.conformance.specs.Runs.{seen, standardSeen, inCall, inRunOf, inRun, inNumber, inMadeUp, ControlCall, controlCall, ControlRan, controlRunFor, controlRun, normalTrb, eventDataTrb, noOpTrb, setupStageTrb, dataStageTrb, statusStageTrb, unrecognizedTrb}
 use Rattle.conformance.specs.TranslateControl.{outcomeOf}
 use Rattle.conformance.specs.Translate.{runsOn, halts, haltsAt, told}
 
@@ -55,9 +55,9 @@ pub stall-of-none-standard : standardSeen ownResidual stalled 0 (normal 0x1000 0
 stall-of-none-standard = refl
 
 -- 02, R-4: in strict mode they agree
-pub stall-of-none-strict : inRunIn Strict (inCall (normalTrb 0x1000 0x8000 0 false true false false) (Given status.Stall) 0 ∷ [])
+pub stall-of-none-strict : inRunOf Strict (inCall (normalTrb 0x1000 0x8000 0 false true false false) (Given status.Stall) 0 ∷ [])
     ≡ standardSeen ownResidual stalled 0 (normal 0x1000 0x8000 0 true false ∷ [])
-unfolding inRunIn
+unfolding inRunOf
 stall-of-none-strict = refl
 
 -- ---- 2: a Normal of 8 bytes with IOC; 9 bytes come

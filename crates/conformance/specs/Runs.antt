@@ -18,11 +18,11 @@ use Rattle.trb.specs.declared.TransferTrbVariant.the-variants.{SetupStage, Data
 use Rattle.log.specs.declared.Record.{Record}
 use Rattle.in_block.specs.Blocks.{freshBlock, withState, stored}
 use Rattle.in_block.specs.declared.InBlock.{InBlock}
-use Rattle.in_block.specs.Facts.{soundBlock as soundIn}
+use Rattle.in_block.specs.Facts.{soundBlock as inSound}
 use Rattle.in_block.specs.Outcomes.{outcomeOf}
-use Rattle.in_endpoint.specs.Completion.{transferred, completion as completionIn}
-use Rattle.in_endpoint.specs.Submission.{submission as submissionIn}
-use Rattle.in_questions.specs.Questions.{submissionQuestions as submissionQuestionsIn, completionQuestions as completionQuestionsIn}
+use Rattle.in_endpoint.specs.Completion.{transferred, completion as inCompletion}
+use Rattle.in_endpoint.specs.Submission.{submission as inSubmission}
+use Rattle.in_questions.specs.Questions.{submissionQuestions as inSubmissionQuestions, completionQuestions as inCompletionQuestions}
 use Rattle.in_td.specs.Td.{handleNormal, processTrb}
 use Rattle.in_td.specs.declared.InMode.{InMode}
 use Rattle.in_td.specs.declared.InMode.the-variants.{AsPorted}
@@ -98,29 +98,29 @@ pub data InCall : Type 0 where
 unfoldable pub inFrom : InBlock → List Record → Halt → List InCall → Seen
 inFrom b rs h [] = seen rs h
 inFrom b rs h (inCall t r n ∷ calls) =
-    let o = submissionIn minLog b t window in
-    let p = completionIn minLog (o .state .block) r n in
+    let o = inSubmission minLog b t window in
+    let p = inCompletion minLog (o .state .block) r n in
     inFrom (p .state .block) (rs ++ (o .records ++ p .records)) (haltAnswered (p .state .answer)) calls
 
 -- in this mode
-unfoldable pub inRunIn : InMode → List InCall → Seen
-unfolding inFrom submissionIn submissionQuestionsIn outcomeOf completionIn completionQuestionsIn firstNo transferred idsInRange soundIn soundTrb all rangeInside placeOf inRegion regions.shareAnAddress regions.sharesAt regions.holds cleared walk processTrb handleNormal putDma realizeDma
-inRunIn mode calls = inFrom (freshBlock (record { 0 = 3 }) (record { 0 = 2 }) mode) [] runsOn calls
+unfoldable pub inRunOf : InMode → List InCall → Seen
+unfolding inFrom inSubmission inSubmissionQuestions outcomeOf inCompletion inCompletionQuestions firstNo transferred idsInRange inSound soundTrb all rangeInside placeOf inRegion regions.shareAnAddress regions.sharesAt regions.holds cleared walk processTrb handleNormal putDma realizeDma
+inRunOf mode calls = inFrom (freshBlock (record { 0 = 3 }) (record { 0 = 2 }) mode) [] runsOn calls
 
 unfoldable pub inRun : List InCall → Seen
-unfolding inRunIn
-inRun calls = inRunIn AsPorted calls
+unfolding inRunOf
+inRun calls = inRunOf AsPorted calls
 
 -- what one submission to a fresh block answers, by its number
 unfoldable pub inNumber : TransferTrb → ℕ
-unfolding submissionIn submissionQuestionsIn outcomeOf firstNo refusalOf idsInRange soundIn all rangeInside placeOf inRegion regions.shareAnAddress regions.sharesAt regions.holds
-inNumber t = numberOf (submissionIn minLog (freshBlock (record { 0 = 3 }) (record { 0 = 2 }) AsPorted) t window .state .answer)
+unfolding inSubmission inSubmissionQuestions outcomeOf firstNo refusalOf idsInRange inSound all rangeInside placeOf inRegion regions.shareAnAddress regions.sharesAt regions.holds
+inNumber t = numberOf (inSubmission minLog (freshBlock (record { 0 = 3 }) (record { 0 = 2 }) AsPorted) t window .state .answer)
 
 -- the completion of a made-up block that holds this TRB alone and awaits the device
 unfoldable pub inMadeUp : TransferTrb → InTrbProcessingResult → (n : ℕ) → Seen
-unfolding completionIn completionQuestionsIn firstNo transferred idsInRange soundIn soundTrb all cleared walk processTrb handleNormal putDma realizeDma
+unfolding inCompletion inCompletionQuestions firstNo transferred idsInRange inSound soundTrb all cleared walk processTrb handleNormal putDma realizeDma
 inMadeUp t r n =
-    let p = completionIn minLog (withState (stored (freshBlock (record { 0 = 3 }) (record { 0 = 2 }) AsPorted) t) AwaitingRealTransfer) r n in
+    let p = inCompletion minLog (withState (stored (freshBlock (record { 0 = 3 }) (record { 0 = 2 }) AsPorted) t) AwaitingRealTransfer) r n in
     seen (p .records) (haltAnswered (p .state .answer))
 
 -- ---- Control

@@ -22,19 +22,19 @@ use Rattle.standard.specs.Xhci.{Trb, normal, stage, eventData, noOp, TransferEv
 -- ---- TRBs of an IN TD
 
 -- the kinds that an IN block holds; it never holds another, and the walk does nothing with one
-abbrev pub trbIn : TransferTrbVariant → ℕ → List Trb
-trbIn (Normal t) a = normal a (t .«data_pointer») (t .«transfer_length») (t .«interrupt_on_completion») (t .«interrupt_on_short») ∷ []
-trbIn (EventData t) a = eventData a (t .«event_data») (t .«interrupt_on_completion») ∷ []
-trbIn (NoOp t) a = noOp a (t .«interrupt_on_completion») ∷ []
-trbIn (SetupStage t) a = []
-trbIn (DataStage t) a = []
-trbIn (StatusStage t) a = []
-trbIn Isoch a = []
-trbIn Unrecognized a = []
+abbrev pub trbByKind : TransferTrbVariant → ℕ → List Trb
+trbByKind (Normal t) a = normal a (t .«data_pointer») (t .«transfer_length») (t .«interrupt_on_completion») (t .«interrupt_on_short») ∷ []
+trbByKind (EventData t) a = eventData a (t .«event_data») (t .«interrupt_on_completion») ∷ []
+trbByKind (NoOp t) a = noOp a (t .«interrupt_on_completion») ∷ []
+trbByKind (SetupStage t) a = []
+trbByKind (DataStage t) a = []
+trbByKind (StatusStage t) a = []
+trbByKind Isoch a = []
+trbByKind Unrecognized a = []
 
 abbrev pub tdOf : List TransferTrb → List Trb
 tdOf [] = []
-tdOf (t ∷ ts) = trbIn (t .variant) (t .addr) ++ tdOf ts
+tdOf (t ∷ ts) = trbByKind (t .variant) (t .addr) ++ tdOf ts
 
 -- ---- Records of a log
 
@@ -63,14 +63,14 @@ endingOf status.Disconnect = unanswered
 
 -- 01, IN endpoint: a transfer ends in error only where n < S; data beyond S is dropped. 02, R-4: in strict mode it ends in error
 -- however many bytes came
-abbrev pub outcomeIn : InMode → InTrbProcessingStatus → (n requested : ℕ) → Outcome
-outcomeIn mode status.Success n requested = ended
-outcomeIn AsPorted status.Stall n requested = cond (leb requested n) ended (failed stallError)
-outcomeIn AsPorted status.TransactionError n requested = cond (leb requested n) ended (failed usbTransactionError)
-outcomeIn AsPorted status.Disconnect n requested = cond (leb requested n) ended (failed usbTransactionError)
-outcomeIn Strict status.Stall n requested = failed stallError
-outcomeIn Strict status.TransactionError n requested = failed usbTransactionError
-outcomeIn Strict status.Disconnect n requested = failed usbTransactionError
+abbrev pub inOutcome : InMode → InTrbProcessingStatus → (n requested : ℕ) → Outcome
+inOutcome mode status.Success n requested = ended
+inOutcome AsPorted status.Stall n requested = cond (leb requested n) ended (failed stallError)
+inOutcome AsPorted status.TransactionError n requested = cond (leb requested n) ended (failed usbTransactionError)
+inOutcome AsPorted status.Disconnect n requested = cond (leb requested n) ended (failed usbTransactionError)
+inOutcome Strict status.Stall n requested = failed stallError
+inOutcome Strict status.TransactionError n requested = failed usbTransactionError
+inOutcome Strict status.Disconnect n requested = failed usbTransactionError
 
 -- the bytes of a result for which that is the standard's outcome: at most S under Success; under an error fewer as ported, and any
 -- number in strict mode
@@ -108,12 +108,12 @@ haltOf (result.TransactionErrorAt a cycle) = haltsAt a
 haltOf result.Disconnect = halts
 
 -- the same for a status and the address, if any, at which the standard's endpoint halts; Disconnect names none
-abbrev pub haltIn : InTrbProcessingStatus → Option ℕ → Halt
-haltIn st none = runsOn
-haltIn status.Success (some a) = halts
-haltIn status.Stall (some a) = haltsAt a
-haltIn status.TransactionError (some a) = haltsAt a
-haltIn status.Disconnect (some a) = halts
+abbrev pub inHalt : InTrbProcessingStatus → Option ℕ → Halt
+inHalt st none = runsOn
+inHalt status.Success (some a) = halts
+inHalt status.Stall (some a) = haltsAt a
+inHalt status.TransactionError (some a) = haltsAt a
+inHalt status.Disconnect (some a) = halts
 
 -- ---- Normals passed after a short packet
 

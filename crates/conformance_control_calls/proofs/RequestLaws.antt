@@ -25,7 +25,7 @@ use Rattle.log.specs.Calls.{Out}
 use Rattle.log.specs.Records.{controlRequest}
 use Rattle.phase_table.specs.Leads.{entryOf, leadsOn, trbsLead}
 use Rattle.phase_table.specs.Outcomes.{holds, restarts, requests, phaseAfter, stateAfter}
-use Rattle.phase_table.specs.Table.{dataTaken, setupStageIn, dataStageIn, normalIn, trbOutcome}
+use Rattle.phase_table.specs.Table.{dataTaken, setupStageOutcome, dataStageOutcome, normalOutcome, trbOutcome}
 use Rattle.phase_table.proofs.LeadsLaws.{leads-rest}
 use Rattle.phase_table.specs.declared.Outcome.{Outcome}
 use Rattle.phase_table.specs.declared.Outcome.the-variants.{StartTransfer, RestartTransfer, TakeData, TakeLastData, TakeChainedStatus, SubmitRequest, Unexpected, Unsupported, Unrecognized}
@@ -138,7 +138,7 @@ module _ (lent : Lent) (b : ControlBlock) (t : TransferTrb) (places : length (b 
 -- ---- The last TRB leaves the request as it is
 
 -- no other kind makes one
-pub setup-silent : (phase : ControlTransferState) → requests (setupStageIn phase) ≡ false
+pub setup-silent : (phase : ControlTransferState) → requests (setupStageOutcome phase) ≡ false
 setup-silent ExpectSetupStageTrb = refl
 setup-silent MaybeDataStageTrb = refl
 setup-silent MoreData = refl
@@ -149,14 +149,14 @@ taken-silent : (chain : Bool) → requests (dataTaken chain) ≡ false
 taken-silent true = refl
 taken-silent false = refl
 
-data-silent : (phase : ControlTransferState) (chain : Bool) → requests (dataStageIn phase chain) ≡ false
+data-silent : (phase : ControlTransferState) (chain : Bool) → requests (dataStageOutcome phase chain) ≡ false
 data-silent ExpectSetupStageTrb chain = refl
 data-silent MaybeDataStageTrb chain = taken-silent chain
 data-silent MoreData chain = refl
 data-silent ExpectStatusStageTrb chain = refl
 data-silent ExpectFinalEventDataTrb chain = refl
 
-normal-silent : (phase : ControlTransferState) (chain : Bool) → requests (normalIn phase chain) ≡ false
+normal-silent : (phase : ControlTransferState) (chain : Bool) → requests (normalOutcome phase chain) ≡ false
 normal-silent ExpectSetupStageTrb chain = refl
 normal-silent MaybeDataStageTrb chain = refl
 normal-silent MoreData chain = taken-silent chain

@@ -40,7 +40,7 @@ use Rattle.in_block.specs.declared.InBlock.{InBlock}
 use Rattle.in_endpoint.specs.Submission.{requestOf}
 use Rattle.in_td.specs.Normals.{requested}
 use Rattle.row_walk.specs.Rows.{RowTd, hasNormal, completed, ownLog}
-use Rattle.row_questions.specs.Questions.{eachTrb, isSuccess, supportedIn}
+use Rattle.row_questions.specs.Questions.{eachTrb, isSuccess, inSupported}
 use Rattle.row_questions.proofs.QuestionLaws.{PassedTrb, passed-trb}
 use Rattle.in_row.specs.SingleCalls.{Called}
 use Rattle.in_row.proofs.CallLaws.{AcceptedTd, accepted-few, length-freed, tdOut, calls-td}
@@ -49,23 +49,23 @@ use Rattle.standard.specs.Usb.{Packets, total, endsShort}
 use Rattle.standard.proofs.UsbLaws.{total-≤-room, endsShort-total-<, total-<-endsShort}
 use Rattle.standard.specs.Xhci.{isTd, asked, anyOnBus, outcome, succeeded, repeatedResidual}
 use Rattle.standard.specs.Xhci as xhci
-use Rattle.conformance.specs.Translate.{trbIn, tdOf, told, wrote, HasNormal}
-use Rattle.conformance.proofs.InTheorems.{asked-requested, told-outcomeIn, wrote-deliveries, haltOf-outcomeIn}
+use Rattle.conformance.specs.Translate.{trbByKind, tdOf, told, wrote, HasNormal}
+use Rattle.conformance.proofs.InTheorems.{asked-requested, told-inOutcome, wrote-deliveries, haltOf-inOutcome}
 use Rattle.conformance_in_calls.specs.Tds.{chains, haltAnswered, Ready, Submitted, callsOf, Conforms}
 
 -- ---- A TD of 4.9.1 is one that a block takes
 
-takes-td : (regions : Regions) (h : ℕ) (ts : List TransferTrb) → isTd (chains ts) ≡ true → all supportedIn ts ≡ true → firstNo (eachTrb regions h ts) ≡ 0 → AcceptedTd regions h ts
+takes-td : (regions : Regions) (h : ℕ) (ts : List TransferTrb) → isTd (chains ts) ≡ true → all inSupported ts ≡ true → firstNo (eachTrb regions h ts) ≡ 0 → AcceptedTd regions h ts
 unfolding all
 takes-td regions h [] td kinds none = absurd (true≢false (sym td))
 takes-td regions h (t ∷ []) td kinds none =
-    (accepted-one regions h t [] (passed-trb regions h t [] none) (and-left (supportedIn t) true kinds), by-chain (chainOf (t .variant)) refl td)
+    (accepted-one regions h t [] (passed-trb regions h t [] none) (and-left (inSupported t) true kinds), by-chain (chainOf (t .variant)) refl td)
   where
     by-chain : (c : Bool) → chainOf (t .variant) ≡ c → isTd (c ∷ []) ≡ true → chainOf (t .variant) ≡ false
     by-chain true e h = absurd (true≢false (sym h))
     by-chain false e h = e
 takes-td regions h (t ∷ u ∷ ts) td kinds none =
-    by-chain (chainOf (t .variant)) refl td (y .rest) (λ more rest. takes-td regions (h + 1) (u ∷ ts) more (and-right (supportedIn t) (all supportedIn (u ∷ ts)) kinds) rest)
+    by-chain (chainOf (t .variant)) refl td (y .rest) (λ more rest. takes-td regions (h + 1) (u ∷ ts) more (and-right (inSupported t) (all inSupported (u ∷ ts)) kinds) rest)
   where
     y : PassedTrb regions h t (u ∷ ts)
     y = passed-trb regions h t (u ∷ ts) none
@@ -73,14 +73,14 @@ takes-td regions h (t ∷ u ∷ ts) td kinds none =
     by-chain : (c : Bool) → chainOf (t .variant) ≡ c → isTd (c ∷ chains (u ∷ ts)) ≡ true → firstNo (eachTrb regions (cond c (h + 1) 0) (u ∷ ts)) ≡ 0
         → (isTd (chains (u ∷ ts)) ≡ true → firstNo (eachTrb regions (h + 1) (u ∷ ts)) ≡ 0 → AcceptedTd regions (h + 1) (u ∷ ts)) → AcceptedTd regions h (t ∷ u ∷ ts)
     by-chain true e more rest behind = (
-      accepted-one regions h t (u ∷ ts) y (and-left (supportedIn t) (all supportedIn (u ∷ ts)) kinds),
+      accepted-one regions h t (u ∷ ts) y (and-left (inSupported t) (all inSupported (u ∷ ts)) kinds),
       (e, behind more rest),
     )
     by-chain false e more rest behind = absurd (true≢false (sym more))
 
 -- ---- What the standard's TD has
 
-on-bus-kind : (v : TransferTrbVariant) (a : ℕ) (ts : List TransferTrb) → hasNormal ts ≡ anyOnBus (tdOf ts) → not (eqb (normalCount v + normals ts) 0) ≡ anyOnBus (trbIn v a ++ tdOf ts)
+on-bus-kind : (v : TransferTrbVariant) (a : ℕ) (ts : List TransferTrb) → hasNormal ts ≡ anyOnBus (tdOf ts) → not (eqb (normalCount v + normals ts) 0) ≡ anyOnBus (trbByKind v a ++ tdOf ts)
 on-bus-kind (Normal t) a ts h = rw (ne-eqb (1 + normals ts) 0 (λ q. omega arith))
 on-bus-kind (SetupStage t) a ts h = rw zero-add h
 on-bus-kind (DataStage t) a ts h = rw zero-add h
@@ -180,9 +180,9 @@ module _ (l : ℕ) (b : InBlock) (regions : Regions) (ready : Ready l b regions)
         let own : callsOf l b regions x .records ≡ when (hasNormal ts) (requestOf ts e s) ++ walked = ap (λ (o : Out Called). o .records) called in
         record {
           records = own ∙ rw (on-bus ts, asked-requested ts);
-          events = ap told own ∙ told-request ts e s walked (hasNormal ts) ∙ told-outcomeIn e s (b .mode) (x .given .status) (x .given .length) ts has-normal;
+          events = ap told own ∙ told-request ts e s walked (hasNormal ts) ∙ told-inOutcome e s (b .mode) (x .given .status) (x .given .length) ts has-normal;
           writes = ap wrote own ∙ wrote-request ts e s walked (hasNormal ts) ∙ wrote-deliveries e s (b .mode) (x .given .status) (x .given .length) ts;
-          halt = ap (λ (o : Out Called). haltAnswered (o .state .answer)) called ∙ haltOf-outcomeIn e s (b .mode) (x .given .status) (x .given .length) ts has-normal;
+          halt = ap (λ (o : Out Called). haltAnswered (o .state .answer)) called ∙ haltOf-inOutcome e s (b .mode) (x .given .status) (x .given .length) ts has-normal;
           ready = subst (λ (o : Out Called). Ready l (o .state .block) regions) (sym called) ready-again;
         }
 

@@ -20,10 +20,10 @@ use Rattle.in_block.specs.Facts.{factsOf, soundBlock}
 use Rattle.in_block.specs.declared.InBlock.{InBlock}
 use Rattle.in_endpoint.specs.Submission.{firstAddress}
 use Rattle.row_walk.specs.Rows.{RowTd, completed}
-use Rattle.row_questions.specs.Questions.{eachTrb, givenRightly, supportedIn}
+use Rattle.row_questions.specs.Questions.{eachTrb, givenRightly, inSupported}
 use Rattle.in_row.specs.SingleCalls.{Called, tdCalls, resultFor}
 use Rattle.standard.specs.Xhci.{isTd, Outcome, events, deliveries, haltedAt, asked, anyOnBus, repeatedResidual}
-use Rattle.conformance.specs.Translate.{Halt, runsOn, haltOf, haltIn, tdOf, told, wrote, outcomeIn}
+use Rattle.conformance.specs.Translate.{Halt, runsOn, haltOf, inHalt, tdOf, told, wrote, inOutcome}
 
 -- xHCI 1.2, 4.9.1: the Chain bits of TRBs
 abbrev pub chains : List TransferTrb → List Bool
@@ -46,7 +46,7 @@ pub record Ready (l : ℕ) (b : InBlock) (regions : Regions) : Type 0 where
 -- a TD whose TRBs no question refuses, and what the device gave for it: without a Normal it is not asked
 pub record Submitted (regions : Regions) (x : RowTd) : Type 0 where
   pub td : isTd (chains (x .trbs)) ≡ true
-  pub kinds : all supportedIn (x .trbs) ≡ true
+  pub kinds : all inSupported (x .trbs) ≡ true
   pub trbs : firstNo (eachTrb regions 0 (x .trbs)) ≡ 0
   pub rightly : givenRightly x ≡ true
   pub small : x .given .length ≤ maxData
@@ -57,7 +57,7 @@ callsOf l b regions x = tdCalls l regions b (x .trbs) (resultFor x) (x .given .l
 
 -- 01's outcome of it
 abbrev pub outcomeFor : InBlock → RowTd → Outcome
-outcomeFor b x = outcomeIn (b .mode) (x .given .status) (x .given .length) (asked (tdOf (x .trbs)))
+outcomeFor b x = inOutcome (b .mode) (x .given .status) (x .given .length) (asked (tdOf (x .trbs)))
 
 -- what all its calls logged and answered
 pub record Conforms (l : ℕ) (b : InBlock) (regions : Regions) (x : RowTd) (o : Out Called) : Type 0 where
@@ -70,6 +70,6 @@ pub record Conforms (l : ℕ) (b : InBlock) (regions : Regions) (x : RowTd) (o :
   -- 4.9.1, 6.4.1.1: what its buffers get
   pub writes : wrote (o .records) ≡ deliveries (x .given .length) (tdOf (x .trbs))
   -- 4.8.3, 4.10.2: where the endpoint halts
-  pub halt : haltAnswered (o .state .answer) ≡ haltIn (x .given .status) (haltedAt (outcomeFor b x) (x .given .length) (tdOf (x .trbs)))
+  pub halt : haltAnswered (o .state .answer) ≡ inHalt (x .given .status) (haltedAt (outcomeFor b x) (x .given .length) (tdOf (x .trbs)))
   -- and the block is ready for another
   pub ready : Ready l (o .state .block) regions

@@ -190,6 +190,7 @@ pub fn submission_due(state: ControlSubmissionState) -> bool
     }
 }
 
+// Does a block in this state await the device's result?
 pub fn awaits_device(state: ControlSubmissionState) -> bool
     ensures { λ r. ⌜ r ≡ awaitsDevice state ⌝ }
 {
@@ -256,6 +257,7 @@ pub fn ending_of(
     }
 }
 
+// The result of a completion that ends so, which carries no address.
 pub fn result_of(ending: Ending) -> TrbProcessingResult
     ensures { λ r. ⌜ r ≡ resultOf ending ⌝ }
 {
@@ -335,6 +337,7 @@ pub struct StageFound {
     pub addr: u64,
 }
 
+// Before a TRB was looked at: the event of a failed transfer goes to the Setup TRB.
 pub fn no_stage(setup_address: u64) -> StageFound
     ensures { λ r. ⌜ r ≡ noStage «setup_address» ⌝ }
 {

@@ -25,28 +25,28 @@ use Rattle.control_bytes.specs.Stores.{Headed, freshHead, Made}
 
 -- ---- A number says what it was made of
 
-phase-said : (p : ControlTransferState) → phaseOf (phaseNumber p) ≡ p
+pub phase-said : (p : ControlTransferState) → phaseOf (phaseNumber p) ≡ p
 phase-said ExpectSetupStageTrb = refl
 phase-said MaybeDataStageTrb = refl
 phase-said MoreData = refl
 phase-said ExpectStatusStageTrb = refl
 phase-said ExpectFinalEventDataTrb = refl
 
-state-said : (s : ControlSubmissionState) → stateOf (stateNumber s) (stateAddress s) ≡ s
+pub state-said : (s : ControlSubmissionState) → stateOf (stateNumber s) (stateAddress s) ≡ s
 state-said NoTrbSubmitted = refl
 state-said CollectingTd = refl
 state-said (ParserError a) = refl
 state-said (UnexpectedTrb a) = refl
 state-said AwaitingControlRequest = refl
 
-direction-said : (b : Bool) → directionOf (directionNumber b) ≡ b
+pub direction-said : (b : Bool) → directionOf (directionNumber b) ≡ b
 direction-said true = refl
 direction-said false = refl
 
 -- ---- The head from byte 4 on
 
 -- a number of the bytes that are stored
-field-stored : (b vs : List ℕ) (at k n : ℕ) → at + length vs ≤ length b → leField (at + k) n (patch b at vs) ≡ leField k n (vs ++ drop (at + length vs) b)
+pub field-stored : (b vs : List ℕ) (at k n : ℕ) → at + length vs ≤ length b → leField (at + k) n (patch b at vs) ≡ leField k n (vs ++ drop (at + length vs) b)
 field-stored b vs at k n fits = ap (λ (l : List ℕ). leNumber (take n l)) (sym (drop-drop k at (patch b at vs)) ∙ ap (drop k) (drop-patch b at vs (omega arith)))
 
 module _ (b : List ℕ) (w : ControlTransfer) (s : ControlSubmissionState) (held : ℕ) (long : headLength ≤ length b) (fit : Fit w s held) where

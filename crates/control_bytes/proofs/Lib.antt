@@ -1,3 +1,4 @@
 pub mod HeadLaws
 pub mod PlaceLaws
 pub mod FactLaws
+pub mod PartLaws

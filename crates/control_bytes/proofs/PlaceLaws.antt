@@ -11,7 +11,7 @@ use lib.ListN.{length, take, drop, getD, set, replicate, length-append, length-r
 use lib.Seq.{take-append-le, take-all, drop-at, drop-drop, getD-take, set-at}
 use borrow.Author.Tests.{le-leb}
 use Rattle.buffers.specs.Patch.{patch}
-use Rattle.buffers.specs.LittleEndian.{leBytes, leNumber}
+use Rattle.buffers.specs.LittleEndian.{leBytes, leNumber, leField}
 use Rattle.buffers.proofs.LittleEndianLaws.{leNumber-leBytes}
 use Rattle.buffers.proofs.PatchLaws.{length-patch, drop-patch, getD-patch-before}
 use Rattle.trb.proofs.TestLaws.{le-or-lt}
@@ -27,7 +27,7 @@ use Rattle.held_bytes.specs.declared.TrbNumbers.{TrbNumbers}
 use Rattle.held_bytes.specs.Numbers.{variantOf, trbOf}
 use Rattle.held_bytes.specs.Places.{placeLength, controlLayout, numbersAt, placeBytes}
 use Rattle.held_bytes.proofs.ByteLaws.{take-drop-take, take-drop-before, drop-behind}
-use Rattle.control_bytes.specs.Head.{releaseOf}
+use Rattle.control_bytes.specs.Head.{releaseOf, phaseOf, directionOf, transferAt}
 use Rattle.control_bytes.specs.Layout.{headLength, blockLength, heldType, placeOf, placesOf, heldPlaces, placesIn, blockOf}
 use Rattle.control_bytes.specs.Stores.{Placed}
 
@@ -226,6 +226,27 @@ module _ (b vs : List ℕ) (n : ℕ) (long : blockLength ≤ length b) (room : n
   kept-byte : (k : ℕ) → k < headLength → getD (patch b at vs) k 0 ≡ getD b k 0
   kept-byte k h = getD-patch-before b at vs place-fits k (omega arith)
 
+  kept-field : (k m : ℕ) → k + m ≤ headLength → leField k m (patch b at vs) ≡ leField k m b
+  kept-field k m h = ap leNumber (take-drop-before b at vs place-fits m k (omega arith))
+
+  kept-transfer : transferAt (patch b at vs) ≡ transferAt b
+  kept-transfer =
+      let phase = kept-byte 4 (omega arith) in
+      let direction = kept-byte 6 (omega arith) in
+      let address = kept-field 16 8 (omega arith) in
+      let kind = kept-byte 24 (omega arith) in
+      let code = kept-byte 25 (omega arith) in
+      let value = kept-field 26 2 (omega arith) in
+      let index = kept-field 28 2 (omega arith) in
+      let collected = kept-field 32 8 (omega arith) in
+      let asked = kept-field 40 4 (omega arith) in
+      λ j. record {
+        phase = phaseOf (phase j);
+        direction = directionOf (direction j);
+        request = record { address = address j; «request_type» = kind j; request = code j; value = value j; index = index j; length = asked j };
+        collected = collected j;
+      }
+
   pub placed : (t : TransferTrb) (b' : List ℕ) → b' ≡ patch b at vs → placeOf (vs ++ drop (at + length vs) b) ≡ t → Placed b n t b'
   unfolding blockOf
   placed t b' e said =
@@ -238,6 +259,7 @@ module _ (b vs : List ℕ) (n : ℕ) (long : blockLength ≤ length b) (room : n
         endpoint = λ j. record { 0 = cond (eqb (layout j) controlLayout) (endpoint j) 0 };
         slot = λ j. record { 0 = cond (eqb (layout j) controlLayout) (slot j) 0 };
         rule = λ j. releaseOf (rule j);
+        transfer = ap transferAt e ∙ kept-transfer;
         behind = ap (drop blockLength) e ∙ drop-behind b at vs place-fits blockLength (omega arith);
         long = ap (λ (l : List ℕ). length l) e ∙ length-patch b at vs place-fits;
       }

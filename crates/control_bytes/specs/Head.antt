@@ -96,6 +96,14 @@ headBytes w state held =
     headCells (phaseNumber (w .phase)) (stateNumber state) (directionNumber (w .direction)) (stateAddress state) (w .request .address) (w .request .«request_type»)
     (w .request .request) (w .request .value) (w .request .index) (w .collected) (w .request .length) held
 
+-- those from 4 to 15: where the transfer is
+abbrev pub turnCells : (phase state direction stateAddress : ℕ) → List ℕ
+turnCells phase state direction stateAddress = phase ∷ state ∷ direction ∷ 0 ∷ leBytes 8 stateAddress
+
+-- those from 32 to 47: how much was collected, is asked for and is held
+abbrev pub countCells : (collected length held : ℕ) → List ℕ
+countCells collected length held = leBytes 8 collected ++ (leBytes 4 length ++ leBytes 4 held)
+
 -- each number fits its bytes
 pub record Fit (w : ControlTransfer) (state : ControlSubmissionState) (held : ℕ) : Type 0 where
   pub state-address : stateAddress state < 256 ^ 8

@@ -22,9 +22,9 @@ ghost use Rattle.held_bytes.specs.Numbers.{trbOf};
 ghost use Rattle.held_bytes.specs.Places.{placeLength};
 ghost use Rattle.control_block.specs.Blocks.{transferOf};
 ghost use Rattle.control_block.specs.Facts.{factsOf};
-ghost use Rattle.control_bytes.specs.Head.{releaseOf, phaseOf, phaseNumber, stateOf, stateNumber, stateAddress, directionNumber, requestAt, headCells};
+ghost use Rattle.control_bytes.specs.Head.{releaseOf, phaseOf, phaseNumber, stateOf, stateNumber, stateAddress, directionNumber, requestAt, headCells, turnCells, countCells};
 ghost use Rattle.control_bytes.specs.Layout.{headLength, blockLength, heldType, placeOf, idAt, blockOf};
-ghost use Rattle.control_bytes.specs.Stores.{freshHead, Headed, Made, Placed};
+ghost use Rattle.control_bytes.specs.Stores.{turned, counting, freshHead, Headed, Made, Placed};
 
 // Bytes before the places.
 pub const HEAD: usize = 48;
@@ -34,6 +34,7 @@ pub const BLOCK: usize = HEAD + held_bytes::PLACE * trb::MAX_HELD;
 
 // ---- Numbers
 
+// The release rule by its number: 5 is release 5, any other release 4.
 pub fn release_of(number: u8) -> GuestRelease
     ensures { λ r. ⌜ r ≡ releaseOf number ⌝ }
 {
@@ -135,6 +136,7 @@ fn id_at(block: &[u8], at: usize) -> u8
     0
 }
 
+// The endpoint id of the block; 0 in another layout.
 pub fn endpoint_id(block: &[u8]) -> EndpointId
     requires { ⌜ headLength ≤ length (now block) ⌝ }
     ensures { λ r. ⌜ r ≡ blockOf (now (block .entry)) .«endpoint_id» ⌝ }
@@ -142,6 +144,7 @@ pub fn endpoint_id(block: &[u8]) -> EndpointId
     EndpointId(id_at(block, 1))
 }
 
+// The slot id of the block; 0 in another layout.
 pub fn slot_id(block: &[u8]) -> SlotId
     requires { ⌜ headLength ≤ length (now block) ⌝ }
     ensures { λ r. ⌜ r ≡ blockOf (now (block .entry)) .«slot_id» ⌝ }
@@ -149,6 +152,7 @@ pub fn slot_id(block: &[u8]) -> SlotId
     SlotId(id_at(block, 2))
 }
 
+// The release rule of the block.
 pub fn release(block: &[u8]) -> GuestRelease
     requires { ⌜ headLength ≤ length (now block) ⌝ }
     ensures { λ r. ⌜ r ≡ blockOf (now (block .entry)) .release ⌝ }
@@ -156,6 +160,7 @@ pub fn release(block: &[u8]) -> GuestRelease
     release_of(block[3])
 }
 
+// The state of the block.
 pub fn state(block: &[u8]) -> ControlSubmissionState
     requires { ⌜ headLength ≤ length (now block) ⌝ }
     ensures { λ r. ⌜ r ≡ blockOf (now (block .entry)) .state ⌝ }
@@ -249,21 +254,29 @@ fn held_type(kind: u8) -> u8
     7
 }
 
-// The TRB in a place that is held.
-pub fn trb_at(block: &[u8], i: usize) -> TransferTrb
+// The TRB in a place that is held, by numbers.
+pub fn numbers_at(block: &[u8], i: usize) -> TrbNumbers
     requires { ⌜ headLength + placeLength * (i + 1) ≤ length (now block) ⌝ }
-    ensures { λ r. ⌜ r ≡ placeOf (drop (headLength + placeLength * i) (now (block .entry))) ⌝ }
+    ensures { λ r. ⌜ trbOf r ≡ placeOf (drop (headLength + placeLength * i) (now (block .entry))) ⌝ }
 {
     let numbers = held_bytes::numbers_at(block, HEAD + held_bytes::PLACE * i);
     let kind = held_type(numbers.kind);
-    let held = TrbNumbers {
+    TrbNumbers {
         kind: kind,
         flags: numbers.flags,
         addr: numbers.addr,
         value: numbers.value,
         transfer_length: numbers.transfer_length,
-    };
-    held_bytes::trb_of(held)
+    }
+}
+
+// The TRB in a place that is held.
+pub fn trb_at(block: &[u8], i: usize) -> TransferTrb
+    requires { ⌜ headLength + placeLength * (i + 1) ≤ length (now block) ⌝ }
+    ensures { λ r. ⌜ r ≡ placeOf (drop (headLength + placeLength * i) (now (block .entry))) ⌝ }
+{
+    let numbers = numbers_at(block, i);
+    held_bytes::trb_of(numbers)
 }
 
 // ---- Storing
@@ -389,6 +402,98 @@ pub fn put_head(
         held as u32,
     );
     buffers::copy_into(block, 4, &cells);
+}
+
+// The bytes of the head from 4 to 15.
+fn turn_cells(phase: u8, state: u8, direction: u8, state_address: u64) -> [u8; 12]
+    ensures { λ r. ⌜ r ≡ turnCells phase state direction «state_address» ⌝ }
+{
+    let s1 = state_address / 256;
+    let s2 = s1 / 256;
+    let s3 = s2 / 256;
+    let s4 = s3 / 256;
+    let s5 = s4 / 256;
+    let s6 = s5 / 256;
+    let s7 = s6 / 256;
+    [
+        phase,
+        state,
+        direction,
+        0,
+        (state_address % 256) as u8,
+        (s1 % 256) as u8,
+        (s2 % 256) as u8,
+        (s3 % 256) as u8,
+        (s4 % 256) as u8,
+        (s5 % 256) as u8,
+        (s6 % 256) as u8,
+        (s7 % 256) as u8,
+    ]
+}
+
+// The block's transfer is at this phase and in this direction, and the endpoint at this; the request and what is counted stay.
+pub fn put_turn(
+    block: &mut [u8],
+    phase: ControlTransferState,
+    state: ControlSubmissionState,
+    direction: bool,
+)
+    requires { ⌜ headLength ≤ length (now block) ⌝ }
+    ensures { λ _. ⌜ Headed (now (block .entry)) (turned phase direction (transferOf (blockOf (now (block .entry))))) state (blockOf (now (block .entry)) .held) (now (block .exit)) ⌝ }
+{
+    let cells = turn_cells(
+        phase_number(phase),
+        state_number(state),
+        direction_number(direction),
+        state_address(state),
+    );
+    buffers::copy_into(block, 4, &cells);
+}
+
+// The bytes of the head from 32 to 47.
+fn count_cells(collected: u64, request_length: u32, held: u32) -> [u8; 16]
+    ensures { λ r. ⌜ r ≡ countCells collected «request_length» held ⌝ }
+{
+    let c1 = collected / 256;
+    let c2 = c1 / 256;
+    let c3 = c2 / 256;
+    let c4 = c3 / 256;
+    let c5 = c4 / 256;
+    let c6 = c5 / 256;
+    let c7 = c6 / 256;
+    let n1 = request_length / 256;
+    let n2 = n1 / 256;
+    let n3 = n2 / 256;
+    let h1 = held / 256;
+    let h2 = h1 / 256;
+    let h3 = h2 / 256;
+    [
+        (collected % 256) as u8,
+        (c1 % 256) as u8,
+        (c2 % 256) as u8,
+        (c3 % 256) as u8,
+        (c4 % 256) as u8,
+        (c5 % 256) as u8,
+        (c6 % 256) as u8,
+        (c7 % 256) as u8,
+        (request_length % 256) as u8,
+        (n1 % 256) as u8,
+        (n2 % 256) as u8,
+        (n3 % 256) as u8,
+        (held % 256) as u8,
+        (h1 % 256) as u8,
+        (h2 % 256) as u8,
+        (h3 % 256) as u8,
+    ]
+}
+
+// So many bytes are collected, so many asked for, and the first `held` places held; what else the head says stays.
+pub fn put_counts(block: &mut [u8], collected: usize, request_length: u32, held: usize)
+    requires { ⌜ (headLength ≤ length (now block)) × (held < 2 ^ 32) ⌝ }
+    ensures { λ _. ⌜ Headed (now (block .entry)) (counting collected «request_length» (transferOf (blockOf (now (block .entry))))) (blockOf (now (block .entry)) .state) held (now (block .exit)) ⌝ }
+{
+    let cells = count_cells(collected as u64, request_length, held as u32);
+    buffers::copy_into(block, 32, &cells);
 }
 
 // The bytes of a fresh block's head.

@@ -93,6 +93,7 @@ fn answered(
     }
 }
 
+// Creates a control endpoint and prints the answer.
 pub fn create(
     text: &mut [u8],
     at: usize,

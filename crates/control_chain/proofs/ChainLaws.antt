@@ -17,7 +17,7 @@ use Rattle.td_part.specs.Parts.{Within, ofNormal, ofDataStage, edtlaAfter, real
 use Rattle.td_part.proofs.PartLaws.{Kept, kept-silent, kept-report, kept-eventData, kept-realized}
 use Rattle.walks.proofs.WalkLaws.{Walker}
 use Rattle.control_chain.specs.declared.ControlTd.{ControlTd}
-use Rattle.control_chain.specs.Chain.{edtlaZeroed, moveOut, moveData, realizeStage, realizeDataStage, normalIn, realizeNormal, trbIn, realizeTrb, never}
+use Rattle.control_chain.specs.Chain.{edtlaZeroed, moveOut, moveData, realizeStage, realizeDataStage, normalByState, realizeNormal, trbByKind, realizeTrb, never}
 
 -- ---- Cases
 
@@ -26,14 +26,14 @@ pub move-by : (td : ControlTd) (w : TdProgress) (d : TrbDmaInfo) {b : Bool} → 
 move-by td w d e = ap (λ (b : Bool). cond b (realizeDma (td .info) w d) (moveOut (td .info) w d)) e
 
 pub normal-in-state : (td : ControlTd) (w : TdProgress) (t : NormalTrb) (a : ℕ) {s : TdProcessingState} → w .state ≡ s
-    → realizeNormal td w t a ≡ normalIn s td w t a
+    → realizeNormal td w t a ≡ normalByState s td w t a
 unfolding realizeNormal
-normal-in-state td w t a e = ap (λ (s : TdProcessingState). normalIn s td w t a) e
+normal-in-state td w t a e = ap (λ (s : TdProcessingState). normalByState s td w t a) e
 
 pub trb-by : (td : ControlTd) (w : TdProgress) (t : TransferTrb) {x : TransferTrbVariant} → t .variant ≡ x
-    → realizeTrb td w t ≡ trbIn x td w (t .addr)
+    → realizeTrb td w t ≡ trbByKind x td w (t .addr)
 unfolding realizeTrb
-trb-by td w t e = ap (λ (x : TransferTrbVariant). trbIn x td w (t .addr)) e
+trb-by td w t e = ap (λ (x : TransferTrbVariant). trbByKind x td w (t .addr)) e
 
 -- ---- Each step keeps within the device's data, logs at most two records, and counts them
 
@@ -43,7 +43,7 @@ module _ (td : ControlTd) (w : TdProgress) (g : Within (td .info) w) where
   kept-move true d = kept-realized (td .info) w g d
   kept-move false d = kept-report (td .info) w g (edtlaAfter (w .edtla) (d .«transfer_length»)) (d .«interrupt_on_completion») (d .addr) 0 Success
 
-  kept-normal : (s : TdProcessingState) (t : NormalTrb) (a : ℕ) → Kept (td .info) w (normalIn s td w t a)
+  kept-normal : (s : TdProcessingState) (t : NormalTrb) (a : ℕ) → Kept (td .info) w (normalByState s td w t a)
   kept-normal Default t a = kept-move (td .input) (ofNormal t a)
   kept-normal (ShortTransfer missing) t a = kept-report (td .info) w g (w .edtla) (t .«interrupt_on_completion») a missing ShortPacket
 
@@ -54,7 +54,7 @@ module _ (td : ControlTd) (w : TdProgress) (g : Within (td .info) w) where
   kept-stage : (due : Bool) (a : ℕ) → Kept (td .info) w (realizeStage (td .info) w due a)
   kept-stage due a = kept-report (td .info) w g 0 due a 0 Success
 
-  kept-by : (x : TransferTrbVariant) (a : ℕ) → Kept (td .info) w (trbIn x td w a)
+  kept-by : (x : TransferTrbVariant) (a : ℕ) → Kept (td .info) w (trbByKind x td w a)
   unfolding realizeDataStage realizeNormal
   kept-by (SetupStage t) a = kept-stage (t .«interrupt_on_completion») a
   kept-by (DataStage t) a = kept-zeroed (td .info) w (kept-move td (edtlaZeroed w) (record { within = g .within }) (td .input) (ofDataStage t a))

@@ -36,30 +36,30 @@ abbrev pub realizeStage : TdInfo → TdProgress → Bool → ℕ → Out TdProgr
 realizeStage td w ioc a = reportSuccess td w 0 ioc a
 
 -- a Normal moves its bytes, until one is short
-abbrev pub normalIn : TdProcessingState → ControlTd → TdProgress → NormalTrb → ℕ → Out TdProgress
-normalIn Default td w t a = moveData td w (ofNormal t a)
-normalIn (ShortTransfer missing) td w t a = repeatShort (td .info) w missing (t .«interrupt_on_completion») a
+abbrev pub normalByState : TdProcessingState → ControlTd → TdProgress → NormalTrb → ℕ → Out TdProgress
+normalByState Default td w t a = moveData td w (ofNormal t a)
+normalByState (ShortTransfer missing) td w t a = repeatShort (td .info) w missing (t .«interrupt_on_completion») a
 
 -- a DataStage writes min(its length, bytes left) even after a short TRB and, if short itself, gives the residual that later Normals repeat
 unfoldable pub realizeDataStage : ControlTd → TdProgress → DataStageTrb → ℕ → Out TdProgress
 realizeDataStage td w t a = moveData td (edtlaZeroed w) (ofDataStage t a)
 
 unfoldable pub realizeNormal : ControlTd → TdProgress → NormalTrb → ℕ → Out TdProgress
-realizeNormal td w t a = normalIn (w .state) td w t a
+realizeNormal td w t a = normalByState (w .state) td w t a
 
 -- what a TRB does, by its kind. The last three are never held by a sound block: they do nothing
-abbrev pub trbIn : TransferTrbVariant → ControlTd → TdProgress → ℕ → Out TdProgress
-trbIn (SetupStage t) td w a = realizeStage (td .info) w (t .«interrupt_on_completion») a
-trbIn (DataStage t) td w a = realizeDataStage td w t a
-trbIn (StatusStage t) td w a = realizeStage (td .info) w (t .«interrupt_on_completion») a
-trbIn (Normal t) td w a = realizeNormal td w t a
-trbIn (EventData t) td w a = handleEventData (td .info) w t
-trbIn (NoOp t) td w a = silent w
-trbIn Isoch td w a = silent w
-trbIn Unrecognized td w a = silent w
+abbrev pub trbByKind : TransferTrbVariant → ControlTd → TdProgress → ℕ → Out TdProgress
+trbByKind (SetupStage t) td w a = realizeStage (td .info) w (t .«interrupt_on_completion») a
+trbByKind (DataStage t) td w a = realizeDataStage td w t a
+trbByKind (StatusStage t) td w a = realizeStage (td .info) w (t .«interrupt_on_completion») a
+trbByKind (Normal t) td w a = realizeNormal td w t a
+trbByKind (EventData t) td w a = handleEventData (td .info) w t
+trbByKind (NoOp t) td w a = silent w
+trbByKind Isoch td w a = silent w
+trbByKind Unrecognized td w a = silent w
 
 unfoldable pub realizeTrb : ControlTd → TdProgress → TransferTrb → Out TdProgress
-realizeTrb td w t = trbIn (t .variant) td w (t .addr)
+realizeTrb td w t = trbByKind (t .variant) td w (t .addr)
 
 -- nothing ends the walk
 abbrev pub never : TdProgress → Bool

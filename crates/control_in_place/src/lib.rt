@@ -2,6 +2,7 @@
 // `ControlEndpointHandle`. A HAL in C or Rust calls these, through the exported functions of `polvihe`: numbers and lent bytes alone.
 use answer_numbers::Answered;
 use answer_numbers::CompletionAnswered;
+use control_transfer::TrbData;
 use guest_memory::Regions;
 use held_bytes::TrbNumbers;
 use phase_table::Outcome;
@@ -19,8 +20,9 @@ ghost use lib.ListN.{length};
 ghost use Rattle.trb.specs.Answers.{numberOf};
 ghost use Rattle.trb.specs.Questions.{firstNo};
 ghost use Rattle.guest_memory.specs.Places.{memoryOf};
-ghost use Rattle.held_bytes.specs.Numbers.{trbOf};
+ghost use Rattle.held_bytes.specs.Numbers.{trbNumbers, trbOf};
 ghost use Rattle.control_block.specs.Facts.{factsOf};
+ghost use Rattle.control_transfer.specs.Data.{dataOf};
 ghost use Rattle.control_questions.specs.Completion.{completionQuestions};
 ghost use Rattle.control_bytes.specs.Head.{releaseOf};
 ghost use Rattle.control_bytes.specs.Layout.{blockLength, blockOf};
@@ -33,27 +35,27 @@ struct AskedSubmission {
     outcome: Outcome,
 }
 
-// Questions 1, 13, 2 to 4, 21 and 5 to 7, of the block that the bytes are.
+// Questions 1, 13, 2 to 4, 21 and 5 to 7, of the block that the bytes are and a TRB, given by numbers, that moves this data.
 fn ask_submission(
     log_length: usize,
     collect_length: usize,
     block: &[u8],
-    t: TransferTrb,
+    numbers: TrbNumbers,
+    data: TrbData,
     regions: Regions,
 ) -> AskedSubmission
-    requires { ⌜ blockLength ≤ length (now block) ⌝ }
-    ensures { λ r. ⌜ Asked «log_length» «collect_length» (now (block .entry)) t regions r ⌝ }
+    requires { ⌜ (blockLength ≤ length (now block)) × («data» ≡ dataOf (trbOf numbers .variant)) ⌝ }
+    ensures { λ r. ⌜ Asked «log_length» «collect_length» (now (block .entry)) (trbOf numbers) regions r ⌝ }
 {
     let facts = control_bytes::facts(block);
     let phase = facts.phase;
-    let variant = t.variant;
-    let outcome = phase_table::trb_outcome(phase, variant);
-    let answer = control_questions::ask_submission(
+    let outcome = control_numbers::outcome_of(phase, numbers.kind, numbers.flags);
+    let answer = control_numbers::ask_submission(
         log_length,
         collect_length,
         facts,
         outcome,
-        t,
+        data,
         regions,
     );
     AskedSubmission {
@@ -62,38 +64,38 @@ fn ask_submission(
     }
 }
 
-// What a TRB that no question refuses, given decoded and by numbers, logs, collects and stores; returns how many records were logged.
+// What a TRB that no question refuses, given by numbers, that moves this data, logs, collects and stores; returns how many records were
+// logged.
 fn accept_trb<'a>(
     log: &mut [u8],
     collect: &mut [u8],
     block: &mut [u8],
     outcome: Outcome,
-    t: TransferTrb,
+    data: TrbData,
     numbers: TrbNumbers,
     low_base: u64,
     low: &'a [u8],
     high_base: u64,
     high: &'a [u8],
 ) -> usize
-    requires { ⌜ t ≡ trbOf numbers ⌝ }
+    requires { ⌜ «data» ≡ dataOf (trbOf numbers .variant) ⌝ }
     requires { ⌜ Acceptable (now log) (now collect) (now block) (trbOf numbers) (memoryOf «low_base» (now low) «high_base» (now high)) outcome ⌝ }
     ensures { λ r. ⌜ Accepts (now (log .entry)) (now (collect .entry)) (now (block .entry)) (trbOf numbers) (memoryOf «low_base» (now (low .entry)) «high_base» (now (high .entry))) outcome r (now (log .exit)) (now (collect .exit)) (now (block .exit)) ⌝ }
 {
-    let variant = t.variant;
     let transfer = control_bytes::transfer(block);
     let records = control_places::log_submission(log, block, outcome);
-    control_transfer::collect_trb(
+    control_numbers::collect_data(
         collect,
         outcome,
         transfer.direction,
         transfer.collected,
-        variant,
+        data,
         low_base,
         low,
         high_base,
         high,
     );
-    control_stores::take_trb(block, outcome, t, numbers);
+    control_stores::take_trb(block, outcome, data, numbers);
     records
 }
 
@@ -116,9 +118,14 @@ fn submit<'a>(
     requires { ⌜ blockLength ≤ length (now block) ⌝ }
     ensures { λ r. ⌜ SubmitsAsByValue (now (block .entry)) (trbOf numbers) (memoryOf «low_base» (now (low .entry)) «high_base» (now (high .entry))) (now (log .entry)) (now (collect .entry)) r (now (log .exit)) (now (collect .exit)) (now (block .exit)) ⌝ }
 {
-    let t = held_bytes::trb_of(numbers);
+    let data = control_numbers::data_of(
+        numbers.kind,
+        numbers.flags,
+        numbers.value,
+        numbers.transfer_length,
+    );
     let regions = guest_memory::guest_regions(low_base, low.len(), high_base, high.len());
-    let asked = ask_submission(log.len(), collect.len(), block, t, regions);
+    let asked = ask_submission(log.len(), collect.len(), block, numbers, data, regions);
     let answer = asked.answer;
     let outcome = asked.outcome;
     match answer {
@@ -132,7 +139,7 @@ fn submit<'a>(
                 collect,
                 block,
                 outcome,
-                t,
+                data,
                 numbers,
                 low_base,
                 low,
@@ -145,6 +152,38 @@ fn submit<'a>(
             }
         }
     }
+}
+
+// Of any row of bytes, and a TRB that is given by these numbers. Both submissions call it: what is not inlined takes plain numbers.
+fn submit_numbers<'a>(
+    log: &mut [u8],
+    collect: &mut [u8],
+    block: &mut [u8],
+    kind: u8,
+    flags: u8,
+    addr: u64,
+    value: u64,
+    transfer_length: u32,
+    low_base: u64,
+    low: &'a [u8],
+    high_base: u64,
+    high: &'a [u8],
+) -> Answered
+    ensures { λ r. ⌜ SubmitsInPlace (lentLog (now (log .entry)) (now (block .entry))) (trbOf (trbNumbers kind flags addr value «transfer_length»)) (memoryOf «low_base» (now (low .entry)) «high_base» (now (high .entry))) (now (log .entry)) (now (collect .entry)) (now (block .entry)) r (now (log .exit)) (now (collect .exit)) (now (block .exit)) ⌝ }
+{
+    if block.len() < control_bytes::BLOCK {
+        return answer_numbers::answered_as(Answer::Refused(Refusal::BufferTooShort), 0);
+    }
+    let numbers = TrbNumbers {
+        kind: kind,
+        flags: flags,
+        addr: addr,
+        value: value,
+        transfer_length: transfer_length,
+    };
+    let submitted = submit(log, collect, block, numbers, low_base, low, high_base, high);
+    let answer = submitted.answer;
+    answer_numbers::answered_as(answer, submitted.records)
 }
 
 // Takes a TRB, given by numbers; ports `submit_trb`. Guest memory is `low`'s bytes at `low_base` and `high`'s at `high_base`.
@@ -160,12 +199,20 @@ pub fn submit_trb<'a>(
 ) -> Answered
     ensures { λ r. ⌜ SubmitsInPlace (lentLog (now (log .entry)) (now (block .entry))) (trbOf numbers) (memoryOf «low_base» (now (low .entry)) «high_base» (now (high .entry))) (now (log .entry)) (now (collect .entry)) (now (block .entry)) r (now (log .exit)) (now (collect .exit)) (now (block .exit)) ⌝ }
 {
-    if block.len() < control_bytes::BLOCK {
-        return answer_numbers::answered_as(Answer::Refused(Refusal::BufferTooShort), 0);
-    }
-    let submitted = submit(log, collect, block, numbers, low_base, low, high_base, high);
-    let answer = submitted.answer;
-    answer_numbers::answered_as(answer, submitted.records)
+    submit_numbers(
+        log,
+        collect,
+        block,
+        numbers.kind,
+        numbers.flags,
+        numbers.addr,
+        numbers.value,
+        numbers.transfer_length,
+        low_base,
+        low,
+        high_base,
+        high,
+    )
 }
 
 // Takes a TRB, given by its 16 bytes in the ring.
@@ -190,7 +237,20 @@ pub fn submit_raw<'a>(
         cycle_bit: decoded.cycle_bit,
     };
     let numbers = held_bytes::numbers_of(t);
-    submit_trb(log, collect, block, numbers, low_base, low, high_base, high)
+    submit_numbers(
+        log,
+        collect,
+        block,
+        numbers.kind,
+        numbers.flags,
+        numbers.addr,
+        numbers.value,
+        numbers.transfer_length,
+        low_base,
+        low,
+        high_base,
+        high,
+    )
 }
 
 // ---- Completion

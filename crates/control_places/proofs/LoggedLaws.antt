@@ -1,7 +1,8 @@
 -- What a submission and a completion log, by the walk over the TRBs held and the record behind it. Assumes nothing.
 use Prim.Native.Nat.{ℕ, _+_, _*_, _≤_}
 use mathlib.Core.Path.{_≡_, refl, sym, ap, _∙_, subst}
-use mathlib.Core.List.{List, _++_}
+use mathlib.Core.Bool.{Bool, true, false, not, cond}
+use mathlib.Core.List.{List, [], _++_}
 use native.Mathlib.Nat.{zero-add}
 use native.Mathlib.Omega.{arith}
 use lib.ListN.{length, take, length-append}
@@ -12,28 +13,31 @@ use Rattle.trb.specs.declared.TransferTrb.{TransferTrb}
 use Rattle.trb.specs.declared.UsbRequest.{UsbRequest}
 use Rattle.log.specs.declared.Record.{Record}
 use Rattle.log.specs.Calls.{Put, Meets, counted}
-use Rattle.log.proofs.CallLaws.{meets}
+use Rattle.log.specs.Records.{controlRequest, when}
+use Rattle.log.proofs.CallLaws.{meets, meets-silent}
 use Rattle.td_part.specs.declared.TdInfo.{TdInfo}
 use Rattle.td_part.specs.declared.TdProgress.{TdProgress}
 use Rattle.td_part.specs.Parts.{atStart}
 use Rattle.walks.specs.Walk.{walk}
 use Rattle.walks.proofs.WalkLaws.{walk-counts}
 use Rattle.phase_table.specs.declared.Outcome.{Outcome}
-use Rattle.phase_table.specs.Outcomes.{restarts}
+use Rattle.phase_table.specs.Outcomes.{restarts, requests}
 use Rattle.control_block.specs.declared.ControlBlock.{ControlBlock}
 use Rattle.control_block.specs.declared.Ending.{Ending}
 use Rattle.control_block.specs.declared.Ending.the-variants.{KeepCollecting, ReportBadTrb, Fail, Realize}
+use Rattle.control_block.specs.Blocks.{heldOf}
 use Rattle.control_block.specs.Endings.{placesFreed}
 use Rattle.control_block.specs.Stages.{errorAddress}
 use Rattle.control_chain.specs.Chain.{never}
-use Rattle.control_chain.specs.Endings.{infoOf, nextTrb, lastRecords}
+use Rattle.control_chain.specs.Dropped.{successes}
+use Rattle.control_chain.specs.Endings.{infoOf, nextTrb, lastRecords, endingRecords}
 use Rattle.control_chain.proofs.EndingLaws.{endingWalker, put-behind}
 use Rattle.control_transfer.specs.Transfers.{requestsOf}
 use Rattle.control_endpoint.specs.Submission.{placesDropped, recordsOf}
 use Rattle.control_endpoint.proofs.CompletionLaws.{walk-endingRecords, length-freed}
 use Rattle.control_endpoint.proofs.SubmissionLaws.{walk-recordsOf, length-dropped}
 use Rattle.control_endpoint.proofs.SubmissionLaws as submission
-use Rattle.control_places.specs.Events.{EventAt, completionRecords}
+use Rattle.control_places.specs.Events.{isSilent, isCollecting, EventAt, completionRecords}
 
 -- ---- Records behind those of a walk
 
@@ -55,6 +59,17 @@ module _ (x : Ending) (td : TdInfo) (ts : List TransferTrb) (l l' : List ℕ) (w
 
 -- ---- Submission
 
+-- nothing to log
+pub silent-submission : (o : Outcome) (b : ControlBlock) (l : List ℕ) → isSilent o ≡ true → Meets (counted 0 (recordsOf o b)) 0 l 0 l
+unfolding recordsOf
+silent-submission o b l quiet = meets (ap (counted 0) (by (restarts o) (requests o) quiet)) (meets-silent 0 l refl)
+  where
+    by : (restart request : Bool) → cond restart false (not request) ≡ true
+        → cond restart (successes (b .«endpoint_id») (b .«slot_id») (heldOf b)) [] ++ when request (controlRequest (b .request) (b .«endpoint_id») (b .«slot_id»)) ≡ []
+    by true request e = let z : _≡_ {A = ℕ} 0 1 = cc in absurd (omega arith)
+    by false true e = let z : _≡_ {A = ℕ} 0 1 = cc in absurd (omega arith)
+    by false false e = refl
+
 module _ (b : ControlBlock) (o : Outcome) (td : TdInfo) (d : ℕ) (l l' : List ℕ) (w : TdProgress) (few : b .held ≤ maxHeld) (long : minLog ≤ length l)
     (own : td ≡ submission.infoOf b) (drops : d ≡ placesDropped (restarts o) (b .held)) (m : Meets (walk (nextTrb (ReportBadTrb 0) td) never atStart (take d (b .trbs))) 0 l w l') where
   own-walk : Meets (walk (nextTrb (ReportBadTrb 0) (submission.infoOf b)) never atStart (take d (b .trbs))) 0 l w l'
@@ -73,6 +88,13 @@ module _ (b : ControlBlock) (o : Outcome) (td : TdInfo) (d : ℕ) (l l' : List �
       (meets (ap (counted (w .records)) (sym same)) n))
 
 -- ---- Completion
+
+pub silent-completion : (x : Ending) (b : ControlBlock) (l : List ℕ) → isCollecting x ≡ true → Meets (counted 0 (completionRecords x b)) 0 l 0 l
+unfolding endingRecords
+silent-completion KeepCollecting b l e = meets-silent 0 l refl
+silent-completion (ReportBadTrb a) b l e = let z : _≡_ {A = ℕ} 0 1 = cc in absurd (omega arith)
+silent-completion (Fail c r) b l e = let z : _≡_ {A = ℕ} 0 1 = cc in absurd (omega arith)
+silent-completion (Realize input n) b l e = let z : _≡_ {A = ℕ} 0 1 = cc in absurd (omega arith)
 
 -- how many records there are behind the walk depends on the ending alone
 pub length-last : (x : Ending) (a a' : ℕ) (e e' : EndpointId) (s s' : SlotId) → length (lastRecords x a e s) ≡ length (lastRecords x a' e' s')

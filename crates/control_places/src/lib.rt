@@ -18,7 +18,7 @@ ghost use Rattle.control_chain.specs.Chain.{never};
 ghost use Rattle.control_chain.specs.Endings.{nextTrb};
 ghost use Rattle.control_endpoint.specs.Submission.{placesDropped, recordsOf};
 ghost use Rattle.control_bytes.specs.Layout.{blockLength, blockOf};
-ghost use Rattle.control_places.specs.Events.{EventAt, completionRecords};
+ghost use Rattle.control_places.specs.Events.{isSilent, isCollecting, EventAt, completionRecords};
 
 // Each of the first `count` TRBs held has its turn, as a completion that ends so gives it.
 fn end_held(log: &mut [u8], block: &[u8], count: usize, ending: Ending, info: TdInfo) -> TdProgress
@@ -28,8 +28,8 @@ fn end_held(log: &mut [u8], block: &[u8], count: usize, ending: Ending, info: Td
     let mut progress = td_part::at_start_of_td();
     let mut j = 0;
     while j < count {
-        let t = control_bytes::trb_at(block, j);
-        progress = control_turn::next_trb(log, ending, info, progress, t);
+        let numbers = control_bytes::numbers_at(block, j);
+        progress = control_turn_numbers::next_trb(log, ending, info, progress, numbers);
         j += 1;
     }
     progress
@@ -44,8 +44,18 @@ pub fn places_dropped(restarts: bool, held: usize) -> usize
     if restarts { held } else { 0 }
 }
 
+// Is there nothing to log of a TRB of this outcome?
+fn is_silent(outcome: Outcome) -> bool
+    ensures { λ r. ⌜ r ≡ isSilent outcome ⌝ }
+{
+    if phase_table::is_restart(outcome) {
+        return false;
+    }
+    !phase_table::is_request(outcome)
+}
+
 // Logs what a TRB of this outcome logs (TRBs that are dropped are reported as before a bad TRB), and returns how many records there are.
-pub fn log_submission(log: &mut [u8], block: &[u8], outcome: Outcome) -> usize
+fn log_outcome(log: &mut [u8], block: &[u8], outcome: Outcome) -> usize
     requires { ⌜ (blockLength ≤ length (now block)) × ((minLog ≤ length (now log)) × (blockOf (now block) .held ≤ maxHeld)) ⌝ }
     ensures { λ r. ⌜ Meets (counted 0 (recordsOf outcome (blockOf (now (block .entry))))) 0 (now (log .entry)) r (now (log .exit)) ⌝ }
 {
@@ -69,6 +79,17 @@ pub fn log_submission(log: &mut [u8], block: &[u8], outcome: Outcome) -> usize
         endpoint_id,
         slot_id,
     )
+}
+
+// The same; of most TRBs there is nothing to log.
+pub fn log_submission(log: &mut [u8], block: &[u8], outcome: Outcome) -> usize
+    requires { ⌜ (blockLength ≤ length (now block)) × ((minLog ≤ length (now log)) × (blockOf (now block) .held ≤ maxHeld)) ⌝ }
+    ensures { λ r. ⌜ Meets (counted 0 (recordsOf outcome (blockOf (now (block .entry))))) 0 (now (log .entry)) r (now (log .exit)) ⌝ }
+{
+    if is_silent(outcome) {
+        return 0;
+    }
+    log_outcome(log, block, outcome)
 }
 
 // ---- Completion
@@ -116,8 +137,20 @@ fn event_address(block: &[u8], ending: Ending) -> u64
     }
 }
 
+// Does the completion keep collecting?
+fn is_collecting(ending: Ending) -> bool
+    ensures { λ r. ⌜ r ≡ isCollecting ending ⌝ }
+{
+    match ending {
+        Ending::KeepCollecting => true,
+        Ending::ReportBadTrb(_) => false,
+        Ending::Fail(_, _) => false,
+        Ending::Realize(_, _) => false,
+    }
+}
+
 // Logs what a completion that ends so logs, and returns how many records there are.
-pub fn log_completion(log: &mut [u8], block: &[u8], ending: Ending) -> usize
+fn log_ended(log: &mut [u8], block: &[u8], ending: Ending) -> usize
     requires { ⌜ (blockLength ≤ length (now block)) × ((minLog ≤ length (now log)) × (blockOf (now block) .held ≤ maxHeld)) ⌝ }
     ensures { λ r. ⌜ Meets (counted 0 (completionRecords ending (blockOf (now (block .entry))))) 0 (now (log .entry)) r (now (log .exit)) ⌝ }
 {
@@ -129,4 +162,15 @@ pub fn log_completion(log: &mut [u8], block: &[u8], ending: Ending) -> usize
     let progress = end_held(log, block, freed, ending, info);
     let address = event_address(block, ending);
     control_ending::log_ending(log, progress.records, ending, address, endpoint_id, slot_id)
+}
+
+// The same; a completion that keeps collecting logs nothing.
+pub fn log_completion(log: &mut [u8], block: &[u8], ending: Ending) -> usize
+    requires { ⌜ (blockLength ≤ length (now block)) × ((minLog ≤ length (now log)) × (blockOf (now block) .held ≤ maxHeld)) ⌝ }
+    ensures { λ r. ⌜ Meets (counted 0 (completionRecords ending (blockOf (now (block .entry))))) 0 (now (log .entry)) r (now (log .exit)) ⌝ }
+{
+    if is_collecting(ending) {
+        return 0;
+    }
+    log_ended(log, block, ending)
 }

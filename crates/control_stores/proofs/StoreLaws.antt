@@ -1,6 +1,6 @@
 -- The block that the bytes become, by what is stored. Assumes nothing.
 use Prim.Native.Nat.{ℕ, _+_, _*_, _-_, _≤_}
-use mathlib.Core.Path.{_≡_, refl, sym, ap, _∙_}
+use mathlib.Core.Path.{_≡_, refl, sym, ap, _∙_, subst}
 use mathlib.Core.Bool.{Bool, true, false, cond}
 use mathlib.Core.List.{List}
 use native.Mathlib.Omega.{arith}
@@ -10,6 +10,7 @@ use Rattle.trb.specs.Limits.{maxHeld}
 use Rattle.trb.specs.declared.Answer.the-variants.{Accepted}
 use Rattle.trb.specs.declared.ControlSubmissionState.{ControlSubmissionState}
 use Rattle.trb.specs.declared.ControlSubmissionState.the-variants.{NoTrbSubmitted}
+use Rattle.trb.specs.declared.ControlTransferState.{ControlTransferState}
 use Rattle.trb.specs.declared.TransferTrb.{TransferTrb}
 use Rattle.held.specs.Places.{cleared}
 use Rattle.held.proofs.PlaceLaws.{blanked-none, cleared-blanked}
@@ -25,7 +26,8 @@ use Rattle.control_block.specs.Blocks.{transferOf, atPhase, changed}
 use Rattle.control_block.specs.Endings.{resultOf, placesFreed, phaseBehind}
 use Rattle.control_transfer.specs.Transfers.{transferAfter}
 use Rattle.control_bytes.specs.Layout.{headLength, blockLength, placesIn, heldAt, blockOf}
-use Rattle.control_bytes.specs.Stores.{Headed, Placed}
+use Rattle.control_bytes.specs.Stores.{turned, counting, Headed, Placed}
+use Rattle.control_bytes.proofs.PartLaws.{headed-then}
 use Rattle.control_bytes.proofs.PlaceLaws.{cleared-placesIn}
 use Rattle.control_endpoint.specs.Completion as completes
 use Rattle.control_endpoint.specs.Completion.{blockBehind}
@@ -67,6 +69,22 @@ behind-block : (b b' : List ℕ) → drop headLength b' ≡ drop headLength b �
 behind-block b b' e =
     sym (drop-drop (placeLength * maxHeld) headLength b') ∙ ap (drop (placeLength * maxHeld)) e ∙ drop-drop (placeLength * maxHeld) headLength b
 
+-- ---- Two parts of the head
+
+-- where the transfer is, then what is counted
+pub progress-stored : (b b' b'' : List ℕ) (phase : ControlTransferState) (state : ControlSubmissionState) (input : Bool) (collected asked held : ℕ)
+    → Headed b (turned phase input (transferOf (blockOf b))) state (blockOf b .held) b' → Headed b' (counting collected asked (transferOf (blockOf b'))) (blockOf b' .state) held b''
+    → Headed b (counting collected asked (turned phase input (transferOf (blockOf b)))) state held b''
+progress-stored b b' b'' phase state input collected asked held first second =
+    let at : transferOf (blockOf b') ≡ turned phase input (transferOf (blockOf b)) = ap transferOf (first .block) in
+    let now : blockOf b' .state ≡ state = ap (λ (x : ControlBlock). x .state) (first .block) in
+    headed-then b b' b'' _ _ _ _ _ _ first
+    (subst (λ (w : ControlTransfer). Headed b' (counting collected asked w) state held b'') at
+    (subst (λ (s : ControlSubmissionState). Headed b' (counting collected asked (transferOf (blockOf b'))) s held b'') now second))
+
+pub headed-as : (b : List ℕ) (w w' : ControlTransfer) (s s' : ControlSubmissionState) (held : ℕ) (b' : List ℕ) → w ≡ w' → s ≡ s' → Headed b w s held b' → Headed b w' s' held b'
+headed-as b w w' s s' held b' at now h = subst (λ (v : ControlTransfer). Headed b v s' held b') at (subst (λ (x : ControlSubmissionState). Headed b w x held b') now h)
+
 -- ---- Completion
 
 module _ (b b' : List ℕ) (x : Ending) (w : ControlTransfer) (n freed : ℕ) where
@@ -94,12 +112,13 @@ held-stored b o t n b' hold p = record {
   endpoint = p .endpoint;
   slot = p .slot;
   rule = p .rule;
+  transfer = p .transfer;
   behind = p .behind;
   long = p .long;
 }
 
 pub held-kept : (b : List ℕ) (o : Outcome) (t : TransferTrb) (n : ℕ) → holds o ≡ false → Held b o t n n b
-held-kept b o t n hold = record { held = rw hold; places = rw hold; endpoint = refl; slot = refl; rule = refl; behind = refl; long = refl }
+held-kept b o t n hold = record { held = rw hold; places = rw hold; endpoint = refl; slot = refl; rule = refl; transfer = refl; behind = refl; long = refl }
 
 -- at most one more
 pub next-few : (v : Bool) (n r : ℕ) → r ≡ cond v (n + 1) n → r ≤ n + 1

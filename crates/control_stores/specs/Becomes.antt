@@ -12,6 +12,7 @@ use Rattle.held.specs.declared.EndpointKind.the-variants.{Control}
 use Rattle.phase_table.specs.declared.Outcome.{Outcome}
 use Rattle.phase_table.specs.Outcomes.{holds}
 use Rattle.control_block.specs.declared.ControlBlock.{ControlBlock}
+use Rattle.control_block.specs.Blocks.{transferOf}
 use Rattle.control_bytes.specs.Layout.{headLength, blockLength, placesIn, blockOf}
 
 -- the bytes became those of the block x, and no byte behind the block changed
@@ -26,12 +27,13 @@ pub record Holdable (n : ℕ) (t : TransferTrb) : Type 0 where
   pub kind : supported Control (t .variant) ≡ true
   pub short : transferLength (t .variant) ≤ maxTransferLength
 
--- the TRB t is held behind the first n, if its outcome holds it: then r are held; what creation gave the block stays
+-- the TRB t is held behind the first n, if its outcome holds it: then r are held; the head stays
 pub record Held (b : List ℕ) (o : Outcome) (t : TransferTrb) (n r : ℕ) (b' : List ℕ) : Type 0 where
   pub held : r ≡ cond (holds o) (n + 1) n
   pub places : placesIn r (drop headLength b') ≡ cond (holds o) (set (placesIn n (drop headLength b)) n t) (placesIn n (drop headLength b))
   pub endpoint : blockOf b' .«endpoint_id» ≡ blockOf b .«endpoint_id»
   pub slot : blockOf b' .«slot_id» ≡ blockOf b .«slot_id»
   pub rule : blockOf b' .release ≡ blockOf b .release
+  pub transfer : transferOf (blockOf b') ≡ transferOf (blockOf b)
   pub behind : drop blockLength b' ≡ drop blockLength b
   pub long : length b' ≡ length b

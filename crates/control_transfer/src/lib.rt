@@ -43,6 +43,7 @@ fn no_data() -> TrbData
     }
 }
 
+// The data that a TRB moves; of any other than a Data Stage or Normal TRB, none.
 pub fn data_of(variant: TransferTrbVariant) -> TrbData
     ensures { λ r. ⌜ r ≡ dataOf variant ⌝ }
 {
@@ -104,34 +105,12 @@ pub fn is_in_reach(input: bool, data: TrbData, regions: Regions) -> bool
     guest_memory::range_inside(regions, data.data_pointer, data.transfer_length)
 }
 
-fn le_bytes(x: u64) -> [u8; 8]
-    ensures { λ r. ⌜ r ≡ leBytes 8 x ⌝ }
-{
-    let x1 = x / 256;
-    let x2 = x1 / 256;
-    let x3 = x2 / 256;
-    let x4 = x3 / 256;
-    let x5 = x4 / 256;
-    let x6 = x5 / 256;
-    let x7 = x6 / 256;
-    [
-        (x % 256) as u8,
-        (x1 % 256) as u8,
-        (x2 % 256) as u8,
-        (x3 % 256) as u8,
-        (x4 % 256) as u8,
-        (x5 % 256) as u8,
-        (x6 % 256) as u8,
-        (x7 % 256) as u8,
-    ]
-}
-
 // Lays the `count` lowest bytes of the pointer over `collect` from index `at` on.
 fn collect_immediate(collect: &mut [u8], at: usize, pointer: u64, count: usize)
     requires { ⌜ (at + count ≤ length (now collect)) × (count ≤ 8) ⌝ }
     ensures { λ _. ⌜ now (collect .exit) ≡ patch (now (collect .entry)) at (leBytes count pointer) ⌝ }
 {
-    let cells = le_bytes(pointer);
+    let cells = buffers::le64_bytes(pointer);
     buffers::copy_into(collect, at, &cells[..count]);
 }
 

@@ -17,7 +17,7 @@ use Rattle.walks.proofs.WalkLaws.{walk-records}
 use Rattle.td_part.specs.declared.TdProcessingState.{TdProcessingState}
 use Rattle.td_part.specs.declared.TdProcessingState.the-variants.{Default, ShortTransfer}
 use Rattle.td_part.specs.Parts.{residualOf, putDma, realizeDma, dueFor, ofNormal}
-use Rattle.in_td.specs.Td.{normals, goesOn, isDone, endingNormal, normalIn, handleNormal, trbIn, processTrb, ended, unprocessed, processTd}
+use Rattle.in_td.specs.Td.{normals, goesOn, isDone, endingNormal, normalByState, handleNormal, trbByKind, processTrb, ended, unprocessed, processTd}
 use Rattle.in_td.specs.declared.InTd.{InTd}
 use Rattle.in_td.specs.declared.TdProcessed.{TdProcessed}
 
@@ -41,7 +41,7 @@ module _ (td : InTd) (p : TdProcessed) (a : ℕ) (cycle : Bool) where
   kinds-ending status.TransactionError left m = refl
   kinds-ending status.Disconnect left m = refl
 
-  kinds-normal : (s : TdProcessingState) (left : ℕ) (m : NormalTrb) → kindsKnown (normalIn s td left (p .progress) m a cycle .records) ≡ true
+  kinds-normal : (s : TdProcessingState) (left : ℕ) (m : NormalTrb) → kindsKnown (normalByState s td left (p .progress) m a cycle .records) ≡ true
   unfolding realizeDma putDma kindKnown
   kinds-normal (ShortTransfer missing) left m = kinds-when (m .«interrupt_on_completion») _ refl
   kinds-normal Default left m = by (isDone td left (residualOf (td .info) (p .progress) (m .«transfer_length»)))
@@ -52,7 +52,7 @@ module _ (td : InTd) (p : TdProcessed) (a : ℕ) (cycle : Bool) where
       by true = kinds-when (dueFor (ofNormal m a) (residualOf (td .info) (p .progress) (m .«transfer_length»))) _ refl
       by false = kinds-ending (td .status) (left - 1) m
 
-  kinds-trb : (v : TransferTrbVariant) → kindsKnown (trbIn v td p a cycle .records) ≡ true
+  kinds-trb : (v : TransferTrbVariant) → kindsKnown (trbByKind v td p a cycle .records) ≡ true
   unfolding handleNormal kindKnown
   kinds-trb (Normal m) = kinds-normal (p .progress .state) (p .«normals_left») m
   kinds-trb (EventData t) = kinds-when (t .«interrupt_on_completion») _ refl

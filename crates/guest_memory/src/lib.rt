@@ -21,6 +21,7 @@ pub struct Regions {
     pub high: Region,
 }
 
+// The two regions of guest memory, by their bases and lengths.
 pub fn guest_regions(low_base: u64, low_len: usize, high_base: u64, high_len: usize) -> Regions
     ensures { λ r. ⌜ r ≡ guestRegions «low_base» «low_len» «high_base» «high_len» ⌝ }
 {

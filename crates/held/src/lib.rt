@@ -15,6 +15,7 @@ pub enum EndpointKind {
     Control,
 }
 
+// What a free place holds: NoOp, address 0, all bits off.
 pub fn blank() -> TransferTrb
     ensures { λ r. ⌜ r ≡ blankTrb ⌝ }
 {

@@ -44,6 +44,7 @@ pub fn bit(n: u8, weight: u8) -> bool
     n / weight % 2 == 1
 }
 
+// The Normal TRB that these numbers are.
 pub fn normal(flags: u8, value: u64, transfer_length: u32) -> NormalTrb
     ensures { λ r. ⌜ r ≡ normalOf flags value «transfer_length» ⌝ }
 {

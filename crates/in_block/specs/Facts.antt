@@ -38,12 +38,12 @@ awaitsDevice (UnsupportedTrb a) = false
 -- ---- What is found of the TRBs held
 
 -- of a kind that an IN endpoint supports, its length at most 131,071
-abbrev pub soundIn : TransferTrbVariant → Bool
-soundIn v = supported In v && leb (transferLength v) maxTransferLength
+abbrev pub inSound : TransferTrbVariant → Bool
+inSound v = supported In v && leb (transferLength v) maxTransferLength
 
 -- with one TRB more
 abbrev pub trbTest : HeldTest → TransferTrb → HeldTest
-trbTest r t = record { sound = r .sound && soundIn (t .variant); normals = min (r .normals + normalCount (t .variant)) maxHeld }
+trbTest r t = record { sound = r .sound && inSound (t .variant); normals = min (r .normals + normalCount (t .variant)) maxHeld }
 
 -- no more Normals are counted than a block has places
 abbrev pub heldTest : List TransferTrb → HeldTest

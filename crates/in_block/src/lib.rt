@@ -15,7 +15,7 @@ ghost use Prim.Native.Nat.{_+_, _<_, min};
 ghost use Rattle.trb.specs.Limits.{maxHeld};
 ghost use Rattle.in_td.specs.Td.{isNormal, normalCount};
 ghost use Rattle.in_block.specs.Blocks.{freshBlock, withState, stored, emptied};
-ghost use Rattle.in_block.specs.Facts.{soundIn, trbTest, submissionDue, awaitsDevice, soundBlock};
+ghost use Rattle.in_block.specs.Facts.{inSound, trbTest, submissionDue, awaitsDevice, soundBlock};
 ghost use Rattle.in_block.specs.Outcomes.{outcomeOf, stateAfter, endingOf};
 
 pub struct InBlock {
@@ -27,6 +27,7 @@ pub struct InBlock {
     pub trbs: [TransferTrb; trb::MAX_HELD],
 }
 
+// A block that holds nothing, a submission due.
 pub fn fresh(endpoint_id: EndpointId, slot_id: SlotId, mode: InMode) -> InBlock
     ensures { λ r. ⌜ r ≡ freshBlock «endpoint_id» «slot_id» mode ⌝ }
 {
@@ -42,6 +43,7 @@ pub fn fresh(endpoint_id: EndpointId, slot_id: SlotId, mode: InMode) -> InBlock
     }
 }
 
+// The block in another state.
 pub fn with_state(block: InBlock, state: TdBasedNormalSubmissionState) -> InBlock
     ensures { λ r. ⌜ r ≡ withState block state ⌝ }
 {
@@ -90,6 +92,7 @@ pub fn empty(block: InBlock, state: TdBasedNormalSubmissionState) -> InBlock
     }
 }
 
+// Is a submission due in this state?
 pub fn submission_due(state: TdBasedNormalSubmissionState) -> bool
     ensures { λ r. ⌜ r ≡ submissionDue state ⌝ }
 {
@@ -102,6 +105,7 @@ pub fn submission_due(state: TdBasedNormalSubmissionState) -> bool
     }
 }
 
+// Does a block in this state await the device's result?
 pub fn awaits_device(state: TdBasedNormalSubmissionState) -> bool
     ensures { λ r. ⌜ r ≡ awaitsDevice state ⌝ }
 {
@@ -138,7 +142,7 @@ pub struct HeldTest {
 
 // Is the TRB of a kind that an IN endpoint holds, and its length within the limit?
 fn is_sound_trb(variant: TransferTrbVariant) -> bool
-    ensures { λ r. ⌜ r ≡ soundIn variant ⌝ }
+    ensures { λ r. ⌜ r ≡ inSound variant ⌝ }
 {
     if !held::supports(EndpointKind::In, variant) {
         return false;

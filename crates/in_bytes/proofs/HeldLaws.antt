@@ -20,7 +20,7 @@ use Rattle.in_td.specs.Normals.{normalOf, lengthOf, requested}
 use Rattle.buffers.specs.LittleEndian.{leField}
 use Rattle.in_request.proofs.RequestedLaws.{requested-sound}
 use Rattle.in_td.specs.Td.{isNormal, normalCount, normals}
-use Rattle.in_block.specs.Facts.{soundIn}
+use Rattle.in_block.specs.Facts.{inSound}
 use Rattle.raw_trb.specs.Layouts.{normalType, eventDataType, noOpType}
 use Rattle.held_bytes.specs.Numbers.{variantOf}
 use Rattle.held_bytes.specs.Places.{placeLength, placeOf, placesOf}
@@ -36,7 +36,7 @@ module _ (flags value len : ℕ) where
   normal-read false true = refl
   normal-read false false = refl
 
-  sound-by : (n e : Bool) → len ≤ maxTransferLength → soundIn (variantOf (cond n normalType (cond e eventDataType noOpType)) flags value len) ≡ true
+  sound-by : (n e : Bool) → len ≤ maxTransferLength → inSound (variantOf (cond n normalType (cond e eventDataType noOpType)) flags value len) ≡ true
   unfolding variantOf
   sound-by true e h = le-leb _ _ h
   sound-by false true h = refl

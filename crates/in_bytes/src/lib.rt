@@ -15,9 +15,9 @@ ghost use mathlib.Core.List.{[], _∷_};
 ghost use Prim.Native.Nat.{_+_, _*_, _<_, _≤_, _%_, _/_};
 ghost use lib.Dec.{eqb};
 ghost use lib.ListN.{length, drop, take, set, replicate};
-ghost use Rattle.trb.specs.Limits.{maxHeld};
+ghost use Rattle.trb.specs.Limits.{maxHeld, maxTransferLength};
 ghost use Rattle.buffers.specs.Patch.{patch};
-ghost use Rattle.buffers.specs.LittleEndian.{leBytes};
+ghost use Rattle.buffers.specs.LittleEndian.{leBytes, leField};
 ghost use Rattle.held.specs.declared.EndpointKind.the-variants.{In};
 ghost use Rattle.in_td.specs.Normals.{normalOf, lengthOf, requested};
 ghost use Rattle.in_td.specs.Td.{isNormal, normals};
@@ -43,6 +43,7 @@ fn known_id(layout: u8, id: u8) -> u8
     }
 }
 
+// The endpoint id of the block; 0 in another layout.
 pub fn endpoint_id(block: &[u8]) -> EndpointId
     requires { ⌜ headLength ≤ length (now block) ⌝ }
     ensures { λ r. ⌜ r ≡ endpointOf (now (block .entry)) ⌝ }
@@ -50,6 +51,7 @@ pub fn endpoint_id(block: &[u8]) -> EndpointId
     EndpointId(known_id(block[0], block[1]))
 }
 
+// The slot id of the block; 0 in another layout.
 pub fn slot_id(block: &[u8]) -> SlotId
     requires { ⌜ headLength ≤ length (now block) ⌝ }
     ensures { λ r. ⌜ r ≡ slotOf (now (block .entry)) ⌝ }
@@ -57,6 +59,7 @@ pub fn slot_id(block: &[u8]) -> SlotId
     SlotId(known_id(block[0], block[2]))
 }
 
+// The mode by its number: 0 as ported, any other strict.
 pub fn mode_of(number: u8) -> InMode
     ensures { λ r. ⌜ r ≡ modeOf number ⌝ }
 {
@@ -66,6 +69,7 @@ pub fn mode_of(number: u8) -> InMode
     InMode::Strict
 }
 
+// The state by its number, and the address of an unsupported TRB.
 pub fn state_of(number: u8, addr: u64) -> TdBasedNormalSubmissionState
     ensures { λ r. ⌜ r ≡ stateOf number addr ⌝ }
 {
@@ -127,6 +131,14 @@ pub fn trb_at(block: &[u8], i: usize) -> TransferTrb
     ensures { λ r. ⌜ r ≡ placeOf In (drop (headLength + placeLength * i) (now (block .entry))) ⌝ }
 {
     trb_from(block, HEAD + held_bytes::PLACE * i)
+}
+
+// The transfer length in the place that starts at `at`: of its four bytes 17 bits count.
+pub fn length_at(block: &[u8], at: usize) -> u32
+    requires { ⌜ at + placeLength ≤ length (now block) ⌝ }
+    ensures { λ r. ⌜ r ≡ leField 16 4 (drop at (now (block .entry))) % (maxTransferLength + 1) ⌝ }
+{
+    buffers::le32(block, at + 16) % (trb::MAX_TRANSFER_LENGTH + 1)
 }
 
 // Is the TRB in place number i a Normal?
@@ -194,8 +206,7 @@ fn normal_length_at(block: &[u8], i: usize) -> u32
     ensures { λ r. ⌜ r ≡ lengthOf (normalOf (placeOf In (drop (headLength + placeLength * i) (now (block .entry))) .variant)) ⌝ }
 {
     if normal_at(block, i) {
-        return buffers::le32(block, HEAD + held_bytes::PLACE * i + 16)
-            % (trb::MAX_TRANSFER_LENGTH + 1);
+        return length_at(block, HEAD + held_bytes::PLACE * i);
     }
     0
 }
@@ -234,34 +245,12 @@ pub fn put_head(block: &mut [u8], state: u8, held: u16)
     block[6] = state;
 }
 
-fn encoded_address(addr: u64) -> [u8; 8]
-    ensures { λ r. ⌜ r ≡ leBytes 8 addr ⌝ }
-{
-    let a1 = addr / 256;
-    let a2 = a1 / 256;
-    let a3 = a2 / 256;
-    let a4 = a3 / 256;
-    let a5 = a4 / 256;
-    let a6 = a5 / 256;
-    let a7 = a6 / 256;
-    [
-        (addr % 256) as u8,
-        (a1 % 256) as u8,
-        (a2 % 256) as u8,
-        (a3 % 256) as u8,
-        (a4 % 256) as u8,
-        (a5 % 256) as u8,
-        (a6 % 256) as u8,
-        (a7 % 256) as u8,
-    ]
-}
-
 // Stores the address of an unsupported TRB.
 pub fn put_address(block: &mut [u8], addr: u64)
     requires { ⌜ headLength ≤ length (now block) ⌝ }
     ensures { λ _. ⌜ now (block .exit) ≡ patch (now (block .entry)) 8 (leBytes 8 addr) ⌝ }
 {
-    let cells = encoded_address(addr);
+    let cells = buffers::le64_bytes(addr);
     buffers::copy_into(block, 8, &cells);
 }
 

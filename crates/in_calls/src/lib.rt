@@ -67,6 +67,7 @@ fn answered(text: &mut [u8], at: usize, block: InBlock, records: usize) -> InRan
     }
 }
 
+// Creates an IN endpoint and prints the answer.
 pub fn create(
     text: &mut [u8],
     at: usize,

@@ -22,7 +22,7 @@ ghost use Rattle.held_bytes.specs.Numbers.{normalOf, variantOf, trbOf};
 ghost use Rattle.trb.specs.declared.TransferTrbVariant.the-variants.{Normal};
 
 // Questions 4, 21, 5 and 6, of a Normal behind `held` others.
-fn ask_of_normal(
+pub fn ask_of_normal(
     held: usize,
     flags: u8,
     value: u64,

@@ -1,36 +1,41 @@
 -- What a completion in place comes to, by its answer and what it stored. Assumes nothing.
-use Prim.Native.Nat.{ℕ, _<_}
+use Prim.Native.Nat.{ℕ, _<_, _≤_}
 use mathlib.Core.Path.{_≡_, refl, sym, ap, _∙_, subst}
 use mathlib.Core.Bool.{Bool, true, false}
 use mathlib.Core.List.{List}
 use native.Mathlib.Omega.{arith}
 use lib.ListN.{length, take, getD}
-use borrow.Author.Tests.{eqb-false}
+use borrow.Author.Tests.{eqb-false, ne-eqb, le-leb}
 use Rattle.trb.specs.Answers.{numberOf, isAccepted, refusalOf, completionNumber}
+use Rattle.trb.specs.Limits.{minLog, maxData}
 use Rattle.trb.specs.Refusals.{refusalNumber}
 use Rattle.trb.specs.Questions.{firstNo}
 use Rattle.trb.proofs.AnswerLaws.{answered-yes, answered-no, refusalNumber-positive}
 use Rattle.trb.specs.declared.Answer.{Answer}
-use Rattle.trb.specs.declared.Answer.the-variants.{Refused}
+use Rattle.trb.specs.declared.Answer.the-variants.{Accepted, Refused}
 use Rattle.trb.specs.declared.CompletionAnswer.{CompletionAnswer}
 use Rattle.trb.specs.declared.CompletionAnswer.the-variants as completion-answer
 use Rattle.trb.specs.declared.InTrbProcessingResult.{InTrbProcessingResult}
+use Rattle.trb.specs.declared.InTrbProcessingResult.the-variants.{NoneGiven}
 use Rattle.trb.specs.declared.InTrbProcessingStatus.{InTrbProcessingStatus}
 use Rattle.trb.specs.declared.Refusal.the-variants.{BufferTooShort}
 use Rattle.trb.specs.declared.TransferTrb.{TransferTrb}
 use Rattle.trb.specs.declared.TrbProcessingResult.{TrbProcessingResult}
 use Rattle.trb.specs.declared.TrbProcessingResult.the-variants as result
-use Rattle.trb.specs.declared.TdBasedNormalSubmissionState.the-variants.{SubmissionDue}
+use Rattle.trb.specs.declared.TdBasedNormalSubmissionState.{TdBasedNormalSubmissionState}
+use Rattle.trb.specs.declared.TdBasedNormalSubmissionState.the-variants.{SubmissionDue, CollectingTd}
+use Rattle.buffers.specs.LittleEndian.{leField}
 use Rattle.log.specs.Calls.{Out, Meets}
 use Rattle.log.specs.Logs.{recordsIn}
 use Rattle.log.proofs.LogLaws.{logged-none}
 use Rattle.in_td.specs.Td.{inTd, processTd}
 use Rattle.in_td.specs.declared.InTd.{InTd}
 use Rattle.in_td.specs.declared.TdProcessed.{TdProcessed}
-use Rattle.in_block.specs.Blocks.{heldOf, emptied}
+use Rattle.in_block.specs.Blocks.{heldOf, withState, emptied}
 use Rattle.in_block.specs.Facts.{factsOf}
 use Rattle.in_block.specs.Outcomes.{endingOf}
 use Rattle.in_block.specs.declared.Ending.{Ending}
+use Rattle.in_block.specs.declared.Ending.the-variants.{KeepCollecting}
 use Rattle.in_questions.specs.Questions.{completionQuestions}
 use Rattle.in_endpoint.specs.Completion as completions
 use Rattle.account.specs.Guest.{Account}
@@ -38,12 +43,12 @@ use Rattle.in_endpoint.specs.declared.Completed.{Completed}
 use Rattle.in_endpoint.proofs.CompletionLaws.{accounted-completion, completion-number, completionAnswer-refused, processTd-counts}
 use Rattle.answer_numbers.specs.Numbers.{completedWith, completionAnswered}
 use Rattle.answer_numbers.specs.declared.CompletionAnswered.{CompletionAnswered}
-use Rattle.in_bytes.specs.Layout.{blockLength, endpointOf, slotOf, modeOf, heldCount, places, blockOf}
+use Rattle.in_bytes.specs.Layout.{blockLength, endpointOf, slotOf, modeOf, stateOf, heldCount, places, blockOf}
 use Rattle.in_place_store.specs.Becomes.{Becomes}
 use Rattle.in_place_store.proofs.ChangeLaws.{becomes-same}
-use Rattle.in_place_questions.specs.Lent.{lentLog}
+use Rattle.in_place_questions.specs.Lent.{lentLog, SoundIn}
 use Rattle.in_place_questions.proofs.LentLaws.{lent-short}
-use Rattle.in_place.specs.InPlace.{completedNumbers, CompletesInPlace, AccountedInPlace}
+use Rattle.in_place.specs.InPlace.{completedNumbers, CompletesInPlace, AccountedInPlace, GoesOn, resultOf}
 
 -- the number and the count of a result and of an answer
 result-parts : (r : TrbProcessingResult) (n : ℕ) → (completedWith r n .number ≡ 0) × (completedWith r n .records ≡ n)
@@ -117,7 +122,27 @@ module _ (s : InTrbProcessingResult) (n : ℕ) (l b : List ℕ) where
       (record { state = er ∙ m .state; log = m .log; fits = m .fits }) changed
       (λ h. absurd (omega (arith, h, ap (λ (x : CompletionAnswered). x .number) er ∙ result-parts w count .0)))
 
--- the TD was walked
+-- ---- A TD that is collected
+
+pub none-given : (n : ℕ) → 4 ≤ n → resultOf n ≡ NoneGiven
+none-given n h = simp (ne-eqb n 0 (λ e. omega (arith, e, h)), ne-eqb n 1 (λ e. omega (arith, e, h)), ne-eqb n 2 (λ e. omega (arith, e, h)), ne-eqb n 3 (λ e. omega (arith, e, h)))
+
+pub goes-on : (b : List ℕ) (k : ℕ) (s : InTrbProcessingResult) (n : ℕ) → SoundIn 1 b → minLog ≤ k → n ≤ maxData → s ≡ NoneGiven → GoesOn k s n b
+unfolding blockOf completionQuestions firstNo
+goes-on b k s n in-state long short none =
+    let state : blockOf b .state ≡ CollectingTd = ap (λ (x : ℕ). stateOf x (leField 8 8 b)) (in-state .state) in
+    record { asked = rw (le-leb minLog k long, in-state .sound, state, none, le-leb n maxData short) refl; state = state }
+
+module _ (s : InTrbProcessingResult) (n : ℕ) (l b : List ℕ) where
+  -- the TRBs held are kept
+  pub completes-kept : {r : CompletionAnswered} {b' : List ℕ} → GoesOn (length l) s n b → r ≡ completionAnswered (completion-answer.Completed result.Ok) 0
+      → Becomes b (withState (blockOf b) SubmissionDue) b' → CompletesInPlace (length l) s n l b r l b'
+  completes-kept on er changed =
+      completes-accepted s n l b Accepted (sym (on .asked)) refl KeepCollecting (ap (λ (x : TdBasedNormalSubmissionState). endingOf x s n) (on .state)) result.Ok 0 er
+      (record { state = refl; log = sym (logged-none l 0); fits = tt }) changed
+
+-- ---- The TD was walked
+
 pub transferred-met : (b l l' : List ℕ) (td : InTd) (held : ℕ) (st : InTrbProcessingStatus) (n : ℕ) (r : TdProcessed) → td ≡ inTd (endpointOf b) (slotOf b) (blockOf b .mode) st n
     → held ≡ heldCount b → Meets (processTd td (take held (places b))) 0 l r l'
     → Meets (completedNumbers (completions.transferred (blockOf b) st n)) 0 l (completionAnswered (completion-answer.Completed (r .result)) (r .progress .records)) l'

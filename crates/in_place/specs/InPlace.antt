@@ -11,6 +11,7 @@ use Rattle.trb.specs.declared.InTrbProcessingResult.{InTrbProcessingResult}
 use Rattle.trb.specs.declared.InTrbProcessingResult.the-variants.{NoneGiven, Given}
 use Rattle.trb.specs.declared.InTrbProcessingStatus.the-variants.{Disconnect, Stall, TransactionError, Success}
 use Rattle.trb.specs.declared.SlotId.{SlotId}
+use Rattle.trb.specs.declared.TdBasedNormalSubmissionState.the-variants.{CollectingTd}
 use Rattle.log.specs.Calls.{Out, Meets}
 use Rattle.log.specs.Logs.{recordsIn}
 use Rattle.log.specs.declared.Record.{Record}
@@ -60,6 +61,11 @@ pub record CompletesInPlace (k : ℕ) (s : InTrbProcessingResult) (n : ℕ) (l b
   pub becomes : Becomes b (completion k (blockOf b) s n .state .block) b'
   pub unchanged : 0 < r .number → b' ≡ b
   pub account : AccountedInPlace (blockOf b) n r (recordsIn (r .records) l')
+
+-- every question says yes, and a TD is collected
+pub record GoesOn (k : ℕ) (s : InTrbProcessingResult) (n : ℕ) (b : List ℕ) : Type 0 where
+  pub asked : firstNo (completionQuestions k (factsOf (blockOf b)) s n) ≡ 0
+  pub state : blockOf b .state ≡ CollectingTd
 
 -- a device result by number: 0 Success, 1 Stall, 2 a transaction error, 3 a disconnect; any other number, none is given
 abbrev pub resultOf : ℕ → InTrbProcessingResult

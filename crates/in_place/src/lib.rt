@@ -10,11 +10,12 @@ use trb::Refusal;
 use trb::SlotId;
 use trb::TrbProcessingResult;
 ghost use mathlib.Core.Path.{_≡_};
+ghost use mathlib.Core.Bool.{true};
 ghost use Prim.Native.Nat.{_≤_};
 ghost use lib.ListN.{length};
 ghost use Rattle.in_bytes.specs.Layout.{blockLength, modeOf};
 ghost use Rattle.in_place_questions.specs.Lent.{lentLog};
-ghost use Rattle.in_place.specs.InPlace.{CreatesInPlace, CancelsInPlace, CompletesInPlace, resultOf};
+ghost use Rattle.in_place.specs.InPlace.{CreatesInPlace, CancelsInPlace, CompletesInPlace, GoesOn, resultOf};
 
 // ---- Completion
 
@@ -87,6 +88,23 @@ pub fn result_of(status: u8) -> InTrbProcessingResult
     InTrbProcessingResult::NoneGiven
 }
 
+// Is a TD collected, no device result given, and does every question say yes? So it is behind every TRB of a TD but the last.
+fn goes_on(log_length: usize, block: &[u8], status: u8, data_length: usize) -> bool
+    requires { ⌜ blockLength ≤ length (now block) ⌝ }
+    ensures { λ r. ⌜ (r ≡ true → GoesOn «log_length» (resultOf status) «data_length» (now (block .entry))) ⌝ }
+{
+    if status < 4 {
+        return false;
+    }
+    if !in_place_questions::is_sound_in(in_place_store::COLLECTING, block) {
+        return false;
+    }
+    if log_length < trb::MIN_LOG {
+        return false;
+    }
+    data_length <= trb::MAX_DATA
+}
+
 // Completes what was submitted last; ports `next_completion` and the loop of `process_td`. Of the device's data only the length is asked
 // for. Status: 0 Success, 1 Stall, 2 a transaction error, 3 a disconnect; any other number, no device result is given.
 pub fn next_completion(
@@ -99,6 +117,13 @@ pub fn next_completion(
 {
     if block.len() < in_bytes::BLOCK {
         return answer_numbers::completed_as(CompletionAnswer::Refused(Refusal::BufferTooShort), 0);
+    }
+    if goes_on(log.len(), block, status, data_length) {
+        in_place_store::keep(block);
+        return answer_numbers::completed_as(
+            CompletionAnswer::Completed(TrbProcessingResult::Ok),
+            0,
+        );
     }
     let result = result_of(status);
     complete(log, block, result, data_length)

@@ -1,12 +1,13 @@
 -- What of the TRBs held the questions depend on. Assumes nothing.
-use Prim.Native.Nat.{ℕ, min}
+use Prim.Native.Nat.{ℕ, zero, suc, _<_, _≤_, min}
 use mathlib.Core.Path.{_≡_, refl, sym, ap, _∙_}
-use mathlib.Core.Bool.{Bool, true, false, not, _&&_, _||_}
+use mathlib.Core.Bool.{Bool, true, false, not, _&&_, _||_, true≢false}
 use mathlib.Core.List.{List}
 use native.Mathlib.Omega.{arith}
 use lib.Dec.{eqb, leb}
-use lib.ListN.{take, drop}
-use borrow.Author.Tests.{eqb-true, eqb-false, ne-eqb}
+use lib.ListN.{take, drop, getD}
+use borrow.Author.Tests.{eqb-true, eqb-false, ne-eqb, le-leb}
+use Rattle.buffers.specs.LittleEndian.{leField}
 use Rattle.trb.specs.Ids.{idsInRange}
 use Rattle.trb.specs.Limits.{maxHeld}
 use Rattle.trb.specs.declared.InTrbProcessingResult.{InTrbProcessingResult}
@@ -21,9 +22,9 @@ use Rattle.in_block.specs.Facts.{awaitsDevice, factsOf, soundBlock}
 use Rattle.in_block.specs.declared.BlockFacts.{BlockFacts}
 use Rattle.in_questions.specs.Questions.{submissionQuestions, completionQuestions}
 use Rattle.held_bytes.proofs.PlaceLaws.{take-placesOf}
-use Rattle.in_bytes.specs.Layout.{headLength, endpointOf, slotOf, heldCount, places, blockOf}
+use Rattle.in_bytes.specs.Layout.{headLength, endpointOf, slotOf, heldCount, stateOf, places, blockOf}
 use Rattle.in_bytes.proofs.HeldLaws.{sound-places, length-places}
-use Rattle.in_place_questions.specs.Lent.{SameFacts}
+use Rattle.in_place_questions.specs.Lent.{SameFacts, SoundIn}
 
 -- ---- The questions depend on soundness, the state and the number held
 
@@ -72,3 +73,19 @@ same-facts b st held p k es eh ep seen =
       state = es;
       held = eh;
     }
+
+-- ---- Of a block that awaits no device
+
+-- a submission is due, or a TD is collected
+not-awaited : (n a : ℕ) → n < 2 → awaitsDevice (stateOf n a) ≡ false
+not-awaited zero a h = refl
+not-awaited (suc zero) a h = refl
+not-awaited (suc (suc n)) a h = absurd (omega (arith, h))
+
+pub sound-in : (b : List ℕ) (n : ℕ) → getD b 6 0 ≡ n → n < 2 → heldCount b ≤ maxHeld → idsInRange (endpointOf b) (slotOf b) ≡ true → SoundIn n b
+unfolding blockOf soundBlock
+sound-in b n e known few ids =
+    let st : TdBasedNormalSubmissionState = stateOf (getD b 6 0) (leField 8 8 b) in
+    let waits : awaitsDevice st ≡ false = ap (λ (k : ℕ). awaitsDevice (stateOf k (leField 8 8 b))) e ∙ not-awaited n (leField 8 8 b) known in
+    let same = same-facts b st (heldCount b) (min (heldCount b) maxHeld) 0 refl refl refl (λ w. absurd (true≢false (sym w ∙ waits))) in
+    record { sound = sym (same .sound) ∙ rw (ids, le-leb (heldCount b) maxHeld few, waits) refl; state = e }

@@ -7,7 +7,8 @@ use trb::Answer;
 use trb::InTrbProcessingResult;
 use trb::TdBasedNormalSubmissionState;
 ghost use mathlib.Core.Path.{_≡_};
-ghost use Prim.Native.Nat.{_≤_};
+ghost use mathlib.Core.Bool.{true};
+ghost use Prim.Native.Nat.{_<_, _≤_};
 ghost use lib.ListN.{length};
 ghost use Rattle.trb.specs.Answers.{numberOf};
 ghost use Rattle.trb.specs.Questions.{firstNo};
@@ -15,7 +16,7 @@ ghost use Rattle.in_block.specs.Facts.{factsOf};
 ghost use Rattle.in_questions.specs.Questions.{submissionQuestions, completionQuestions};
 ghost use Rattle.held_bytes.specs.Numbers.{trbOf};
 ghost use Rattle.in_bytes.specs.Layout.{blockLength, blockOf};
-ghost use Rattle.in_place_questions.specs.Lent.{SameFacts};
+ghost use Rattle.in_place_questions.specs.Lent.{SameFacts, SoundIn};
 
 // The state of the block.
 pub fn state_of(block: &[u8]) -> TdBasedNormalSubmissionState
@@ -47,6 +48,22 @@ pub fn facts_of(block: &[u8], state: TdBasedNormalSubmissionState) -> BlockFacts
         held: held,
         found: found,
     }
+}
+
+// Is the block sound, and in the state of this number, in which no device is awaited? No place is looked at.
+pub fn is_sound_in(number: u8, block: &[u8]) -> bool
+    requires { ⌜ (blockLength ≤ length (now block)) × (number < 2) ⌝ }
+    ensures { λ r. ⌜ (r ≡ true → SoundIn number (now (block .entry))) ⌝ }
+{
+    if block[6] != number {
+        return false;
+    }
+    if trb::MAX_HELD < buffers::le16(block, 4) as usize {
+        return false;
+    }
+    let endpoint_id = in_bytes::endpoint_id(block);
+    let slot_id = in_bytes::slot_id(block);
+    trb::ids_in_range(endpoint_id, slot_id)
 }
 
 // Questions 1, 13, 2 to 4, 21, 5 and 6, of the block that the bytes are.

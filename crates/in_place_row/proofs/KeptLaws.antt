@@ -25,7 +25,7 @@ use Rattle.guest_memory.specs.declared.Regions.{Regions}
 use Rattle.held_bytes.specs.Numbers.{normalOf, setupStageOf, dataStageOf, statusStageOf, eventDataOf, noOpOf, variantOf, cycleOn}
 use Rattle.held_bytes.specs.Places.{placeLength, placeOf, placesOf}
 use Rattle.held_bytes.proofs.PlaceLaws.{take-placesOf}
-use Rattle.row_questions.specs.Questions.{supportedIn, eachTrb}
+use Rattle.row_questions.specs.Questions.{inSupported, eachTrb}
 use Rattle.row_questions.proofs.QuestionLaws.{passed-trb}
 use Rattle.row_bytes.specs.Layout.{cellsOf, givenTrb, trbsIn}
 
@@ -52,7 +52,7 @@ kept-by flags value len false false false false false true o s h = refl
 kept-by flags value len false false false false false false true s h = refl
 kept-by flags value len false false false false false false false s h = absurd (true≢false (sym s))
 
-kept-place : (l : List ℕ) → supportedIn (givenTrb l) ≡ true → transferLength (givenTrb l .variant) ≤ maxTransferLength → givenTrb l ≡ placeOf In l
+kept-place : (l : List ℕ) → inSupported (givenTrb l) ≡ true → transferLength (givenTrb l .variant) ≤ maxTransferLength → givenTrb l ≡ placeOf In l
 unfolding givenTrb placeOf variantOf
 kept-place l s h =
     let kind : ℕ = getD l 20 0 in
@@ -62,17 +62,17 @@ kept-place l s h =
 -- ---- A row
 
 module _ (regions : Regions) where
-  kept-cells : (n : ℕ) (l : List ℕ) (h : ℕ) → all supportedIn (cellsOf givenTrb placeLength n l) ≡ true → firstNo (eachTrb regions h (cellsOf givenTrb placeLength n l)) ≡ 0
+  kept-cells : (n : ℕ) (l : List ℕ) (h : ℕ) → all inSupported (cellsOf givenTrb placeLength n l) ≡ true → firstNo (eachTrb regions h (cellsOf givenTrb placeLength n l)) ≡ 0
       → cellsOf givenTrb placeLength n l ≡ placesOf In n l
   unfolding cellsOf placesOf all
   kept-cells zero l h s e = refl
   kept-cells (suc n) l h s e =
       let y = passed-trb regions h (givenTrb l) (cellsOf givenTrb placeLength n (drop placeLength l)) e in
-      let first : givenTrb l ≡ placeOf In l = kept-place l (and-left (supportedIn (givenTrb l)) (all supportedIn (cellsOf givenTrb placeLength n (drop placeLength l))) s) (leb-true _ _ (y .short)) in
-      let rest = kept-cells n (drop placeLength l) _ (and-right (supportedIn (givenTrb l)) (all supportedIn (cellsOf givenTrb placeLength n (drop placeLength l))) s) (y .rest) in
+      let first : givenTrb l ≡ placeOf In l = kept-place l (and-left (inSupported (givenTrb l)) (all inSupported (cellsOf givenTrb placeLength n (drop placeLength l))) s) (leb-true _ _ (y .short)) in
+      let rest = kept-cells n (drop placeLength l) _ (and-right (inSupported (givenTrb l)) (all inSupported (cellsOf givenTrb placeLength n (drop placeLength l))) s) (y .rest) in
       (λ j. first j ∷ rest j)
 
-  pub row-kept : (row : List ℕ) → all supportedIn (trbsIn row) ≡ true → firstNo (eachTrb regions 0 (trbsIn row)) ≡ 0 → trbsIn row ≡ placesOf In (length row / placeLength) row
+  pub row-kept : (row : List ℕ) → all inSupported (trbsIn row) ≡ true → firstNo (eachTrb regions 0 (trbsIn row)) ≡ 0 → trbsIn row ≡ placesOf In (length row / placeLength) row
   unfolding trbsIn
   row-kept row s e = kept-cells (length row / placeLength) row 0 s e
 

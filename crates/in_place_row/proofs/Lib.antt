@@ -1,3 +1,4 @@
 pub mod LookLaws
+pub mod TakenLaws
 pub mod KeptLaws
 pub mod CallLaws

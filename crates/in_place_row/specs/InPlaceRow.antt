@@ -1,26 +1,33 @@
 -- A row of TDs in place: by the definitions of the row by value (in_row), of the block, the row and the results that the bytes are. Assumes
 -- nothing.
-use Prim.Native.Nat.{ℕ, _+_}
+use Prim.Native.Nat.{ℕ, _+_, _≤_}
 use mathlib.Core.Path.{_≡_}
-use mathlib.Core.Bool.{Bool, cond}
+use mathlib.Core.Bool.{Bool, true, false, cond}
 use mathlib.Core.List.{List}
 use lib.Dec.{eqb}
-use lib.ListN.{length, drop}
+use lib.ListN.{length, drop, getD}
+use Rattle.trb.specs.Limits.{maxTransferLength}
 use Rattle.trb.specs.Questions.{firstNo}
+use Rattle.trb.specs.declared.Answer.the-variants.{Accepted}
 use Rattle.trb.specs.declared.CompletionAnswer.{CompletionAnswer}
 use Rattle.trb.specs.declared.TransferTrb.{TransferTrb}
+use Rattle.buffers.specs.LittleEndian.{leField}
 use Rattle.log.specs.Calls.{Out, Meets}
 use Rattle.log.specs.Logs.{recordsIn}
+use Rattle.guest_memory.specs.Places.{rangeInside}
 use Rattle.guest_memory.specs.declared.Regions.{Regions}
 use Rattle.in_td.specs.Normals.{requested}
 use Rattle.in_td.specs.Td.{normals}
 use Rattle.in_block.specs.Facts.{factsOf}
+use Rattle.raw_trb.specs.Layouts.{normalType}
+use Rattle.held_bytes.specs.Numbers.{chainOn, immediateOn}
 use Rattle.answer_numbers.specs.Numbers.{completionAnswered}
 use Rattle.in_bytes.specs.Layout.{blockOf}
 use Rattle.row_walk.specs.Accounts.{RowAccounted}
 use Rattle.row_walk.specs.Rows.{rowTds}
 use Rattle.row_walk.specs.Tds.{firstTd}
 use Rattle.row_questions.specs.Questions.{rowQuestions}
+use Rattle.row_questions.specs.declared.RowTest.{RowTest}
 use Rattle.in_row.specs.Completion.{rowCompletion}
 use Rattle.in_row.specs.declared.TdsCompleted.{TdsCompleted}
 use Rattle.row_bytes.specs.Layout.{trbsIn, resultsIn, rowCount}
@@ -32,6 +39,28 @@ abbrev pub lookedAt : List TransferTrb → ℕ → TdLooked
 lookedAt ts first =
     let td : List TransferTrb = firstTd (drop first ts) in
     record { asked = record { length = requested td; normals = normals td }; end = first + length td }
+
+-- ---- A TRB of the row
+
+-- the place at the front of l has a Normal with chain on, and questions 4, 21 and 6 say yes
+pub record Taken (l : List ℕ) (regions : Regions) : Type 0 where
+  pub kind : getD l 20 0 ≡ normalType
+  pub chain : chainOn (getD l 21 0) ≡ true
+  pub from-memory : immediateOn (getD l 21 0) ≡ false
+  pub short : leField 16 4 l ≤ maxTransferLength
+  pub inside : rangeInside regions (leField 8 8 l) (leField 16 4 l) ≡ true
+
+-- what is found with one such Normal more, where nothing was refused before
+abbrev pub withNormal : RowTest → RowTest
+withNormal a = record {
+  asked = Accepted;
+  held = a .held + 1;
+  supported = a .supported;
+  tds = a .tds;
+  «has_normal» = true;
+  «given_rightly» = a .«given_rightly»;
+  given = a .given;
+}
 
 -- ---- The call
 

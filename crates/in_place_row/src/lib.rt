@@ -13,25 +13,26 @@ use trb::SlotId;
 use trb::TrbProcessingResult;
 ghost use mathlib.Core.Path.{_≡_};
 ghost use mathlib.Core.Bool.{true};
-ghost use Prim.Native.Nat.{_/_, _<_, _≤_, _^_};
-ghost use lib.ListN.{length, take};
+ghost use Prim.Native.Nat.{_+_, _*_, _/_, _<_, _≤_, _^_};
+ghost use lib.ListN.{length, take, drop, getD};
 ghost use Rattle.trb.specs.Answers.{numberOf};
-ghost use Rattle.trb.specs.Limits.{maxRow};
+ghost use Rattle.trb.specs.Limits.{maxHeld, maxRow};
 ghost use Rattle.trb.specs.Questions.{firstNo};
 ghost use Rattle.log.specs.Calls.{Meets};
 ghost use Rattle.guest_memory.specs.Regions.{guestRegions};
 ghost use Rattle.in_td.specs.Normals.{requested};
 ghost use Rattle.in_block.specs.Facts.{factsOf};
+ghost use Rattle.held.specs.Places.{pastEnd};
 ghost use Rattle.held.specs.declared.EndpointKind.the-variants.{In};
 ghost use Rattle.held_bytes.specs.Places.{placeLength, placesOf};
 ghost use Rattle.in_bytes.specs.Layout.{blockLength, blockOf};
 ghost use Rattle.in_place_questions.specs.Lent.{lentLog};
-ghost use Rattle.row_walk.specs.Rows.{processRow, Walkable};
+ghost use Rattle.row_walk.specs.Rows.{pastResults, processRow, Walkable};
 ghost use Rattle.row_walk.specs.Tds.{endsTd};
 ghost use Rattle.row_questions.specs.Questions.{rowQuestions};
-ghost use Rattle.row_questions.specs.Tests.{untested, testedRow};
+ghost use Rattle.row_questions.specs.Tests.{untested, testedTrb, testedRow};
 ghost use Rattle.row_bytes.specs.Layout.{trbsIn, resultsIn, rowCount};
-ghost use Rattle.in_place_row.specs.InPlaceRow.{lookedAt, rowAnswered, CompletesTdsInPlace};
+ghost use Rattle.in_place_row.specs.InPlaceRow.{lookedAt, Taken, withNormal, rowAnswered, CompletesTdsInPlace};
 
 // What a row answers: the number of the question that said no, or 0; the failing result, else Ok (0 Ok, 1 Stall, 2 transaction error, 3
 // disconnect), with its completion code; whether it carries an address and a cycle bit, and these; TDs finished well; records logged.
@@ -129,6 +130,63 @@ fn walk_row(
 
 // ---- The questions
 
+// Is the TRB in the place that starts at `at` a Normal with chain on, to which questions 4, 21 and 6 say yes? (Of a row
+// no TRB has so many others of its TD before it that 5 would say no.)
+fn is_taken(row: &[u8], at: usize, regions: Regions) -> bool
+    requires { ⌜ at + placeLength ≤ length (now row) ⌝ }
+    ensures { λ r. ⌜ (r ≡ true → Taken (drop at (now (row .entry))) regions) ⌝ }
+{
+    let kind = row[at + 20];
+    let flags = row[at + 21];
+    if kind as u32 != raw_trb::NORMAL {
+        return false;
+    }
+    if !held_bytes::bit(flags, 2) {
+        return false;
+    }
+    if held_bytes::bit(flags, 16) {
+        return false;
+    }
+    let length = buffers::le32(row, at + 16);
+    if trb::MAX_TRANSFER_LENGTH < length {
+        return false;
+    }
+    let value = buffers::le64(row, at + 8);
+    guest_memory::check_range(regions, value, length)
+}
+
+// With one Normal more, chained and taken.
+fn with_normal(test: RowTest) -> RowTest
+    requires { ⌜ test .held < maxHeld ⌝ }
+    ensures { λ r. ⌜ r ≡ withNormal test ⌝ }
+{
+    RowTest {
+        asked: Answer::Accepted,
+        held: test.held + 1,
+        supported: test.supported,
+        tds: test.tds,
+        has_normal: true,
+        given_rightly: test.given_rightly,
+        given: test.given,
+    }
+}
+
+// With TRB number j. Most TRBs of a row are chained Normals, for which a few tests are enough.
+fn test_at(test: RowTest, row: &[u8], j: usize, results: &[u8], regions: Regions) -> RowTest
+    requires { ⌜ (j < length (trbsIn (now row))) × ((test .held < maxHeld) × ((test .tds ≤ maxRow) × (test .given ≤ maxRow * 2 ^ 32))) ⌝ }
+    ensures { λ r. ⌜ (r ≡ testedTrb regions test (getD (trbsIn (now (row .entry))) j pastEnd) (getD (resultsIn (now (results .entry))) (test .tds) pastResults)) × (r .given ≤ test .given + 2 ^ 32) ⌝ }
+{
+    let asked = test.asked;
+    if trb::is_accepted(asked) {
+        if is_taken(row, held_bytes::PLACE * j, regions) {
+            return with_normal(test);
+        }
+    }
+    let t = row_bytes::trb_at(row, j);
+    let given = row_bytes::result_at(results, test.tds);
+    row_questions::test_trb(test, t, given, regions)
+}
+
 // What the questions ask of the first `count` TRBs.
 fn test_row(row: &[u8], results: &[u8], count: usize, regions: Regions) -> RowTest
     requires { ⌜ (count ≤ length (trbsIn (now row))) × (count ≤ maxRow) ⌝ }
@@ -137,9 +195,7 @@ fn test_row(row: &[u8], results: &[u8], count: usize, regions: Regions) -> RowTe
     let mut test = row_questions::untested();
     let mut j: usize = 0;
     while j < count {
-        let t = row_bytes::trb_at(row, j);
-        let given = row_bytes::result_at(results, test.tds);
-        test = row_questions::test_trb(test, t, given, regions);
+        test = test_at(test, row, j, results, regions);
         j += 1;
     }
     test

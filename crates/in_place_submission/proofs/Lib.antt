@@ -1,2 +1,3 @@
 pub mod OutcomeLaws
 pub mod SubmissionLaws
+pub mod CollectedLaws

@@ -7,19 +7,20 @@ use in_block::Outcome;
 use trb::Answer;
 use trb::Refusal;
 ghost use mathlib.Core.Path.{_≡_};
+ghost use mathlib.Core.Bool.{true, not};
 ghost use mathlib.Core.List.{[], _∷_};
 ghost use Prim.Native.Nat.{_≤_, _<_};
 ghost use lib.ListN.{length, take};
 ghost use Rattle.trb.specs.Limits.{maxHeld, minLog};
 ghost use Rattle.log.specs.Calls.{Put};
-ghost use Rattle.guest_memory.specs.Regions.{guestRegions};
+ghost use Rattle.guest_memory.specs.Regions.{guestRegions, shareAnAddress};
 ghost use Rattle.in_block.specs.Facts.{heldTest};
 ghost use Rattle.in_block.specs.Outcomes.{outcomeOf};
 ghost use Rattle.in_endpoint.specs.Submission.{requestOf};
 ghost use Rattle.held_bytes.specs.Numbers.{trbOf};
 ghost use Rattle.in_bytes.specs.Layout.{blockLength, endpointOf, slotOf, places};
 ghost use Rattle.in_place_questions.specs.Lent.{lentLog};
-ghost use Rattle.in_place_submission.specs.Submission.{SubmitsInPlace};
+ghost use Rattle.in_place_submission.specs.Submission.{Collected, SubmitsInPlace};
 
 // What becomes of a TRB behind the first `held`. Only at the end of a TD it is asked whether that has a Normal.
 fn outcome_of(block: &[u8], held: usize, numbers: TrbNumbers) -> Outcome
@@ -80,6 +81,50 @@ fn submit(log: &mut [u8], block: &mut [u8], numbers: TrbNumbers, regions: Region
     }
 }
 
+// ---- A TRB that is collected
+
+// Do the regions share no address? Guest memory in one region has nothing to share.
+fn share_none(regions: Regions) -> bool
+    ensures { λ r. ⌜ r ≡ not (shareAnAddress regions) ⌝ }
+{
+    let high = regions.high;
+    if high.len == 0 {
+        return true;
+    }
+    !guest_memory::share_an_address(regions)
+}
+
+// Is it a Normal with chain on, and does every question say yes? So it is of every TRB of a long TD but the last, in a few tests.
+fn is_collected(log_length: usize, block: &[u8], numbers: TrbNumbers, regions: Regions) -> bool
+    requires { ⌜ blockLength ≤ length (now block) ⌝ }
+    ensures { λ r. ⌜ (r ≡ true → Collected «log_length» (now (block .entry)) (trbOf numbers) regions) ⌝ }
+{
+    if numbers.kind as u32 != raw_trb::NORMAL {
+        return false;
+    }
+    if !held_bytes::bit(numbers.flags, 2) {
+        return false;
+    }
+    if !in_place_questions::is_sound_in(in_place_store::DUE, block) {
+        return false;
+    }
+    if log_length < trb::MIN_LOG {
+        return false;
+    }
+    if !share_none(regions) {
+        return false;
+    }
+    let held = buffers::le16(block, 4) as usize;
+    let answer = in_numbers::ask_of_normal(
+        held,
+        numbers.flags,
+        numbers.value,
+        numbers.transfer_length,
+        regions,
+    );
+    trb::is_accepted(answer)
+}
+
 // Takes a TRB, given by numbers; ports `submit_trb`. Of guest memory only the regions' bases and lengths are asked for.
 pub fn submit_trb(
     log: &mut [u8],
@@ -96,5 +141,10 @@ pub fn submit_trb(
         return answer_numbers::answered_as(Answer::Refused(Refusal::BufferTooShort), 0);
     }
     let regions = guest_memory::guest_regions(low_base, low_len, high_base, high_len);
+    if is_collected(log.len(), block, numbers, regions) {
+        let held = buffers::le16(block, 4);
+        in_place_store::store(block, held, numbers, in_place_store::COLLECTING);
+        return answer_numbers::answered_as(Answer::Accepted, 0);
+    }
     submit(log, block, numbers, regions)
 }

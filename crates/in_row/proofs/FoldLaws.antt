@@ -35,7 +35,7 @@ use Rattle.row_walk.specs.Rows.{RowTd, withResults, rowTds, movedBy, completed,
 use Rattle.row_walk.specs.Tds.{inFront, tdsOf, endsTd}
 use Rattle.row_walk.specs.declared.RowProgress.{RowProgress}
 use Rattle.row_walk.specs.declared.TdResult.{TdResult}
-use Rattle.row_questions.specs.Questions.{eachTrb, givenRightly, supportedIn, rowQuestions}
+use Rattle.row_questions.specs.Questions.{eachTrb, givenRightly, inSupported, rowQuestions}
 use Rattle.row_questions.proofs.QuestionLaws.{PassedTrb, passed-trb, PassedRow, passed-row}
 use Rattle.row_questions.proofs.RowTestLaws.{endsTd-tail, goes-on, some-tds}
 use Rattle.in_row.specs.Completion.{walked, rowCompletion}
@@ -89,22 +89,22 @@ accepted-front regions h t ([] ∷ tds) some k on f = absurd (f .0)
 accepted-front regions h t ((u ∷ us) ∷ tds) some k on f = ((k, (on, f .0)), f .1)
 
 -- a TRB of a supported kind that no question refuses
-pub accepted-one : (regions : Regions) (h : ℕ) (t : TransferTrb) (ts : List TransferTrb) → PassedTrb regions h t ts → supportedIn t ≡ true → AcceptedTrb regions h t
+pub accepted-one : (regions : Regions) (h : ℕ) (t : TransferTrb) (ts : List TransferTrb) → PassedTrb regions h t ts → inSupported t ≡ true → AcceptedTrb regions h t
 accepted-one regions h t ts y kind =
     let place : leb (h + 1) maxHeld ≡ true = rw kind at (y .place) in
     record { kind = kind; own = y .own; short = y .short; place = omega (arith, leb-true (h + 1) maxHeld place) }
 
-takes-each : (regions : Regions) (h : ℕ) (ts : List TransferTrb) → firstNo (eachTrb regions h ts) ≡ 0 → all supportedIn ts ≡ true → endsTd ts ≡ true → EachTakes regions h (tdsOf ts)
+takes-each : (regions : Regions) (h : ℕ) (ts : List TransferTrb) → firstNo (eachTrb regions h ts) ≡ 0 → all inSupported ts ≡ true → endsTd ts ≡ true → EachTakes regions h (tdsOf ts)
 unfolding tdsOf all
 takes-each regions h [] none kinds whole = tt
 takes-each regions h (t ∷ ts) none kinds whole =
-    by-chain (chainOf (t .variant)) refl (takes-each regions (cond (chainOf (t .variant)) (h + 1) 0) ts (y .rest) (and-right (supportedIn t) (all supportedIn ts) kinds) (endsTd-tail t ts whole))
+    by-chain (chainOf (t .variant)) refl (takes-each regions (cond (chainOf (t .variant)) (h + 1) 0) ts (y .rest) (and-right (inSupported t) (all inSupported ts) kinds) (endsTd-tail t ts whole))
   where
     y : PassedTrb regions h t ts
     y = passed-trb regions h t ts none
 
-    kind : supportedIn t ≡ true
-    kind = and-left (supportedIn t) (all supportedIn ts) kinds
+    kind : inSupported t ≡ true
+    kind = and-left (inSupported t) (all inSupported ts) kinds
 
     own : AcceptedTrb regions h t
     own = accepted-one regions h t ts y kind

@@ -22,7 +22,7 @@ use Rattle.td_part.proofs.PartLaws as parts
 use Rattle.walks.proofs.WalkLaws.{Walker, Fine}
 use Rattle.in_td.specs.declared.InTd.{InTd}
 use Rattle.in_td.specs.declared.TdProcessed.{TdProcessed}
-use Rattle.in_td.specs.Td.{goingOn, goesOn, endsWith, endingNormal, isDone, normalIn, handleNormal, trbIn, processTrb, ended}
+use Rattle.in_td.specs.Td.{goingOn, goesOn, endsWith, endingNormal, isDone, normalByState, handleNormal, trbByKind, processTrb, ended}
 
 -- ---- Cases
 
@@ -39,9 +39,9 @@ module _ (td : InTd) (p : TdProcessed) (n : NormalTrb) (a : ℕ) (cycle : Bool) 
   abbrev residual : ℕ
   residual = residualOf (td .info) (p .progress) (n .«transfer_length»)
 
-  pub normal-in-state : {s : TdProcessingState} → p .progress .state ≡ s → handleNormal td p n a cycle ≡ normalIn s td (p .«normals_left») (p .progress) n a cycle
+  pub normal-in-state : {s : TdProcessingState} → p .progress .state ≡ s → handleNormal td p n a cycle ≡ normalByState s td (p .«normals_left») (p .progress) n a cycle
   unfolding handleNormal
-  normal-in-state e = ap (λ (s : TdProcessingState). normalIn s td (p .«normals_left») (p .progress) n a cycle) e
+  normal-in-state e = ap (λ (s : TdProcessingState). normalByState s td (p .«normals_left») (p .progress) n a cycle) e
 
   pub normal-done : p .progress .state ≡ Default → isDone td (p .«normals_left») residual ≡ true
       → handleNormal td p n a cycle ≡ goesOn (p .«normals_left» - 1) (realizeDma (td .info) (p .progress) (ofNormal n a))
@@ -52,9 +52,9 @@ module _ (td : InTd) (p : TdProcessed) (n : NormalTrb) (a : ℕ) (cycle : Bool) 
   normal-ending e d = normal-in-state e ∙ rw d
 
 pub trb-by : (td : InTd) (p : TdProcessed) (t : TransferTrb) {x : TransferTrbVariant} → t .variant ≡ x
-    → processTrb td p t ≡ trbIn x td p (t .addr) (t .«cycle_bit»)
+    → processTrb td p t ≡ trbByKind x td p (t .addr) (t .«cycle_bit»)
 unfolding processTrb
-trb-by td p t e = ap (λ (x : TransferTrbVariant). trbIn x td p (t .addr) (t .«cycle_bit»)) e
+trb-by td p t e = ap (λ (x : TransferTrbVariant). trbByKind x td p (t .addr) (t .«cycle_bit»)) e
 
 -- ---- Each step keeps within the device's data, logs at most two records, and counts them
 
@@ -97,13 +97,13 @@ module _ (td : InTd) (p : TdProcessed) (g : Good td p) where
   kept-report : (left : ℕ) (due : Bool) (a residual : ℕ) (code : CompletionCode) → Kept td p (goesOn left (reportTrb (td .info) w (w .edtla) due a residual code))
   kept-report left due a residual code = kept-result result.Ok left (parts.kept-report (td .info) w g (w .edtla) due a residual code)
 
-  kept-normal : (s : TdProcessingState) (n : NormalTrb) (a : ℕ) (cycle : Bool) → Kept td p (normalIn s td (p .«normals_left») w n a cycle)
+  kept-normal : (s : TdProcessingState) (n : NormalTrb) (a : ℕ) (cycle : Bool) → Kept td p (normalByState s td (p .«normals_left») w n a cycle)
   kept-normal (ShortTransfer missing) n a cycle = kept-report (p .«normals_left» - 1) (n .«interrupt_on_completion») a missing ShortPacket
   kept-normal Default n a cycle =
       by-test (Kept td p) (isDone td (p .«normals_left») (residualOf (td .info) w (n .«transfer_length»))) _ _ (kept-full (p .«normals_left» - 1) n a)
       (kept-ending (td .status) (p .«normals_left» - 1) n a cycle)
 
-  kept-by : (x : TransferTrbVariant) (a : ℕ) (cycle : Bool) → Kept td p (trbIn x td p a cycle)
+  kept-by : (x : TransferTrbVariant) (a : ℕ) (cycle : Bool) → Kept td p (trbByKind x td p a cycle)
   unfolding handleNormal
   kept-by (Normal n) a cycle = kept-normal (w .state) n a cycle
   kept-by (EventData e) a cycle = kept-result result.Ok (p .«normals_left») (parts.kept-eventData (td .info) w g e)

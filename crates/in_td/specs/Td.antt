@@ -83,28 +83,28 @@ isDone td left residual = eqb residual 0 && not (failsAtLast (td .mode) (td .sta
 
 -- each Normal, until one is short, writes min(its length, bytes left). Full: event Success, residual 0, if IOC. After a short Normal
 -- under Success, later Normals write nothing; those with IOC repeat its residual with code 13
-abbrev pub normalIn : TdProcessingState → InTd → ℕ → TdProgress → NormalTrb → ℕ → Bool → Out TdProcessed
-normalIn (ShortTransfer missing) td left w n a cycle = goesOn (left - 1) (repeatShort (td .info) w missing (n .«interrupt_on_completion») a)
-normalIn Default td left w n a cycle =
+abbrev pub normalByState : TdProcessingState → InTd → ℕ → TdProgress → NormalTrb → ℕ → Bool → Out TdProcessed
+normalByState (ShortTransfer missing) td left w n a cycle = goesOn (left - 1) (repeatShort (td .info) w missing (n .«interrupt_on_completion») a)
+normalByState Default td left w n a cycle =
     cond (isDone td left (residualOf (td .info) w (n .«transfer_length»))) (goesOn (left - 1) (realizeDma (td .info) w (ofNormal n a)))
     (endingNormal (td .status) (td .info) (left - 1) w n a cycle)
 
 unfoldable pub handleNormal : InTd → TdProcessed → NormalTrb → ℕ → Bool → Out TdProcessed
-handleNormal td p n a cycle = normalIn (p .progress .state) td (p .«normals_left») (p .progress) n a cycle
+handleNormal td p n a cycle = normalByState (p .progress .state) td (p .«normals_left») (p .progress) n a cycle
 
 -- what a TRB does, by its kind. The other kinds are never held by a sound block: they do nothing
-abbrev pub trbIn : TransferTrbVariant → InTd → TdProcessed → ℕ → Bool → Out TdProcessed
-trbIn (Normal n) td p a cycle = handleNormal td p n a cycle
-trbIn (EventData e) td p a cycle = goesOn (p .«normals_left») (handleEventData (td .info) (p .progress) e)
-trbIn (NoOp n) td p a cycle = goesOn (p .«normals_left») (reportSuccess (td .info) (p .progress) (p .progress .edtla) (n .«interrupt_on_completion») a)
-trbIn (SetupStage t) td p a cycle = goesOn (p .«normals_left») (silent (p .progress))
-trbIn (DataStage t) td p a cycle = goesOn (p .«normals_left») (silent (p .progress))
-trbIn (StatusStage t) td p a cycle = goesOn (p .«normals_left») (silent (p .progress))
-trbIn Isoch td p a cycle = goesOn (p .«normals_left») (silent (p .progress))
-trbIn Unrecognized td p a cycle = goesOn (p .«normals_left») (silent (p .progress))
+abbrev pub trbByKind : TransferTrbVariant → InTd → TdProcessed → ℕ → Bool → Out TdProcessed
+trbByKind (Normal n) td p a cycle = handleNormal td p n a cycle
+trbByKind (EventData e) td p a cycle = goesOn (p .«normals_left») (handleEventData (td .info) (p .progress) e)
+trbByKind (NoOp n) td p a cycle = goesOn (p .«normals_left») (reportSuccess (td .info) (p .progress) (p .progress .edtla) (n .«interrupt_on_completion») a)
+trbByKind (SetupStage t) td p a cycle = goesOn (p .«normals_left») (silent (p .progress))
+trbByKind (DataStage t) td p a cycle = goesOn (p .«normals_left») (silent (p .progress))
+trbByKind (StatusStage t) td p a cycle = goesOn (p .«normals_left») (silent (p .progress))
+trbByKind Isoch td p a cycle = goesOn (p .«normals_left») (silent (p .progress))
+trbByKind Unrecognized td p a cycle = goesOn (p .«normals_left») (silent (p .progress))
 
 unfoldable pub processTrb : InTd → TdProcessed → TransferTrb → Out TdProcessed
-processTrb td p t = trbIn (t .variant) td p (t .addr) (t .«cycle_bit»)
+processTrb td p t = trbByKind (t .variant) td p (t .addr) (t .«cycle_bit»)
 
 -- ---- The walk
 

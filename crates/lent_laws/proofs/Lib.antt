@@ -1,6 +1,5 @@
 pub mod LentLaws
 pub mod Lending
-pub mod Local
 pub mod Layers
 pub mod CancelLayer
 pub mod CompletionLayer

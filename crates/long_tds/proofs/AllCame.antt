@@ -21,7 +21,7 @@ use Rattle.walks.specs.Walk.{walk}
 use Rattle.in_td.specs.declared.InMode.the-variants.{AsPorted}
 use Rattle.in_td.specs.declared.InTd.{InTd}
 use Rattle.in_td.specs.declared.TdProcessed.{TdProcessed}
-use Rattle.in_td.specs.Td.{normals, trbIn, processTrb, processTd, inTd}
+use Rattle.in_td.specs.Td.{normals, trbByKind, processTrb, processTd, inTd}
 use Rattle.in_td.specs.Normals.{normalOf, requested}
 use Rattle.account.specs.Guest.{any}
 use Rattle.account.proofs.GuestLaws.{any-append}
@@ -35,7 +35,7 @@ succeeds-behind own o h rest = record { result = rest .result; codes = any-appen
 
 -- a TRB of another kind than Normal, before a short one
 other-codes : (td : InTd) (start edtla count left : ℕ) (v : TransferTrbVariant) (a : ℕ) (cycle : Bool) → normalOf v ≡ none
-    → any notSuccess (trbIn v td (reached start edtla Default count left) a cycle .records) ≡ false
+    → any notSuccess (trbByKind v td (reached start edtla Default count left) a cycle .records) ≡ false
 other-codes td start edtla count left (Normal m) a cycle h = let z : _≡_ {A = ℕ} 0 1 = cc in absurd (omega arith)
 other-codes td start edtla count left (EventData t) a cycle h = any-when notSuccess (t .«interrupt_on_completion») _ refl
 other-codes td start edtla count left (NoOp t) a cycle h = any-when notSuccess (t .«interrupt_on_completion») _ refl

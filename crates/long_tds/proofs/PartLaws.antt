@@ -97,13 +97,13 @@ module _ (td : InTd) (left : ℕ) (w : TdProgress) (k : keptFits (w .state) ≡ 
   default-turn false n a cycle h = ending-turn (td .status) n a cycle h
 
   normal-turn : (s : TdProcessingState) (n : NormalTrb) (a : ℕ) (cycle : Bool) → keptFits s ≡ true → n .«transfer_length» ≤ maxTransferLength
-      → Turn (in-td.normalIn s td left w n a cycle)
+      → Turn (in-td.normalByState s td left w n a cycle)
   normal-turn Default n a cycle fits h = default-turn (in-td.isDone td left (residualOf (td .info) w (n .«transfer_length»))) n a cycle h
   normal-turn (ShortTransfer missing) n a cycle fits h = grown-report (td .info) w k (w .edtla) (n .«interrupt_on_completion») a missing ShortPacket (omega arith) fits
 
 module _ (td : InTd) (p : TdProcessed) (k : keptFits (p .progress .state) ≡ true) where
   trb-turn : (v : TransferTrbVariant) (a : ℕ) (cycle : Bool) → leb (transferLength v) maxTransferLength ≡ true
-      → Bounded 1 (p .progress) (in-td.trbIn v td p a cycle .state .progress) (in-td.trbIn v td p a cycle .records)
+      → Bounded 1 (p .progress) (in-td.trbByKind v td p a cycle .state .progress) (in-td.trbByKind v td p a cycle .records)
   unfolding in-td.handleNormal
   trb-turn (Normal n) a cycle h = normal-turn td (p .«normals_left») (p .progress) k (p .progress .state) n a cycle k (leb-true (n .«transfer_length») maxTransferLength h)
   trb-turn (EventData t) a cycle h = grown-eventData (td .info) (p .progress) k t
@@ -127,7 +127,7 @@ module _ (td : ControlTd) (w : TdProgress) (k : keptFits (w .state) ≡ true) wh
   data-turn true d h = grown-realized (td .info) w k d h
   data-turn false d h = grown-report (td .info) w k _ (d .«interrupt_on_completion») (d .addr) 0 Success (omega arith) refl
 
-  chain-normal : (s : TdProcessingState) (t : NormalTrb) (a : ℕ) → keptFits s ≡ true → t .«transfer_length» ≤ maxTransferLength → Grown w (chain.normalIn s td w t a)
+  chain-normal : (s : TdProcessingState) (t : NormalTrb) (a : ℕ) → keptFits s ≡ true → t .«transfer_length» ≤ maxTransferLength → Grown w (chain.normalByState s td w t a)
   chain-normal Default t a fits h = data-turn (td .input) (ofNormal t a) h
   chain-normal (ShortTransfer missing) t a fits h = grown-report (td .info) w k (w .edtla) (t .«interrupt_on_completion») a missing ShortPacket (omega arith) fits
 
@@ -142,7 +142,7 @@ data-stage-turn td w t a k h =
     let g = data-turn td (chain.edtlaZeroed w) k (td .input) (ofDataStage t a) h in
     record { edtla = omega (arith, g .edtla); kept = g .kept; residuals = g .residuals }
 
-chain-trb : (td : ControlTd) (w : TdProgress) (v : TransferTrbVariant) (a : ℕ) → keptFits (w .state) ≡ true → leb (transferLength v) maxTransferLength ≡ true → Grown w (chain.trbIn v td w a)
+chain-trb : (td : ControlTd) (w : TdProgress) (v : TransferTrbVariant) (a : ℕ) → keptFits (w .state) ≡ true → leb (transferLength v) maxTransferLength ≡ true → Grown w (chain.trbByKind v td w a)
 unfolding chain.realizeNormal
 chain-trb td w (SetupStage t) a k h = stage-turn td w k (t .«interrupt_on_completion») a
 chain-trb td w (DataStage t) a k h = data-stage-turn td w t a k (leb-true (t .«transfer_length») maxTransferLength h)

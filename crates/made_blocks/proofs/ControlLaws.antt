@@ -36,7 +36,7 @@ use Rattle.guest_memory.specs.Regions.{shareAnAddress}
 use Rattle.phase_table.specs.declared.Outcome.{Outcome}
 use Rattle.phase_table.specs.declared.Outcome.the-variants as outcome
 use Rattle.phase_table.specs.Outcomes.{holds, restarts, phaseAfter, stateAfter}
-use Rattle.phase_table.specs.Table.{setupStageIn, trbOutcome}
+use Rattle.phase_table.specs.Table.{setupStageOutcome, trbOutcome}
 use Rattle.control_block.specs.declared.BlockFacts.{BlockFacts}
 use Rattle.control_block.specs.declared.ControlBlock.{ControlBlock}
 use Rattle.control_block.specs.declared.ControlTransfer.{ControlTransfer}
@@ -220,7 +220,7 @@ module _ (b : ControlBlock) (n : ℕ) (k : Kept b n) where
   unfolding trbOutcome
   setup-first due v s e = rw e (by (b .phase) (k .nothing-held due))
     where
-      by : (phase : ControlTransferState) → (expectsSetup phase ≡ true → b .held ≡ 0) → submitting.droppedBefore (setupStageIn phase) b .held ≡ 0
+      by : (phase : ControlTransferState) → (expectsSetup phase ≡ true → b .held ≡ 0) → submitting.droppedBefore (setupStageOutcome phase) b .held ≡ 0
       by ExpectSetupStageTrb none = none refl
       by MaybeDataStageTrb none = refl
       by MoreData none = refl

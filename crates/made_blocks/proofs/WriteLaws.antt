@@ -22,7 +22,7 @@ use Rattle.td_part.specs.declared.TrbDmaInfo.{TrbDmaInfo}
 use Rattle.td_part.specs.Parts.{ofNormal, ofDataStage, residualOf, codeFor, dueFor, eventAt, putDma, realizeDma}
 use Rattle.account.specs.Guest.{isWrite, writeLengths}
 use Rattle.account.proofs.GuestLaws.{writeLengths-append}
-use Rattle.control_chain.specs.Chain.{edtlaZeroed, moveOut, normalIn, realizeDataStage, realizeNormal, trbIn, realizeTrb, never}
+use Rattle.control_chain.specs.Chain.{edtlaZeroed, moveOut, normalByState, realizeDataStage, realizeNormal, trbByKind, realizeTrb, never}
 use Rattle.control_chain.specs.declared.ControlTd.{ControlTd}
 use Rattle.made_blocks.specs.Held.{lengths}
 
@@ -44,11 +44,11 @@ module _ (td : ControlTd) (w : TdProgress) where
       writes-dma (td .info) w d (dueFor d residual) (codeFor residual)
   writes-data false d = writes-none (d .«interrupt_on_completion») _ _ refl
 
-  writes-normal : (s : TdProcessingState) (t : NormalTrb) (a : ℕ) → writeLengths (normalIn s td w t a .records) ≤ t .«transfer_length»
+  writes-normal : (s : TdProcessingState) (t : NormalTrb) (a : ℕ) → writeLengths (normalByState s td w t a .records) ≤ t .«transfer_length»
   writes-normal Default t a = writes-data (td .input) (ofNormal t a)
   writes-normal (ShortTransfer missing) t a = writes-none (t .«interrupt_on_completion») _ _ refl
 
-writes-trb : (td : ControlTd) (w : TdProgress) (v : TransferTrbVariant) (a : ℕ) → writeLengths (trbIn v td w a .records) ≤ transferLength v
+writes-trb : (td : ControlTd) (w : TdProgress) (v : TransferTrbVariant) (a : ℕ) → writeLengths (trbByKind v td w a .records) ≤ transferLength v
 unfolding realizeDataStage realizeNormal
 writes-trb td w (SetupStage t) a = writes-none (t .«interrupt_on_completion») _ _ refl
 writes-trb td w (DataStage t) a = writes-data td (edtlaZeroed w) (td .input) (ofDataStage t a)

@@ -29,52 +29,52 @@ abbrev pub statusTaken : Bool → Outcome
 statusTaken chain = cond chain TakeChainedStatus SubmitRequest
 
 -- Setup is taken in every phase; outside ExpectSetupStageTrb it first clears the held TRBs
-abbrev pub setupStageIn : ControlTransferState → Outcome
-setupStageIn ExpectSetupStageTrb = StartTransfer
-setupStageIn MaybeDataStageTrb = RestartTransfer
-setupStageIn MoreData = RestartTransfer
-setupStageIn ExpectStatusStageTrb = RestartTransfer
-setupStageIn ExpectFinalEventDataTrb = RestartTransfer
+abbrev pub setupStageOutcome : ControlTransferState → Outcome
+setupStageOutcome ExpectSetupStageTrb = StartTransfer
+setupStageOutcome MaybeDataStageTrb = RestartTransfer
+setupStageOutcome MoreData = RestartTransfer
+setupStageOutcome ExpectStatusStageTrb = RestartTransfer
+setupStageOutcome ExpectFinalEventDataTrb = RestartTransfer
 
 -- MaybeDataStageTrb: also taken DataStage
-abbrev pub dataStageIn : ControlTransferState → Bool → Outcome
-dataStageIn ExpectSetupStageTrb chain = Unexpected
-dataStageIn MaybeDataStageTrb chain = dataTaken chain
-dataStageIn MoreData chain = Unexpected
-dataStageIn ExpectStatusStageTrb chain = Unexpected
-dataStageIn ExpectFinalEventDataTrb chain = Unexpected
+abbrev pub dataStageOutcome : ControlTransferState → Bool → Outcome
+dataStageOutcome ExpectSetupStageTrb chain = Unexpected
+dataStageOutcome MaybeDataStageTrb chain = dataTaken chain
+dataStageOutcome MoreData chain = Unexpected
+dataStageOutcome ExpectStatusStageTrb chain = Unexpected
+dataStageOutcome ExpectFinalEventDataTrb chain = Unexpected
 
 -- MaybeDataStageTrb, ExpectStatusStageTrb: also taken StatusStage
-abbrev pub statusStageIn : ControlTransferState → Bool → Outcome
-statusStageIn ExpectSetupStageTrb chain = Unexpected
-statusStageIn MaybeDataStageTrb chain = statusTaken chain
-statusStageIn MoreData chain = Unexpected
-statusStageIn ExpectStatusStageTrb chain = statusTaken chain
-statusStageIn ExpectFinalEventDataTrb chain = Unexpected
+abbrev pub statusStageOutcome : ControlTransferState → Bool → Outcome
+statusStageOutcome ExpectSetupStageTrb chain = Unexpected
+statusStageOutcome MaybeDataStageTrb chain = statusTaken chain
+statusStageOutcome MoreData chain = Unexpected
+statusStageOutcome ExpectStatusStageTrb chain = statusTaken chain
+statusStageOutcome ExpectFinalEventDataTrb chain = Unexpected
 
 -- MoreData: also taken Normal, EventData
-abbrev pub normalIn : ControlTransferState → Bool → Outcome
-normalIn ExpectSetupStageTrb chain = Unexpected
-normalIn MaybeDataStageTrb chain = Unexpected
-normalIn MoreData chain = dataTaken chain
-normalIn ExpectStatusStageTrb chain = Unexpected
-normalIn ExpectFinalEventDataTrb chain = Unexpected
+abbrev pub normalOutcome : ControlTransferState → Bool → Outcome
+normalOutcome ExpectSetupStageTrb chain = Unexpected
+normalOutcome MaybeDataStageTrb chain = Unexpected
+normalOutcome MoreData chain = dataTaken chain
+normalOutcome ExpectStatusStageTrb chain = Unexpected
+normalOutcome ExpectFinalEventDataTrb chain = Unexpected
 
 -- ExpectFinalEventDataTrb: also taken EventData, then request
-abbrev pub eventDataIn : ControlTransferState → Bool → Outcome
-eventDataIn ExpectSetupStageTrb chain = Unexpected
-eventDataIn MaybeDataStageTrb chain = Unexpected
-eventDataIn MoreData chain = dataTaken chain
-eventDataIn ExpectStatusStageTrb chain = Unexpected
-eventDataIn ExpectFinalEventDataTrb chain = SubmitRequest
+abbrev pub eventDataOutcome : ControlTransferState → Bool → Outcome
+eventDataOutcome ExpectSetupStageTrb chain = Unexpected
+eventDataOutcome MaybeDataStageTrb chain = Unexpected
+eventDataOutcome MoreData chain = dataTaken chain
+eventDataOutcome ExpectStatusStageTrb chain = Unexpected
+eventDataOutcome ExpectFinalEventDataTrb chain = SubmitRequest
 
 -- the table, by phase, kind and chain bit
 abbrev pub outcomeOf : ControlTransferState → TrbKind → Bool → Outcome
-outcomeOf phase kind.SetupStage chain = setupStageIn phase
-outcomeOf phase kind.DataStage chain = dataStageIn phase chain
-outcomeOf phase kind.StatusStage chain = statusStageIn phase chain
-outcomeOf phase kind.Normal chain = normalIn phase chain
-outcomeOf phase kind.EventData chain = eventDataIn phase chain
+outcomeOf phase kind.SetupStage chain = setupStageOutcome phase
+outcomeOf phase kind.DataStage chain = dataStageOutcome phase chain
+outcomeOf phase kind.StatusStage chain = statusStageOutcome phase chain
+outcomeOf phase kind.Normal chain = normalOutcome phase chain
+outcomeOf phase kind.EventData chain = eventDataOutcome phase chain
 outcomeOf phase kind.NoOp chain = Unsupported
 outcomeOf phase kind.Isoch chain = Unsupported
 outcomeOf phase kind.Unrecognized chain = Unrecognized

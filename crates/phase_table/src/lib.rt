@@ -4,7 +4,7 @@ use trb::ControlSubmissionState;
 use trb::ControlTransferState;
 use trb::TransferTrbVariant;
 ghost use mathlib.Core.Path.{_≡_};
-ghost use Rattle.phase_table.specs.Table.{kindOf, dataTaken, statusTaken, setupStageIn, dataStageIn, statusStageIn, normalIn, eventDataIn, outcomeOf, trbOutcome};
+ghost use Rattle.phase_table.specs.Table.{kindOf, dataTaken, statusTaken, setupStageOutcome, dataStageOutcome, statusStageOutcome, normalOutcome, eventDataOutcome, outcomeOf, trbOutcome};
 ghost use Rattle.phase_table.specs.Outcomes.{holds, restarts, requests, phaseAfter, stateAfter};
 
 pub enum TrbKind {
@@ -40,6 +40,7 @@ pub enum Outcome {
     Unrecognized,
 }
 
+// The kind by which the phase table asks for a TRB.
 pub fn kind_of(variant: TransferTrbVariant) -> TrbKind
     ensures { λ r. ⌜ r ≡ kindOf variant ⌝ }
 {
@@ -78,7 +79,7 @@ fn status_taken(chain: bool) -> Outcome
 }
 
 fn setup_stage_in(phase: ControlTransferState) -> Outcome
-    ensures { λ r. ⌜ r ≡ setupStageIn phase ⌝ }
+    ensures { λ r. ⌜ r ≡ setupStageOutcome phase ⌝ }
 {
     match phase {
         ControlTransferState::ExpectSetupStageTrb => Outcome::StartTransfer,
@@ -90,7 +91,7 @@ fn setup_stage_in(phase: ControlTransferState) -> Outcome
 }
 
 fn data_stage_in(phase: ControlTransferState, chain: bool) -> Outcome
-    ensures { λ r. ⌜ r ≡ dataStageIn phase chain ⌝ }
+    ensures { λ r. ⌜ r ≡ dataStageOutcome phase chain ⌝ }
 {
     match phase {
         ControlTransferState::ExpectSetupStageTrb => Outcome::Unexpected,
@@ -102,7 +103,7 @@ fn data_stage_in(phase: ControlTransferState, chain: bool) -> Outcome
 }
 
 fn status_stage_in(phase: ControlTransferState, chain: bool) -> Outcome
-    ensures { λ r. ⌜ r ≡ statusStageIn phase chain ⌝ }
+    ensures { λ r. ⌜ r ≡ statusStageOutcome phase chain ⌝ }
 {
     match phase {
         ControlTransferState::ExpectSetupStageTrb => Outcome::Unexpected,
@@ -114,7 +115,7 @@ fn status_stage_in(phase: ControlTransferState, chain: bool) -> Outcome
 }
 
 fn normal_in(phase: ControlTransferState, chain: bool) -> Outcome
-    ensures { λ r. ⌜ r ≡ normalIn phase chain ⌝ }
+    ensures { λ r. ⌜ r ≡ normalOutcome phase chain ⌝ }
 {
     match phase {
         ControlTransferState::ExpectSetupStageTrb => Outcome::Unexpected,
@@ -126,7 +127,7 @@ fn normal_in(phase: ControlTransferState, chain: bool) -> Outcome
 }
 
 fn event_data_in(phase: ControlTransferState, chain: bool) -> Outcome
-    ensures { λ r. ⌜ r ≡ eventDataIn phase chain ⌝ }
+    ensures { λ r. ⌜ r ≡ eventDataOutcome phase chain ⌝ }
 {
     match phase {
         ControlTransferState::ExpectSetupStageTrb => Outcome::Unexpected,

@@ -93,7 +93,8 @@ pub extern "C" fn polvihe_control_submit_raw<'a>(
 }
 
 // Completes what was submitted last. Status: 0 a successful IN transfer, 1 Stall, 2 a transaction error, 3 a disconnect, 4 a successful OUT
-// transfer; any other number, no device result is given. Of the device's data only the length is asked for.
+// transfer; any other number, no device result is given. Of the device's data only the length is asked for. The answer is handed on field by
+// field, as by `polvihe_in_complete`.
 #[no_mangle]
 pub extern "C" fn polvihe_control_complete(
     log: &mut [u8],
@@ -103,7 +104,16 @@ pub extern "C" fn polvihe_control_complete(
 ) -> CompletionAnswered
     ensures { λ r. ⌜ CompletesInPlace (lentLog (now (log .entry)) (now (block .entry))) (resultOf status) «data_length» (now (log .entry)) (now (block .entry)) r (now (log .exit)) (now (block .exit)) ⌝ }
 {
-    control_in_place::next_completion(log, block, status, data_length)
+    let answered = control_in_place::next_completion(log, block, status, data_length);
+    CompletionAnswered {
+        number: answered.number,
+        result: answered.result,
+        code: answered.code,
+        located: answered.located,
+        cycle_bit: answered.cycle_bit,
+        records: answered.records,
+        address: answered.address,
+    }
 }
 
 // Changes nothing. Answers 0, or 1 where the bytes are too few for a block.

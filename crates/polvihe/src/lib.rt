@@ -461,7 +461,8 @@ pub extern "C" fn polvihe_in_submit(
 }
 
 // Completes what was submitted last, with so many bytes of the device's data. Status: 0 Success, 1 Stall, 2 a transaction error, 3 a
-// disconnect; any other number, no device result is given.
+// disconnect; any other number, no device result is given. The answer is handed on field by field: copied whole it is stored in parts that cut a
+// field in two, and the caller waits for them where it reads that field.
 #[no_mangle]
 pub extern "C" fn polvihe_in_complete(
     log: &mut [u8],
@@ -471,7 +472,16 @@ pub extern "C" fn polvihe_in_complete(
 ) -> CompletionAnswered
     ensures { λ r. ⌜ CompletesInPlace (lentLog (now (log .entry)) (now (block .entry))) (resultOf status) «data_length» (now (log .entry)) (now (block .entry)) r (now (log .exit)) (now (block .exit)) ⌝ }
 {
-    in_place::next_completion(log, block, status, data_length)
+    let answered = in_place::next_completion(log, block, status, data_length);
+    CompletionAnswered {
+        number: answered.number,
+        result: answered.result,
+        code: answered.code,
+        located: answered.located,
+        cycle_bit: answered.cycle_bit,
+        records: answered.records,
+        address: answered.address,
+    }
 }
 
 // Empties the block: a submission is due. Answers 0, or 1.

@@ -24,7 +24,7 @@ use Rattle.td_part.specs.declared.TrbDmaInfo.{TrbDmaInfo}
 use Rattle.td_part.specs.Parts.{ofNormal, ofDataStage, atStart, residualOf, codeAfter, putDma, realizeDma}
 use Rattle.walks.specs.Walk.{walk}
 use Rattle.walks.proofs.WalkLaws.{walk-records}
-use Rattle.in_td.specs.Td.{normals, goesOn, endingNormal, isDone, normalIn, handleNormal, processTrb, processTd, inTd, ended, unprocessed}
+use Rattle.in_td.specs.Td.{normals, goesOn, endingNormal, isDone, normalByState, handleNormal, processTrb, processTd, inTd, ended, unprocessed}
 use Rattle.in_td.specs.declared.InMode.{InMode}
 use Rattle.in_td.specs.declared.TdProcessed.{TdProcessed}
 use Rattle.in_td.specs.Td as td
@@ -68,7 +68,7 @@ module _ (e : EndpointId) (s : SlotId) where
       ending-ids status.TransactionError m a cycle = put-ids w (ofNormal m a) true UsbTransactionError
       ending-ids status.Disconnect m a cycle = put-ids w (ofNormal m a) true UsbTransactionError
 
-      normal-ids : (state : TdProcessingState) (m : NormalTrb) (a : ℕ) (cycle : Bool) → AllOf e s (normalIn state (inTd e s mode st n) left w m a cycle .records)
+      normal-ids : (state : TdProcessingState) (m : NormalTrb) (a : ℕ) (cycle : Bool) → AllOf e s (normalByState state (inTd e s mode st n) left w m a cycle .records)
       normal-ids (ShortTransfer missing) m a cycle = event-ids (m .«interrupt_on_completion») a missing ShortPacket false
       normal-ids Default m a cycle = by-test (isDone (inTd e s mode st n) left (residualOf info w (m .«transfer_length»)))
         where
@@ -76,7 +76,7 @@ module _ (e : EndpointId) (s : SlotId) where
           by-test true = realize-ids w (ofNormal m a)
           by-test false = ending-ids st m a cycle
 
-    trb-ids : (mode : InMode) (st : InTrbProcessingStatus) (p : TdProcessed) (v : TransferTrbVariant) (a : ℕ) (cycle : Bool) → AllOf e s (td.trbIn v (inTd e s mode st n) p a cycle .records)
+    trb-ids : (mode : InMode) (st : InTrbProcessingStatus) (p : TdProcessed) (v : TransferTrbVariant) (a : ℕ) (cycle : Bool) → AllOf e s (td.trbByKind v (inTd e s mode st n) p a cycle .records)
     unfolding handleNormal
     trb-ids mode st p (Normal m) a cycle = normal-ids mode st (p .«normals_left») (p .progress) (p .progress .state) m a cycle
     trb-ids mode st p (EventData t) a cycle = event-ids (t .«interrupt_on_completion») (t .«event_data») (p .progress .edtla) (codeAfter (p .progress .state)) true
@@ -103,11 +103,11 @@ module _ (e : EndpointId) (s : SlotId) where
           by-direction true = realize-ids v d
           by-direction false = event-ids (d .«interrupt_on_completion») (d .addr) 0 Success false
 
-      chain-normal-ids : (state : TdProcessingState) (t : NormalTrb) (a : ℕ) → AllOf e s (chain.normalIn state (transferTd e s input n) w t a .records)
+      chain-normal-ids : (state : TdProcessingState) (t : NormalTrb) (a : ℕ) → AllOf e s (chain.normalByState state (transferTd e s input n) w t a .records)
       chain-normal-ids (ShortTransfer missing) t a = event-ids (t .«interrupt_on_completion») a missing ShortPacket false
       chain-normal-ids Default t a = data-ids w (ofNormal t a)
 
-      chain-trb-ids : (v : TransferTrbVariant) (a : ℕ) → AllOf e s (chain.trbIn v (transferTd e s input n) w a .records)
+      chain-trb-ids : (v : TransferTrbVariant) (a : ℕ) → AllOf e s (chain.trbByKind v (transferTd e s input n) w a .records)
       unfolding realizeNormal realizeDataStage
       chain-trb-ids (SetupStage t) a = event-ids (t .«interrupt_on_completion») a 0 Success false
       chain-trb-ids (DataStage t) a = data-ids (edtlaZeroed w) (ofDataStage t a)

@@ -33,7 +33,7 @@ use Rattle.row_walk.specs.Accounts.{startedLogs, joined}
 use Rattle.row_walk.specs.Rows.{RowTd, withResults, hasNormal, movedBy, completed, ownLog, dataLength}
 use Rattle.row_walk.specs.Tds.{inFront, tdsOf}
 use Rattle.row_walk.specs.declared.TdResult.{TdResult}
-use Rattle.row_questions.specs.Questions.{eachTrb, supportedIn}
+use Rattle.row_questions.specs.Questions.{eachTrb, inSupported}
 use Rattle.row_questions.proofs.QuestionLaws.{PassedTrb, passed-trb}
 use Rattle.delivery_laws.specs.Ranges.{InRegions}
 use Rattle.delivery_laws.proofs.RangeLaws.{writesInRange-append, writesInRange-none, writesInRange-processTd}
@@ -126,13 +126,13 @@ module _ (regions : Regions) where
   abbrev inMemory : TransferTrb → Bool
   inMemory t = inGuestMemory (t .variant) regions
 
-  row-inside : (h : ℕ) (ts : List TransferTrb) → firstNo (eachTrb regions h ts) ≡ 0 → all supportedIn ts ≡ true → InRegions regions ts
+  row-inside : (h : ℕ) (ts : List TransferTrb) → firstNo (eachTrb regions h ts) ≡ 0 → all inSupported ts ≡ true → InRegions regions ts
   unfolding all
   row-inside h [] none kinds = refl
   row-inside h (t ∷ ts) none kinds =
       let y : PassedTrb regions h t ts = passed-trb regions h t ts none in
-      rw (passed-window h (t .variant) regions (y .own) (and-left (supportedIn t) (all supportedIn ts) kinds))
-      (row-inside (cond (chainOf (t .variant)) (h + 1) 0) ts (y .rest) (and-right (supportedIn t) (all supportedIn ts) kinds))
+      rw (passed-window h (t .variant) regions (y .own) (and-left (inSupported t) (all inSupported ts) kinds))
+      (row-inside (cond (chainOf (t .variant)) (h + 1) 0) ts (y .rest) (and-right (inSupported t) (all inSupported ts) kinds))
 
   -- every TD of the row
   EachInRegions : List (List TransferTrb) → Type 0
@@ -160,7 +160,7 @@ module _ (regions : Regions) where
   with-inside (td ∷ tds) [] inside = tt
   with-inside (td ∷ tds) (r ∷ rs) inside = (inside .0, with-inside tds rs (inside .1))
 
-  pub tds-in-regions : (ts : List TransferTrb) (rs : List TdResult) → firstNo (eachTrb regions 0 ts) ≡ 0 → all supportedIn ts ≡ true
+  pub tds-in-regions : (ts : List TransferTrb) (rs : List TdResult) → firstNo (eachTrb regions 0 ts) ≡ 0 → all inSupported ts ≡ true
       → TdsInRegions regions (withResults (tdsOf ts) rs)
   tds-in-regions ts rs none kinds = with-inside (tdsOf ts) rs (tds-inside ts (row-inside 0 ts none kinds))
 

@@ -33,7 +33,7 @@ use Rattle.row_walk.specs.declared.TdResult.{TdResult}
 use Rattle.row_walk.specs.Rows.{RowTd, withResults, rowTds, dataLength, Walkable}
 use Rattle.row_walk.specs.Tds.{tdsOf, endsTd}
 use Rattle.row_questions.specs.declared.RowTest.{RowTest}
-use Rattle.row_questions.specs.Questions.{eachTrb, givenRightly, supportedIn, rowShaped, rowDue, rowQuestions}
+use Rattle.row_questions.specs.Questions.{eachTrb, givenRightly, inSupported, rowShaped, rowDue, rowQuestions}
 use Rattle.row_questions.specs.Tests.{untested, testedRow, shapedAs, askedAs}
 use Rattle.row_questions.proofs.RowTestLaws.{found-supported, found-ends, ends, found-tds, found-number, found-given, found-rightly, all-from, length-tds, rightly-tds}
 
@@ -124,7 +124,7 @@ module _ (regions : Regions) (results : List TdResult) (ts : List TransferTrb) w
     -- question 15 is what the loop found
     pub shaped-as : (k : ℕ) → rowShaped k ts m (take m results) n ≡ shapedAs k test m n
     unfolding rowShaped
-    shaped-as k = rw (found-supported regions results untested ts, ends-held ts) (ap (λ (x : Bool). leb k maxRow && (all supportedIn ts && x)) (ended-by (endsTd ts) refl))
+    shaped-as k = rw (found-supported regions results untested ts, ends-held ts) (ap (λ (x : Bool). leb k maxRow && (all inSupported ts && x)) (ended-by (endsTd ts) refl))
 
   pub number-as : numberOf (test .asked) ≡ firstNo (eachTrb regions 0 ts)
   number-as = found-number regions results untested ts
@@ -219,7 +219,7 @@ pub record PassedRow (l : ℕ) (regions : Regions) (f : BlockFacts) (k : ℕ) (t
   pub sound : soundBlock f ≡ true
   pub due : rowDue f ≡ true
   pub few : k ≤ maxRow
-  pub kinds : all supportedIn ts ≡ true
+  pub kinds : all inSupported ts ≡ true
   pub whole : endsTd ts ≡ true
   pub each : length (tdsOf ts) ≡ m
   pub sum : dataLength rs ≡ n
@@ -261,7 +261,7 @@ module _ (l : ℕ) (regions : Regions) (f : BlockFacts) (k : ℕ) (ts : List Tra
       let shape = yes-behind (rowDue f) 2 from-shape turn in
       let trbs = yes-behind (rowShaped k ts m rs n) 14 from-trbs shape in
       let later = each-yes (firstNo (eachTrb regions 0 ts)) (firstNo from-data) (eqb (firstNo (eachTrb regions 0 ts)) 0) refl (sym (each-then regions 0 ts from-data) ∙ trbs) in
-      let parts = shape-parts (leb k maxRow) (all supportedIn ts) (endsTd ts) (eqb (length (tdsOf ts)) m) (eqb (dataLength rs) n) (all givenRightly (rowTds ts rs))
+      let parts = shape-parts (leb k maxRow) (all inSupported ts) (endsTd ts) (eqb (length (tdsOf ts)) m) (eqb (dataLength rs) n) (all givenRightly (rowTds ts rs))
       (yes-first (rowShaped k ts m rs n) 14 from-trbs shape) in
       record {
         log-long = leb-true _ _ (yes-first (leb minRowLog l) 0 from-regions none);

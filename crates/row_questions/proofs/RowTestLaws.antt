@@ -29,7 +29,7 @@ use Rattle.row_walk.specs.Rows.{withResults, hasNormal, dataLength, pastResults
 use Rattle.row_walk.specs.Tds.{inFront, tdsOf, endsTd}
 use Rattle.row_walk.proofs.TdsLaws.{tdsOf-cons}
 use Rattle.row_questions.specs.declared.RowTest.{RowTest}
-use Rattle.row_questions.specs.Questions.{eachTrb, mayBeGiven, givenRightly, supportedIn}
+use Rattle.row_questions.specs.Questions.{eachTrb, mayBeGiven, givenRightly, inSupported}
 use Rattle.row_questions.specs.Tests.{answered, askedAlso, untested, testedTrb, testedRow}
 
 -- ---- An answer
@@ -99,10 +99,10 @@ module _ (regions : Regions) (rs : List TdResult) where
   abbrev found : RowTest → List TransferTrb → RowTest
   found a ts = testedRow regions rs a ts
 
-  pub found-supported : (a : RowTest) (ts : List TransferTrb) → found a ts .supported ≡ (a .supported && all supportedIn ts)
+  pub found-supported : (a : RowTest) (ts : List TransferTrb) → found a ts .supported ≡ (a .supported && all inSupported ts)
   unfolding testedRow all
   found-supported a [] = sym (and-true (a .supported))
-  found-supported a (t ∷ ts) = found-supported _ ts ∙ and-assoc (a .supported) (supportedIn t) (all supportedIn ts)
+  found-supported a (t ∷ ts) = found-supported _ ts ∙ and-assoc (a .supported) (inSupported t) (all inSupported ts)
 
   -- the last TRB has its chain bit off
   ended-by : (b : Bool) (h : ℕ) → eqb (cond b (h + 1) 0) 0 ≡ not b

@@ -44,15 +44,15 @@ abbrev pub givenRightly : RowTd → Bool
 givenRightly x = mayBeGiven (hasNormal (x .trbs)) (x .given)
 
 -- Normal, EventData or NoOp
-abbrev pub supportedIn : TransferTrb → Bool
-supportedIn t = supported In (t .variant)
+abbrev pub inSupported : TransferTrb → Bool
+inSupported t = supported In (t .variant)
 
 -- of k TRBs ts, with m results rs and n bytes of data: the row is not over 512 TRBs, has none other than Normal, EventData and NoOp, splits
 -- into whole TDs, has lengths that match its TDs and data, and gives a TD without a Normal nothing but Success and length 0
 unfoldable pub rowShaped : ℕ → List TransferTrb → ℕ → List TdResult → ℕ → Bool
 rowShaped k ts m rs n =
     leb k maxRow
-    && (all supportedIn ts && (endsTd ts && (eqb (length (tdsOf ts)) m && (eqb (dataLength rs) n && all givenRightly (rowTds ts rs)))))
+    && (all inSupported ts && (endsTd ts && (eqb (length (tdsOf ts)) m && (eqb (dataLength rs) n && all givenRightly (rowTds ts rs)))))
 
 -- ---- In order
 

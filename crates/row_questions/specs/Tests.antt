@@ -20,7 +20,7 @@ use Rattle.in_questions.specs.Questions.{trbQuestions}
 use Rattle.row_walk.specs.declared.TdResult.{TdResult}
 use Rattle.row_walk.specs.Rows.{pastResults}
 use Rattle.row_questions.specs.declared.RowTest.{RowTest}
-use Rattle.row_questions.specs.Questions.{supportedIn, mayBeGiven, rowDue}
+use Rattle.row_questions.specs.Questions.{inSupported, mayBeGiven, rowDue}
 
 -- the answer to these questions
 unfoldable pub answered : List (Bool × ℕ) → Answer
@@ -40,7 +40,7 @@ abbrev pub testedTrb : Regions → RowTest → TransferTrb → TdResult → RowT
 testedTrb regions a t r = record {
   asked = askedAlso (a .asked) (trbQuestions (a .held) (t .variant) regions);
   held = cond (chainOf (t .variant)) (a .held + 1) 0;
-  supported = a .supported && supportedIn t;
+  supported = a .supported && inSupported t;
   tds = cond (chainOf (t .variant)) (a .tds) (a .tds + 1);
   «has_normal» = cond (chainOf (t .variant)) (a .«has_normal» || isNormal (t .variant)) false;
   «given_rightly» = cond (chainOf (t .variant)) (a .«given_rightly») (a .«given_rightly» && mayBeGiven (a .«has_normal» || isNormal (t .variant)) r);

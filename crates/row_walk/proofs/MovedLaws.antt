@@ -30,7 +30,7 @@ use Rattle.td_part.specs.declared.TdProcessingState.{TdProcessingState}
 use Rattle.td_part.specs.declared.TdProcessingState.the-variants.{Default, ShortTransfer}
 use Rattle.td_part.specs.declared.TrbDmaInfo.{TrbDmaInfo}
 use Rattle.td_part.specs.Parts.{ofNormal, edtlaAfter, movedOf, residualOf, codeFor, dueFor, stateAfter, codeAfter, progressed, eventAt, putDma, realizeDma, reportTrb, handleEventData}
-use Rattle.in_td.specs.Td.{normals, goesOn, endsWith, endingNormal, isDone, normalIn, handleNormal, trbIn, processTrb, processTd, ended, unprocessed, inTd}
+use Rattle.in_td.specs.Td.{normals, goesOn, endsWith, endingNormal, isDone, normalByState, handleNormal, trbByKind, processTrb, processTd, ended, unprocessed, inTd}
 use Rattle.in_td.specs.declared.InMode.{InMode}
 use Rattle.in_td.specs.declared.TdProcessed.{TdProcessed}
 use Rattle.row_walk.specs.Rows.{movedBy, from}
@@ -117,7 +117,7 @@ module _ (by before : ℕ) where
 
     module _ (mode : InMode) (st : InTrbProcessingStatus) where
       normal-moved : (state : TdProcessingState) (left : ℕ) (w : TdProgress) (m : NormalTrb) (a : ℕ) (cycle : Bool)
-          → normalIn state (inTd e s mode st (by + n)) left (onward w) m a cycle ≡ tdMoved (normalIn state (inTd e s mode st n) left w m a cycle)
+          → normalByState state (inTd e s mode st (by + n)) left (onward w) m a cycle ≡ tdMoved (normalByState state (inTd e s mode st n) left w m a cycle)
       normal-moved (ShortTransfer missing) left w m a cycle = ap (goesOn (left - 1)) (report-moved w (w .edtla) (m .«interrupt_on_completion») a missing ShortPacket)
       normal-moved Default left w m a cycle =
           rw (left-moved w)
@@ -125,7 +125,7 @@ module _ (by before : ℕ) where
           (ap (goesOn (left - 1)) (realized-moved w (ofNormal m a))) (ending-moved w st (left - 1) m a cycle))
 
       trb-moved : (x : TransferTrbVariant) (p : TdProcessed) (a : ℕ) (cycle : Bool)
-          → trbIn x (inTd e s mode st (by + n)) (onwards p) a cycle ≡ tdMoved (trbIn x (inTd e s mode st n) p a cycle)
+          → trbByKind x (inTd e s mode st (by + n)) (onwards p) a cycle ≡ tdMoved (trbByKind x (inTd e s mode st n) p a cycle)
       unfolding handleNormal
       trb-moved (Normal m) p a cycle = normal-moved (p .progress .state) (p .«normals_left») (p .progress) m a cycle
       trb-moved (EventData t) p a cycle = ap (goesOn (p .«normals_left»)) (eventData-moved (p .progress) t)

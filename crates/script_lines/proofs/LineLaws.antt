@@ -1,16 +1,18 @@
 -- Laws of lines and of bytes that move to the front. Assumes nothing.
 use Prim.Native.Nat.{ℕ, _+_, _-_, _≤_, _<_}
 use mathlib.Core.Path.{_≡_, refl, sym, ap, _∙_}
+use mathlib.Core.Bool.{Bool, true, false, cond}
 use mathlib.Core.List.{List, [], _∷_, _++_}
 use native.Mathlib.Numerals.{add-one}
 use native.Mathlib.Omega.{arith}
+use lib.Dec.{ltb}
 use lib.ListN.{length, take, drop, set, getD, length-drop}
 use lib.Seq.{drop-cons, drop-drop, drop-set-lt, drop-length, take-suc, take-suc-set, getD-drop}
-use borrow.Author.Tests.{eq-eqb, ne-eqb}
+use borrow.Author.Tests.{ltb-true, ltb-false, eq-eqb, ne-eqb}
 use Rattle.script_lines.specs.Lines.{lineFeed, firstLine}
-use Rattle.script_lines.specs.Steps.{noLine, AtEnd, Finds, NextLine}
-use Rattle.script_lines.specs.declared.Found.{Found}
-use Rattle.script_lines.specs.declared.Found.the-variants.{Line, Piece, End, Unfinished}
+use Rattle.script_lines.specs.Steps.{PieceRead, atEnd, stepOf, Refills, NextLine}
+use Rattle.script_lines.specs.declared.Refilled.{Refilled}
+use Rattle.script_lines.specs.declared.Refilled.the-variants as refilled
 use Rattle.script_lines.specs.declared.Step.{Step}
 
 module _ (l : List ℕ) (i : ℕ) (h : i < length l) where
@@ -47,21 +49,26 @@ module _ (l m : List ℕ) (from to at : ℕ) (count : to + from ≡ at) (room : 
   pub rest-kept : drop (at + 1) (set m to (getD m at 0)) ≡ drop (at + 1) l
   rest-kept = rw (drop-set-lt (at + 1) m to (getD m at 0) (omega arith)) (sym (drop-drop 1 at m) ∙ (ap (λ (x : List ℕ). drop 1 x) rest ∙ drop-drop 1 at l))
 
--- ---- Steps that find no line
+-- ---- Nothing was read
 
-module _ {l l' : List ℕ} {from filled : ℕ} {s : Step} where
-  pub finds-none : {f : Found} {n : ℕ} → s ≡ noLine f n → n ≤ length l → Finds f l from filled (noLine f n) l' → NextLine l from filled s l'
-  finds-none e room found =
-      rw e (record { stepped = record { line = omega arith; inside = omega arith; left = omega arith; room = room }; finds = found })
+module _ (l l' : List ℕ) (from filled n : ℕ) (held : n + from ≡ filled) where
+  ends-with : (k : Bool) → ltb 0 n ≡ k → Refills (cond k refilled.Unfinished refilled.End) l from filled l'
+  ends-with true e = omega (arith, ltb-true 0 n e)
+  ends-with false e = omega (arith, ltb-false 0 n e)
 
   -- n bytes are held at the end
-  pub finds-end : (n : ℕ) (f : Found) → s ≡ noLine f 0 → AtEnd f n → n + from ≡ filled → NextLine l from filled s l'
-  finds-end n Line e h held = absurd h
-  finds-end n Piece e h held = absurd h
-  finds-end n End e h held = finds-none e (omega arith) (omega arith)
-  finds-end n Unfinished e h held = finds-none e (omega arith) (omega arith)
+  pub refills-end : {e : Refilled} → e ≡ atEnd n → Refills e l from filled l'
+  refills-end e = rw e (ends-with (ltb 0 n) refl)
 
-  -- behind n bytes that stand at the front a piece was read
-  pub finds-piece : {k : ℕ} (n : ℕ) → s ≡ noLine Piece k → k ≤ length l → n + from ≡ filled → n < k → take n l' ≡ take n (drop from l) → NextLine l from filled s l'
-  finds-piece n e room held more front =
-      let same : filled - from ≡ n = omega arith in finds-none e room (record { front = rw same front; more = omega arith; next = refl })
+  -- behind them, at the front, a piece was read
+  pub refills-piece : (k : ℕ) → n < k → k ≤ length l' → take n l' ≡ take n (drop from l) → PieceRead l from filled k l'
+  refills-piece k more room front = let same : filled - from ≡ n = omega arith in record { front = rw same front; more = omega arith; room = room }
+
+-- ---- Steps that find no line
+
+module _ {l l' : List ℕ} {from filled : ℕ} where
+  pub finds-none : (e : Refilled) {s : Step} → s ≡ stepOf e → length l' ≡ length l → Refills e l from filled l' → NextLine l from filled s l'
+  finds-none (refilled.Piece n) e same h =
+      rw e (record { stepped = record { line = omega arith; inside = omega arith; left = omega arith; room = omega (arith, h .room) }; finds = h })
+  finds-none refilled.End e same h = rw e (record { stepped = record { line = omega arith; inside = omega arith; left = omega arith; room = omega arith }; finds = h })
+  finds-none refilled.Unfinished e same h = rw e (record { stepped = record { line = omega arith; inside = omega arith; left = omega arith; room = omega arith }; finds = h })

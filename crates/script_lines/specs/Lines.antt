@@ -1,10 +1,16 @@
 -- The lines of an input, and the bytes of an unfinished one. Assumes nothing.
-use Prim.Native.Nat.{ℕ, _+_, _≤_}
+use Prim.Native.Nat.{ℕ, _+_, _-_, _^_, _<_, _≤_, min}
 use mathlib.Core.Path.{_≡_}
-use mathlib.Core.Bool.{cond}
+use mathlib.Core.Bool.{Bool, cond}
 use mathlib.Core.List.{List, [], _∷_}
-use lib.Dec.{eqb}
+use lib.Dec.{eqb, leb}
 use lib.ListN.{length, take, drop}
+use Rattle.numerals.specs.Widths.{hexPlaces}
+use Rattle.call_number.specs.RawBytes.{rawPlaces}
+
+-- characters of the longest line that can be good: `u`, an address and a raw TRB, and the spaces between them
+abbrev pub maxLine : ℕ
+maxLine = 3 + hexPlaces + rawPlaces
 
 abbrev pub lineFeed : ℕ
 lineFeed = 10
@@ -30,3 +36,17 @@ pub record ReadBehind (n r : ℕ) (l l' : List ℕ) : Type 0 where
   pub more : n ≤ r
   pub room : r ≤ length l'
   pub bytes : take n l' ≡ take n l
+
+-- a number of lines, or where 64 bits do not hold it, their largest number
+abbrev pub counted : ℕ → ℕ
+counted n = min n (2 ^ 64 - 1)
+
+-- of a loop that goes on, or does not, so many turns are left
+pub record TurnsLeft (turns : ℕ) (more : Bool) (r : ℕ) : Type 0 where
+  pub left : r ≡ cond more (turns - 1) 0
+  pub less : r < turns
+
+-- behind a text of n characters, in a buffer of so many, an answer of at most so many starts at r: behind it, or anew where there may be no room
+pub record MakesRoom (size n most r : ℕ) : Type 0 where
+  pub start : r ≡ cond (leb n (size - most)) n 0
+  pub room : r + most ≤ size

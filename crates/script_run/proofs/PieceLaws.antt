@@ -5,21 +5,21 @@ use mathlib.Core.Bool.{Bool, true, false, cond}
 use mathlib.Core.List.{List, [], _∷_, _++_, append-assoc, append-nil}
 use lib.Dec.{eqb}
 use Rattle.script_lines.specs.Lines.{lineFeed}
-use Rattle.script_run.specs.Runs.{Lines, inFront, linesOf, Run, takeLine, takeLines, endOf, runOf, Reading, takePiece, takePieces, joined}
+use Rattle.script_run.specs.Runs.{Lines, inFront, linesOf, Unfed, Run, takeLine, takeLines, endOf, runOf, Reading, takePiece, takePieces, joined}
 
 -- lines, and behind them those of another input
 abbrev linesThen : Lines → Lines → Lines
 linesThen a b = record { whole = a .whole ++ b .whole; rest = b .rest }
 
 -- what the byte c in front of lines makes of them
-abbrev withByte : Bool → ℕ → Lines → Lines
+abbrev pub withByte : Bool → ℕ → Lines → Lines
 withByte k c l = cond k (record { whole = [] ∷ l .whole; rest = l .rest }) (inFront c (l .whole) (l .rest))
 
-linesOf-cons : (c : ℕ) (cs : List ℕ) → linesOf (c ∷ cs) ≡ withByte (eqb c lineFeed) c (linesOf cs)
+pub linesOf-cons : (c : ℕ) (cs : List ℕ) → linesOf (c ∷ cs) ≡ withByte (eqb c lineFeed) c (linesOf cs)
 unfolding linesOf
 linesOf-cons c cs = refl
 
-linesOf-none : linesOf [] ≡ record { whole = []; rest = [] }
+pub linesOf-none : linesOf [] ≡ record { whole = []; rest = [] }
 unfolding linesOf
 linesOf-none = refl
 
@@ -45,10 +45,6 @@ linesOf-append (c ∷ cs) ys =
 
 -- ---- Bytes that no line feed ends
 
--- no line feed stands in them
-abbrev pub Unfed : List ℕ → Type 0
-Unfed l = linesOf l ≡ record { whole = []; rest = l }
-
 front-unfed : (c : ℕ) (w : List (List ℕ)) (r : List ℕ) → eqb c lineFeed ≡ false → Unfed r → Unfed (inFront c w r .rest)
 front-unfed c [] r k e = linesOf-cons c r ∙ rw (k, e)
 front-unfed c (l ∷ ls) r k e = e
@@ -63,19 +59,19 @@ rest-unfed (c ∷ cs) = rw (linesOf-cons c cs) (byte-unfed (eqb c lineFeed) c (l
 
 -- ---- The run
 
-takeLines-append : (bytes : List ℕ) (p : Run) (ls ms : List (List ℕ)) → takeLines bytes p (ls ++ ms) ≡ takeLines bytes (takeLines bytes p ls) ms
+pub takeLines-append : (bytes : List ℕ) (p : Run) (ls ms : List (List ℕ)) → takeLines bytes p (ls ++ ms) ≡ takeLines bytes (takeLines bytes p ls) ms
 unfolding takeLines
 takeLines-append bytes p [] ms = refl
 takeLines-append bytes p (l ∷ ls) ms = takeLines-append bytes (takeLine bytes p l) ls ms
 
 module _ (bytes : List ℕ) where
   -- nothing more changes nothing
-  piece-none : (r : Reading) → Unfed (r .held) → takePiece bytes r [] ≡ r
+  pub piece-none : (r : Reading) → Unfed (r .held) → takePiece bytes r [] ≡ r
   unfolding takePiece takeLines
   piece-none r e = rw (append-nil (r .held), e)
 
   -- one piece behind another is both at once
-  piece-append : (r : Reading) (xs ys : List ℕ) → takePiece bytes (takePiece bytes r xs) ys ≡ takePiece bytes r (xs ++ ys)
+  pub piece-append : (r : Reading) (xs ys : List ℕ) → takePiece bytes (takePiece bytes r xs) ys ≡ takePiece bytes r (xs ++ ys)
   unfolding takePiece
   piece-append r xs ys =
       let both : linesOf (r .held ++ (xs ++ ys)) ≡ linesThen (linesOf (r .held ++ xs)) (linesOf (linesOf (r .held ++ xs) .rest ++ ys)) =

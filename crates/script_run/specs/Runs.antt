@@ -10,7 +10,7 @@ use Rattle.state_text.specs.Widths.{maxAnswer}
 use Rattle.call_script.specs.Calls.{callOf}
 use Rattle.call_script.specs.declared.Call.{Call}
 use Rattle.call_script.specs.declared.Call.the-variants.{Bad}
-use Rattle.script_lines.specs.Lines.{lineFeed}
+use Rattle.script_lines.specs.Lines.{lineFeed, maxLine}
 use Rattle.session.specs.declared.Ran.{Ran}
 use Rattle.session_calls.specs.Answers.{State, Answer, answerOf}
 
@@ -31,6 +31,10 @@ linesOf [] = record { whole = []; rest = [] }
 linesOf (c ∷ cs) =
     cond (eqb c lineFeed) (record { whole = [] ∷ linesOf cs .whole; rest = linesOf cs .rest }) (inFront c (linesOf cs .whole) (linesOf cs .rest))
 
+-- no line feed stands in them
+abbrev pub Unfed : List ℕ → Type 0
+Unfed l = linesOf l ≡ record { whole = []; rest = l }
+
 -- ---- The run
 
 -- what a run has come to: the script's state, lines taken, the text printed, and whether every line was good
@@ -39,10 +43,6 @@ pub record Run : Type 0 where
   pub lines : ℕ
   pub text : List ℕ
   pub good : Bool
-
--- characters of the longest line that can be good: `u`, an address and a raw TRB, and the spaces between them
-abbrev pub maxLine : ℕ
-maxLine = 51
 
 -- the call of a line
 unfoldable pub lineCall : List ℕ → Call

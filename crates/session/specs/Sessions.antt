@@ -48,10 +48,10 @@ newSession = record {
   «result_count» = 0;
 }
 
-abbrev pub isIn : Endpoint → Bool
-isIn Nothing = false
-isIn In = true
-isIn Control = false
+abbrev pub isInEndpoint : Endpoint → Bool
+isInEndpoint Nothing = false
+isInEndpoint In = true
+isInEndpoint Control = false
 
 -- ---- Each change
 
@@ -74,12 +74,12 @@ withEndpoint s e a b = record {
 }
 
 -- calls are made on an IN endpoint with this block
-abbrev pub withIn : Session → InBlock → Session
-withIn s b = withEndpoint s In b (s .«control_block»)
+abbrev pub withInBlock : Session → InBlock → Session
+withInBlock s b = withEndpoint s In b (s .«control_block»)
 
 -- calls are made on a control endpoint with this block
-abbrev pub withControl : Session → ControlBlock → Session
-withControl s b = withEndpoint s Control (s .«in_block») b
+abbrev pub withControlBlock : Session → ControlBlock → Session
+withControlBlock s b = withEndpoint s Control (s .«in_block») b
 
 -- other regions, by base and length
 abbrev pub withRegions : Session → ℕ → ℕ → ℕ → ℕ → Session
@@ -170,7 +170,7 @@ quietRan o at = record { session = o .session; end = at; records = 0; good = o .
 
 -- what a call on an endpoint left
 abbrev pub inRan : Session → InRan → Ran
-inRan s r = record { session = withIn s (r .block); end = r .end; records = r .records; good = r .good }
+inRan s r = record { session = withInBlock s (r .block); end = r .end; records = r .records; good = r .good }
 
 abbrev pub controlRan : Session → ControlRan → Ran
-controlRan s r = record { session = withControl s (r .block); end = r .end; records = r .records; good = r .good }
+controlRan s r = record { session = withControlBlock s (r .block); end = r .end; records = r .records; good = r .good }

@@ -12,7 +12,7 @@ use trb::InTrbProcessingStatus;
 use trb::SlotId;
 use trb::TransferTrb;
 ghost use mathlib.Core.Path.{_≡_};
-ghost use Rattle.session.specs.Sessions.{newSession, isIn, withIn, withControl, withoutRow, lentOf, quietRan, badQuiet, goodQuiet, inRan, controlRan};
+ghost use Rattle.session.specs.Sessions.{newSession, isInEndpoint, withInBlock, withControlBlock, withoutRow, lentOf, quietRan, badQuiet, goodQuiet, inRan, controlRan};
 
 // Guest memory at the start: one region of this base and length.
 pub const FIRST_BASE: u64 = 0x8000;
@@ -84,7 +84,7 @@ pub fn new_session() -> Session
 
 // Are calls made on an IN endpoint?
 pub fn is_in(endpoint: Endpoint) -> bool
-    ensures { λ r. ⌜ r ≡ isIn endpoint ⌝ }
+    ensures { λ r. ⌜ r ≡ isInEndpoint endpoint ⌝ }
 {
     match endpoint {
         Endpoint::Nothing => false,

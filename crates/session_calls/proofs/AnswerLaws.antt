@@ -19,7 +19,7 @@ use Rattle.control_calls.specs.Calls.{controlCall, collectBehind, createCall as
 use Rattle.control_calls.specs.declared.ControlRan.{ControlRan}
 use Rattle.lent_calls.specs.Lent.{lentMemory, RunsLent, RunsControlLent}
 use Rattle.lent_calls.specs.declared.Lent.{Lent}
-use Rattle.session.specs.Sessions.{Quiet, badQuiet, quietRan, inRan, controlRan, withIn, withControl, withoutRow, lentOf}
+use Rattle.session.specs.Sessions.{Quiet, badQuiet, quietRan, inRan, controlRan, withInBlock, withControlBlock, withoutRow, lentOf}
 use Rattle.session.specs.declared.Endpoint.{Endpoint}
 use Rattle.session.specs.declared.Endpoint.the-variants.{Nothing, In, Control}
 use Rattle.session.specs.declared.Ran.{Ran}
@@ -51,7 +51,7 @@ module _ {r : Ran} (s : State) (t : List ℕ) (at : ℕ) where
 
 module _ (s : State) (x : Session) {r : Ran} {t t' log' low' high' : List ℕ} {at : ℕ} where
   called-in : {o : Called InBlock} {ran : InRan} → RunsLent o (lentOf (s .session)) t at ran t' (s .log) log' (s .low) low' (s .high) high' → r ≡ inRan x ran
-      → Answers (saying (o .said) (calledState s (withIn x (o .said .block)) o (s .collect))) t at r t' (stateOf (r .session) log' (s .collect) low' high')
+      → Answers (saying (o .said) (calledState s (withInBlock x (o .said .block)) o (s .collect))) t at r t' (stateOf (r .session) log' (s .collect) low' high')
   called-in run e = rw e (record {
     state = rw (run .says .block, run .leaves .log, run .leaves .low, run .leaves .high);
     records = run .says .records;
@@ -61,7 +61,7 @@ module _ (s : State) (x : Session) {r : Ran} {t t' log' low' high' : List ℕ} {
 
   called-control : {o : Called ControlBlock} {collect collect' : List ℕ} {ran : ControlRan}
       → RunsControlLent o collect (lentOf (s .session)) t at ran t' (s .log) log' collect' (s .low) low' (s .high) high' → r ≡ controlRan x ran
-      → Answers (saying (o .said) (calledState s (withControl x (o .said .block)) o collect)) t at r t' (stateOf (r .session) log' collect' low' high')
+      → Answers (saying (o .said) (calledState s (withControlBlock x (o .said .block)) o collect)) t at r t' (stateOf (r .session) log' collect' low' high')
   called-control run e = rw e (record {
     state = rw (run .says .block, run .leaves .log, run .collected, run .leaves .low, run .leaves .high);
     records = run .says .records;

@@ -19,7 +19,7 @@ use Rattle.call_script.specs.declared.Call.the-variants.{Window, Buffers, Creat
 use Rattle.in_calls.specs.Calls.{inCall, rowCall, createCall}
 use Rattle.control_calls.specs.Calls.{controlCall, collectBehind, createCall as createControlCall}
 use Rattle.lent_calls.specs.Lent.{lentMemory, behindLent}
-use Rattle.session.specs.Sessions.{Quiet, badQuiet, goodQuiet, withIn, withControl, withLengths, withoutRow, lentOf}
+use Rattle.session.specs.Sessions.{Quiet, badQuiet, goodQuiet, withInBlock, withControlBlock, withLengths, withoutRow, lentOf}
 use Rattle.session.specs.declared.Endpoint.{Endpoint}
 use Rattle.session.specs.declared.Endpoint.the-variants.{Nothing, In, Control}
 use Rattle.session.specs.declared.Ran.{Ran}
@@ -73,14 +73,14 @@ memoryOfState s = lentMemory (lentOf (s .session)) (s .low) (s .high)
 unfoldable pub inAnswer : List ℕ → State → Call → Answer
 inAnswer bytes s c =
     let o = inCall (s .session .«in_block») c bytes (lentLog s) (memoryOfState s) in
-    saying (o .said) (calledState s (withIn (s .session) (o .said .block)) o (s .collect))
+    saying (o .said) (calledState s (withInBlock (s .session) (o .said .block)) o (s .collect))
 
 -- `r`: the row written down is empty afterwards, whatever the answer
 unfoldable pub rowAnswer : List ℕ → State → ℕ → Answer
 rowAnswer bytes s n =
     let x = s .session in
     let o = rowCall (x .«in_block») (x .row) (x .«row_count») (x .results) (x .«result_count») (take n bytes) (lentLog s) (memoryOfState s) in
-    saying (o .said) (calledState s (withIn (withoutRow x) (o .said .block)) o (s .collect))
+    saying (o .said) (calledState s (withInBlock (withoutRow x) (o .said .block)) o (s .collect))
 
 -- on a control endpoint
 unfoldable pub controlAnswer : List ℕ → State → Call → Answer
@@ -89,7 +89,7 @@ controlAnswer bytes s c =
     let n = s .session .«collect_length» in
     let o = controlCall b c bytes n (s .collect) (lentLog s) (memoryOfState s) in
     saying (o .said)
-    (calledState s (withControl (s .session) (o .said .block)) o (collectBehind b c n (s .collect) (lentLog s) (memoryOfState s)))
+    (calledState s (withControlBlock (s .session) (o .said .block)) o (collectBehind b c n (s .collect) (lentLog s) (memoryOfState s)))
 
 -- before the first creation a call is a bad line
 unfoldable pub endpointAnswer : Endpoint → List ℕ → State → Call → Answer
@@ -107,12 +107,12 @@ endpointRowAnswer Control bytes s n = quietly s (badQuiet (s .session))
 
 unfoldable pub inCreation : State → EndpointId → SlotId → InMode → Answer
 inCreation s e i mode =
-    let o = createCall e i mode in saying o (stateOf (withIn (withoutRow (s .session)) (o .block)) (s .log) (s .collect) (s .low) (s .high))
+    let o = createCall e i mode in saying o (stateOf (withInBlock (withoutRow (s .session)) (o .block)) (s .log) (s .collect) (s .low) (s .high))
 
 unfoldable pub controlCreation : State → EndpointId → SlotId → GuestRelease → Answer
 controlCreation s e i release =
     let o = createControlCall e i release (s .collect) in
-    saying o (stateOf (withControl (withoutRow (s .session)) (o .block)) (s .log) (s .collect) (s .low) (s .high))
+    saying o (stateOf (withControlBlock (withoutRow (s .session)) (o .block)) (s .log) (s .collect) (s .low) (s .high))
 
 -- ---- Any call
 

@@ -10,7 +10,7 @@ use Rattle.trb.specs.declared.TransferTrb.{TransferTrb}
 use Rattle.row_walk.specs.declared.TdResult.{TdResult}
 use Rattle.script_bytes.specs.Bytes.{guestBytes}
 use Rattle.lent_calls.specs.Lent.{behindLent}
-use Rattle.session.specs.Sessions.{Quiet, badQuiet, goodQuiet, quietRan, isIn, withRegions, withRow}
+use Rattle.session.specs.Sessions.{Quiet, badQuiet, goodQuiet, quietRan, isInEndpoint, withRegions, withRow}
 use Rattle.session.specs.declared.Endpoint.{Endpoint}
 use Rattle.session.specs.declared.Ran.{Ran}
 use Rattle.session.specs.declared.Session.{Session}
@@ -44,7 +44,7 @@ pub record MovesWindow (s : Session) (at lowBase lowLength highBase highLength :
 
 -- a row, of which there is so much, may have one more than its places; on an IN endpoint alone
 abbrev pub mayAppend : Endpoint → ℕ → Bool
-mayAppend e n = leb n maxRow && isIn e
+mayAppend e n = leb n maxRow && isInEndpoint e
 
 -- what stands behind the places is counted, not kept
 abbrev pub withTrb : Session → TransferTrb → Session

@@ -56,6 +56,7 @@ fn put_in_state(text: &mut [u8], at: usize, state: TdBasedNormalSubmissionState)
     }
 }
 
+// The state line of an IN endpoint.
 pub fn put_in_line(
     text: &mut [u8],
     at: usize,
@@ -172,6 +173,7 @@ fn put_standing(text: &mut [u8], at: usize, standing: ControlStanding) -> usize
     put_direction(text, direction_at, standing.direction)
 }
 
+// The state line of a control endpoint.
 pub fn put_control_line(text: &mut [u8], at: usize, standing: ControlStanding) -> usize
     requires { ⌜ at + maxState ≤ length (now text) ⌝ }
     ensures { λ r. ⌜ Written maxState (now (text .entry)) at (controlLine standing) r (now (text .exit)) ⌝ }

@@ -230,6 +230,7 @@ pub enum CompletionCode {
     ShortPacket,
 }
 
+// The number that xHCI gives a completion code.
 pub fn code_number(code: CompletionCode) -> u8
     ensures { λ r. ⌜ r ≡ codeNumber code ⌝ }
 {
@@ -343,6 +344,7 @@ pub enum Refusal {
     NotEncodable,
 }
 
+// The number that documents 01 and 02 give a refusal.
 pub fn refusal_number(refusal: Refusal) -> u8
     ensures { λ r. ⌜ r ≡ refusalNumber refusal ⌝ }
 {

@@ -4,7 +4,7 @@
 //! What is other than in the Rust: guest memory lends its regions, in place of a bus; the mode and the guest's release are chosen; a
 //! refused call is an error, `refused N: WHY`.
 
-use std::{future::Future, pin::Pin, sync::Arc};
+use std::{fmt::Debug, future::Future, pin::Pin, sync::Arc};
 
 use anyhow::anyhow;
 use oracle::{
@@ -25,7 +25,7 @@ use oracle::{
 };
 use polvihe_hal::{
     At, ControlEndpoint, DeviceResult, Effect, EndpointId, EventAbout, GuestMemory as Lent, GuestRelease, InEndpoint,
-    Mode, Outcome, Records, Refusal, Region, SlotId, Trb,
+    Mode, Outcome, Records, Refusal, Region, RowTrb, SlotId, TdResult, Trb,
 };
 
 /// A request that was logged: the address that names it, its length, and request type, request, value and index.
@@ -36,88 +36,113 @@ pub struct Request {
 }
 
 /// What hal's endpoints have in common. An IN endpoint collects nothing.
-pub trait HalEndpoint {
-    fn submit(
-        &mut self,
-        address: u64,
-        trb: Trb,
-        cycle: bool,
-        memory: &Lent<'_>,
-        collect: &mut [u8],
-        log: &mut [u8],
-    ) -> Result<usize, Refusal>;
-    fn submit_raw(
-        &mut self,
-        trb: &RawTrb,
-        memory: &Lent<'_>,
-        collect: &mut [u8],
-        log: &mut [u8],
-    ) -> Result<usize, Refusal>;
-    fn complete(
-        &mut self,
-        result: Option<DeviceResult>,
-        data: &[u8],
-        log: &mut [u8],
-    ) -> Result<(usize, Outcome), Refusal>;
+pub trait HalEndpoint: Debug + Send + Sized + 'static {
+    /// What is chosen at creation: the mode, or the guest's release.
+    type Chosen: Copy;
+    const LOG_LENGTH: usize;
+    const COLLECT_LENGTH: usize;
+    /// Whether a cancel empties it; otherwise it changes nothing but at the device.
+    const CANCEL_EMPTIES: bool;
+    /// Where the state stands in the block (docs/CALLS.md).
+    const STATE: usize;
+
+    /// The block, and the endpoint whose block these bytes are.
+    fn block(&self) -> &[u8];
+    fn of_block(block: &[u8]) -> Self;
+    fn create(endpoint: EndpointId, slot: SlotId, chosen: Self::Chosen) -> Result<Self, Refusal>;
+    /// How many bytes it wrote of the log.
+    fn submit(&mut self, submission: Submission<'_>, to: Buffers<'_, '_>) -> Result<usize, Refusal>;
+    fn complete(&mut self, result: Option<DeviceResult>, data: &[u8], log: &mut [u8]) -> Result<Completed, Refusal>;
+    fn cancel(&mut self);
 }
 
+/// A TRB, decoded with its address and cycle bit, or as its 16 bytes.
+#[derive(Clone, Copy)]
+pub enum Submission<'a> {
+    Decoded(u64, Trb, bool),
+    Raw(&'a RawTrb),
+}
+
+/// What is lent to a submission.
+pub struct Buffers<'a, 'm> {
+    memory: &'a Lent<'m>,
+    collect: &'a mut [u8],
+    log: &'a mut [u8],
+}
+
+/// How many bytes a completion wrote of the log, and how it ended.
+type Completed = (usize, Outcome);
+
 impl HalEndpoint for InEndpoint {
-    fn submit(
-        &mut self,
-        address: u64,
-        trb: Trb,
-        cycle: bool,
-        memory: &Lent<'_>,
-        _: &mut [u8],
-        log: &mut [u8],
-    ) -> Result<usize, Refusal> {
-        self.submit(address, trb, cycle, memory, log).map(|done| done.log.len())
+    type Chosen = Mode;
+    const LOG_LENGTH: usize = Self::LOG_LENGTH;
+    const COLLECT_LENGTH: usize = 0;
+    const CANCEL_EMPTIES: bool = true;
+    const STATE: usize = 6;
+
+    fn block(&self) -> &[u8] {
+        self.block()
     }
 
-    fn submit_raw(&mut self, trb: &RawTrb, memory: &Lent<'_>, _: &mut [u8], log: &mut [u8]) -> Result<usize, Refusal> {
-        self.submit_raw(trb.address, &trb.buffer, memory, log).map(|done| done.log.len())
+    fn of_block(block: &[u8]) -> Self {
+        Self::from_block(block.try_into().expect("a whole block"))
     }
 
-    fn complete(
-        &mut self,
-        result: Option<DeviceResult>,
-        data: &[u8],
-        log: &mut [u8],
-    ) -> Result<(usize, Outcome), Refusal> {
+    fn create(endpoint: EndpointId, slot: SlotId, mode: Mode) -> Result<Self, Refusal> {
+        Self::create(endpoint, slot, mode)
+    }
+
+    fn submit(&mut self, submission: Submission<'_>, to: Buffers<'_, '_>) -> Result<usize, Refusal> {
+        let submitted = match submission {
+            Submission::Decoded(address, trb, cycle) => self.submit(address, trb, cycle, to.memory, to.log)?,
+            Submission::Raw(trb) => self.submit_raw(trb.address, &trb.buffer, to.memory, to.log)?,
+        };
+        Ok(submitted.log.len())
+    }
+
+    fn complete(&mut self, result: Option<DeviceResult>, data: &[u8], log: &mut [u8]) -> Result<Completed, Refusal> {
         self.complete(result, data, log).map(|done| (done.log.len(), done.outcome))
+    }
+
+    fn cancel(&mut self) {
+        self.cancel();
     }
 }
 
 impl HalEndpoint for ControlEndpoint {
-    fn submit(
-        &mut self,
-        address: u64,
-        trb: Trb,
-        cycle: bool,
-        memory: &Lent<'_>,
-        collect: &mut [u8],
-        log: &mut [u8],
-    ) -> Result<usize, Refusal> {
-        self.submit(address, trb, cycle, memory, collect, log).map(|done| done.log.len())
+    type Chosen = GuestRelease;
+    const LOG_LENGTH: usize = Self::LOG_LENGTH;
+    const COLLECT_LENGTH: usize = Self::COLLECT_LENGTH;
+    const CANCEL_EMPTIES: bool = false;
+    const STATE: usize = 5;
+
+    fn block(&self) -> &[u8] {
+        self.block()
     }
 
-    fn submit_raw(
-        &mut self,
-        trb: &RawTrb,
-        memory: &Lent<'_>,
-        collect: &mut [u8],
-        log: &mut [u8],
-    ) -> Result<usize, Refusal> {
-        self.submit_raw(trb.address, &trb.buffer, memory, collect, log).map(|done| done.log.len())
+    fn of_block(block: &[u8]) -> Self {
+        Self::from_block(block.try_into().expect("a whole block"))
     }
 
-    fn complete(
-        &mut self,
-        result: Option<DeviceResult>,
-        data: &[u8],
-        log: &mut [u8],
-    ) -> Result<(usize, Outcome), Refusal> {
+    fn create(endpoint: EndpointId, slot: SlotId, release: GuestRelease) -> Result<Self, Refusal> {
+        Self::create(endpoint, slot, release)
+    }
+
+    fn submit(&mut self, submission: Submission<'_>, to: Buffers<'_, '_>) -> Result<usize, Refusal> {
+        let Buffers { memory, collect, log } = to;
+        let submitted = match submission {
+            Submission::Decoded(address, trb, cycle) => self.submit(address, trb, cycle, memory, collect, log)?,
+            Submission::Raw(trb) => self.submit_raw(trb.address, &trb.buffer, memory, collect, log)?,
+        };
+        Ok(submitted.log.len())
+    }
+
+    fn complete(&mut self, result: Option<DeviceResult>, data: &[u8], log: &mut [u8]) -> Result<Completed, Refusal> {
         self.complete(result, data, log).map(|done| (done.log.len(), done.outcome))
+    }
+
+    fn cancel(&mut self) {
+        self.cancel();
     }
 }
 
@@ -142,54 +167,26 @@ pub type InHandle<RIEH> = Handle<InEndpoint, RIEH>;
 /// In the place of `ControlEndpointHandle`.
 pub type ControlHandle<RCEH> = Handle<ControlEndpoint, RCEH>;
 
-impl<RIEH> InHandle<RIEH> {
+impl<E: HalEndpoint, R> Handle<E, R> {
     pub fn new(
         slot: u8,
         endpoint: u8,
-        mode: Mode,
-        real_ep: RIEH,
+        chosen: E::Chosen,
+        real_ep: R,
         memory: Arc<GuestMemory>,
         events: EventSender,
     ) -> Result<Self, Refusal> {
-        let created = InEndpoint::create(EndpointId(endpoint), SlotId(slot), mode)?;
-        Ok(Self::of(created, real_ep, memory, events, InEndpoint::LOG_LENGTH, 0))
-    }
-}
-
-impl<RCEH> ControlHandle<RCEH> {
-    pub fn new(
-        slot: u8,
-        endpoint: u8,
-        release: GuestRelease,
-        real_ep: RCEH,
-        memory: Arc<GuestMemory>,
-        events: EventSender,
-    ) -> Result<Self, Refusal> {
-        let created = ControlEndpoint::create(EndpointId(endpoint), SlotId(slot), release)?;
-        Ok(Self::of(created, real_ep, memory, events, ControlEndpoint::LOG_LENGTH, ControlEndpoint::COLLECT_LENGTH))
-    }
-}
-
-impl<E: HalEndpoint, R: Device<E>> Handle<E, R> {
-    pub fn submit(&mut self, address: u64, trb: Trb, cycle: bool) -> Result<(), Failed> {
-        let Self { endpoint, memory, log, collect, .. } = self;
-        self.logged = with_memory(memory, |memory| endpoint.submit(address, trb, cycle, memory, collect, log))?;
-        self.submitted()
+        let endpoint = E::create(EndpointId(endpoint), SlotId(slot), chosen)?;
+        let (log, collect) = (vec![0; E::LOG_LENGTH], vec![0; E::COLLECT_LENGTH]);
+        Ok(Self { endpoint, real_ep, memory, events, log, collect, awaits_device: false, logged: 0 })
     }
 
-    pub fn submit_raw(&mut self, trb: &RawTrb) -> Result<(), Failed> {
-        let Self { endpoint, memory, log, collect, .. } = self;
-        self.logged = with_memory(memory, |memory| endpoint.submit_raw(trb, memory, collect, log))?;
-        self.submitted()
-    }
-
-    fn submitted(&mut self) -> Result<(), Failed> {
-        let request = self.perform(&[])?;
-        self.awaits_device = request.is_some();
-        if let Some(request) = request {
-            self.real_ep.ask(request, &self.endpoint, &self.collect)?;
-        }
-        Ok(())
+    /// The endpoint whose block has this made up.
+    pub fn make_up(&mut self, change: impl FnOnce(&mut [u8])) {
+        let mut block = self.endpoint.block().to_vec();
+        change(&mut block);
+        self.endpoint = E::of_block(&block);
+        self.awaits_device = block[E::STATE] == 2;
     }
 
     pub fn complete(&mut self, result: Option<DeviceResult>, data: &[u8]) -> Result<TrbProcessingResult, Failed> {
@@ -197,20 +194,6 @@ impl<E: HalEndpoint, R: Device<E>> Handle<E, R> {
         (self.logged, self.awaits_device) = (logged, false);
         self.perform(data)?;
         Ok(result_of(outcome))
-    }
-}
-
-impl<E, R> Handle<E, R> {
-    pub fn of(
-        endpoint: E,
-        real_ep: R,
-        memory: Arc<GuestMemory>,
-        events: EventSender,
-        log_length: usize,
-        collect_length: usize,
-    ) -> Self {
-        let (log, collect) = (vec![0; log_length], vec![0; collect_length]);
-        Self { endpoint, real_ep, memory, events, log, collect, awaits_device: false, logged: 0 }
     }
 
     /// Performs the effects of what was logged: events and writes; a request is handed back.
@@ -242,6 +225,35 @@ impl<E, R> Handle<E, R> {
             }
         }
         Ok(asked)
+    }
+}
+
+impl<E: HalEndpoint, R: Device<E>> Handle<E, R> {
+    pub fn submit(&mut self, submission: Submission<'_>) -> Result<(), Failed> {
+        let Self { endpoint, memory, log, collect, .. } = self;
+        self.logged = with_memory(memory, |memory| endpoint.submit(submission, Buffers { memory, collect, log }))?;
+        let request = self.perform(&[])?;
+        self.awaits_device = request.is_some();
+        if let Some(request) = request {
+            self.real_ep.ask(request, &self.endpoint, &self.collect)?;
+        }
+        Ok(())
+    }
+}
+
+impl<R> InHandle<R> {
+    /// A row of TDs in one call, and how many were finished well. Nothing of what it logs is performed.
+    pub fn complete_row(
+        &mut self,
+        row: &[RowTrb],
+        results: &[TdResult],
+        data: &[u8],
+    ) -> Result<(TrbProcessingResult, usize), Refusal> {
+        let Self { endpoint, memory, log, .. } = self;
+        let completed = with_memory(memory, |memory| endpoint.complete_row(row, results, data, memory, log))?;
+        let (outcome, finished) = (completed.outcome, completed.finished);
+        self.logged = completed.log.len();
+        Ok((result_of(outcome), finished))
     }
 }
 
@@ -300,14 +312,26 @@ fn reported<T>(made: Result<T, Failed>) -> anyhow::Result<T> {
     })
 }
 
-/// The real endpoint that a request goes to.
-pub trait Device<E> {
+/// The real endpoint that a request goes to, and its answer.
+pub trait Device<E>: BaseEndpointHandle {
     fn ask(&mut self, request: Request, endpoint: &E, collect: &[u8]) -> anyhow::Result<()>;
+    fn answer(&mut self) -> impl Future<Output = anyhow::Result<(DeviceResult, Vec<u8>)>> + Send;
 }
 
 impl<RIEH: RealInEndpointHandle> Device<InEndpoint> for RIEH {
     fn ask(&mut self, request: Request, _: &InEndpoint, _: &[u8]) -> anyhow::Result<()> {
         self.submit(request.length as usize)
+    }
+
+    async fn answer(&mut self) -> anyhow::Result<(DeviceResult, Vec<u8>)> {
+        let answer = self.next_completion().await?;
+        let result = match answer.status {
+            InTrbProcessingStatus::Success => DeviceResult::Success,
+            InTrbProcessingStatus::Stall => DeviceResult::Stall,
+            InTrbProcessingStatus::TransactionError => DeviceResult::TransactionError,
+            InTrbProcessingStatus::Disconnect => DeviceResult::Disconnect,
+        };
+        Ok((result, answer.data))
     }
 }
 
@@ -325,15 +349,25 @@ impl<RCEH: RealControlEndpointHandle> Device<ControlEndpoint> for RCEH {
             data: collect[..endpoint.collected()].to_vec(),
         })
     }
+
+    async fn answer(&mut self) -> anyhow::Result<(DeviceResult, Vec<u8>)> {
+        Ok(match self.next_completion().await? {
+            ControlRequestProcessingResult::SuccessfulControlIn(data) => (DeviceResult::Success, data),
+            ControlRequestProcessingResult::SuccessfulControlOut => (DeviceResult::SuccessOut, vec![]),
+            ControlRequestProcessingResult::Stall => (DeviceResult::Stall, vec![]),
+            ControlRequestProcessingResult::TransactionError => (DeviceResult::TransactionError, vec![]),
+            ControlRequestProcessingResult::Disconnect => (DeviceResult::Disconnect, vec![]),
+        })
+    }
 }
 
 type Completing<'a, T> = Pin<Box<dyn Future<Output = anyhow::Result<T>> + Send + 'a>>;
 
-impl<RIEH: RealInEndpointHandle> EndpointHandle for InHandle<RIEH> {
+impl<E: HalEndpoint, R: Device<E>> EndpointHandle for Handle<E, R> {
     type TrbCompletionFuture<'a> = Completing<'a, TrbProcessingResult>;
 
     fn submit_trb(&mut self, trb: RawTrb) -> anyhow::Result<()> {
-        reported(self.submit_raw(&trb))
+        reported(self.submit(Submission::Raw(&trb)))
     }
 
     fn next_completion(&mut self) -> Self::TrbCompletionFuture<'_> {
@@ -341,59 +375,20 @@ impl<RIEH: RealInEndpointHandle> EndpointHandle for InHandle<RIEH> {
             if !self.awaits_device {
                 return reported(self.complete(None, &[]));
             }
-            let answer = self.real_ep.next_completion().await?;
-            let result = match answer.status {
-                InTrbProcessingStatus::Success => DeviceResult::Success,
-                InTrbProcessingStatus::Stall => DeviceResult::Stall,
-                InTrbProcessingStatus::TransactionError => DeviceResult::TransactionError,
-                InTrbProcessingStatus::Disconnect => DeviceResult::Disconnect,
-            };
-            reported(self.complete(Some(result), &answer.data))
-        })
-    }
-}
-
-impl<RIEH: RealInEndpointHandle> BaseEndpointHandle for InHandle<RIEH> {
-    type CompletionFuture<'a> = Completing<'a, ()>;
-
-    fn cancel(&mut self) -> Self::CompletionFuture<'_> {
-        Box::pin(async {
-            self.endpoint.cancel();
-            self.awaits_device = false;
-            self.real_ep.cancel().await
-        })
-    }
-}
-
-impl<RCEH: RealControlEndpointHandle> EndpointHandle for ControlHandle<RCEH> {
-    type TrbCompletionFuture<'a> = Completing<'a, TrbProcessingResult>;
-
-    fn submit_trb(&mut self, trb: RawTrb) -> anyhow::Result<()> {
-        reported(self.submit_raw(&trb))
-    }
-
-    fn next_completion(&mut self) -> Self::TrbCompletionFuture<'_> {
-        Box::pin(async {
-            if !self.awaits_device {
-                return reported(self.complete(None, &[]));
-            }
-            let (result, data) = match self.real_ep.next_completion().await? {
-                ControlRequestProcessingResult::SuccessfulControlIn(data) => (DeviceResult::Success, data),
-                ControlRequestProcessingResult::SuccessfulControlOut => (DeviceResult::SuccessOut, vec![]),
-                ControlRequestProcessingResult::Stall => (DeviceResult::Stall, vec![]),
-                ControlRequestProcessingResult::TransactionError => (DeviceResult::TransactionError, vec![]),
-                ControlRequestProcessingResult::Disconnect => (DeviceResult::Disconnect, vec![]),
-            };
+            let (result, data) = self.real_ep.answer().await?;
             reported(self.complete(Some(result), &data))
         })
     }
 }
 
-impl<RCEH: RealControlEndpointHandle> BaseEndpointHandle for ControlHandle<RCEH> {
+impl<E: HalEndpoint, R: Device<E>> BaseEndpointHandle for Handle<E, R> {
     type CompletionFuture<'a> = Completing<'a, ()>;
 
-    /// It changes nothing but at the device.
     fn cancel(&mut self) -> Self::CompletionFuture<'_> {
-        Box::pin(async { self.real_ep.cancel().await })
+        Box::pin(async {
+            self.endpoint.cancel();
+            self.awaits_device &= !E::CANCEL_EMPTIES;
+            self.real_ep.cancel().await
+        })
     }
 }

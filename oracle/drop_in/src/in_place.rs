@@ -8,8 +8,8 @@ use std::{
 
 use oracle::{
     call::{
-        self, Captured, Kind, CHAIN, CYCLE, DIRECTION, IMMEDIATE_DATA, INTERRUPT_ON_COMPLETION, INTERRUPT_ON_SHORT,
-        MAX_COLLECT,
+        self, Captured, Kind, Status, CHAIN, CYCLE, DIRECTION, IMMEDIATE_DATA, INTERRUPT_ON_COMPLETION,
+        INTERRUPT_ON_SHORT, MAX_COLLECT,
     },
     device::xhci::{
         endpoint_handle::{EndpointHandle, TrbProcessingResult},
@@ -20,17 +20,18 @@ use oracle::{
     driver::Stop,
     effects::Effect,
     endpoint::weighted_sum,
-    engine::{Connections, Engine, No},
+    engine::{Connections, Engine, No, RowCompleted},
     questions::{Buffers, MAX_TRB_LENGTH},
     record::{records, Record, Surroundings},
+    row::Row,
     scripted_device::{self, ScriptedDevice},
 };
 use polvihe_hal::{
-    log, ControlEndpoint, DataStage, DeviceResult, EventData, GuestRelease, InEndpoint, Mode, NoOp, Normal, SetupStage,
-    StatusStage, Trb,
+    log, ControlEndpoint, DataStage, DeviceResult, EventData, GuestRelease, InEndpoint, Mode, NoOp, Normal, Refusal,
+    RowTrb, SetupStage, StatusStage, TdResult, Trb,
 };
 
-use crate::handles::{with_memory, ControlHandle, Failed, InHandle};
+use crate::handles::{self, with_memory, ControlHandle, Failed, HalEndpoint, InHandle, Submission};
 
 enum Handle {
     In(InHandle<ScriptedDevice>),
@@ -77,9 +78,13 @@ fn refused(error: anyhow::Error) -> No {
     No::Refused(number.unwrap_or_else(|| panic!("no refusal: {}", error.0)))
 }
 
+fn number_of(refusal: Refusal) -> u8 {
+    refusal.number() as u8
+}
+
 fn failed(failed: Failed) -> No {
     match failed {
-        Failed::Refused(refusal) => No::Refused(refusal.number() as u8),
+        Failed::Refused(refusal) => No::Refused(number_of(refusal)),
         Failed::Surroundings(error) => panic!("the driver's surroundings take everything: {}", error.0),
     }
 }
@@ -131,34 +136,28 @@ fn hal_result(result: &scripted_device::DeviceResult) -> DeviceResult {
     }
 }
 
+/// What a script gives a TD of a row.
+fn result_in_row(status: Status) -> DeviceResult {
+    match status {
+        Status::Success => DeviceResult::Success,
+        Status::Stall => DeviceResult::Stall,
+        Status::TransactionError => DeviceResult::TransactionError,
+        Status::Disconnect => DeviceResult::Disconnect,
+        Status::SuccessfulControlOut => DeviceResult::SuccessOut,
+    }
+}
+
 fn number(block: &[u8], at: usize, width: usize) -> u64 {
     block[at..at + width].iter().rev().fold(0, |number, byte| number << 8 | u64::from(*byte))
 }
 
 impl InPlace {
     fn block(&self) -> &[u8] {
-        match &self.handle {
-            Handle::In(handle) => handle.endpoint.block(),
-            Handle::Control(handle) => handle.endpoint.block(),
-        }
+        on!(&self.handle, handle => HalEndpoint::block(&handle.endpoint))
     }
 
-    /// The endpoint whose block has this made up.
     fn make_up(&mut self, change: impl FnOnce(&mut [u8])) {
-        match &mut self.handle {
-            Handle::In(handle) => {
-                let mut block = *handle.endpoint.block();
-                change(&mut block);
-                handle.endpoint = InEndpoint::from_block(block);
-                handle.awaits_device = block[6] == 2;
-            }
-            Handle::Control(handle) => {
-                let mut block = *handle.endpoint.block();
-                change(&mut block);
-                handle.endpoint = ControlEndpoint::from_block(block);
-                handle.awaits_device = block[5] == 2;
-            }
-        }
+        on!(&mut self.handle, handle => handle.make_up(change));
     }
 
     fn collected(&self) -> usize {
@@ -203,14 +202,7 @@ impl InPlace {
 impl Engine for InPlace {
     fn new_in(endpoint: u8, slot: u8, mode: u8, _: Captured, to: Connections) -> Result<(Self, Option<u8>), Stop> {
         let mode = if mode == 0 { Mode::AsPorted } else { Mode::Strict };
-        let handle = |endpoint, slot| {
-            InHandle::new(slot, endpoint, mode, to.device.clone(), to.memory.clone(), to.events.clone())
-        };
-        let (handle, no) = match handle(endpoint, slot) {
-            Ok(handle) => (handle, None),
-            Err(refusal) => (handle(1, 1).expect("ids in range"), Some(refusal.number() as u8)),
-        };
-        Ok(created(Handle::In(handle), to, no))
+        Ok(created(Handle::In, endpoint, slot, mode, to))
     }
 
     fn new_control(
@@ -221,14 +213,7 @@ impl Engine for InPlace {
         to: Connections,
     ) -> Result<(Self, Option<u8>), Stop> {
         let release = if release == 4 { GuestRelease::Four } else { GuestRelease::Five };
-        let handle = |endpoint, slot| {
-            ControlHandle::new(slot, endpoint, release, to.device.clone(), to.memory.clone(), to.events.clone())
-        };
-        let (handle, no) = match handle(endpoint, slot) {
-            Ok(handle) => (handle, None),
-            Err(refusal) => (handle(1, 1).expect("ids in range"), Some(refusal.number() as u8)),
-        };
-        Ok(created(Handle::Control(handle), to, no))
+        Ok(created(Handle::Control, endpoint, slot, release, to))
     }
 
     fn is_control(&self) -> bool {
@@ -238,7 +223,8 @@ impl Engine for InPlace {
     fn submit(&mut self, trb: &call::Trb, lent: Buffers) -> Result<(), No> {
         let (decoded, cycle) = trb_of(trb);
         self.watched(lent, |this| {
-            on!(&mut this.handle, handle => handle.submit(trb.address, decoded, cycle)).map_err(failed)
+            let submission = Submission::Decoded(trb.address, decoded, cycle);
+            on!(&mut this.handle, handle => handle.submit(submission)).map_err(failed)
         })
     }
 
@@ -268,6 +254,26 @@ impl Engine for InPlace {
 
     fn cancel(&mut self) {
         on!(&mut self.handle, handle => completed(handle.cancel())).expect("the scripted device takes it");
+    }
+
+    fn complete_row(&mut self, row: &Row, data: &[u8], lent: Buffers) -> Option<Result<RowCompleted, No>> {
+        let row_trb = |trb: &call::Trb| {
+            let (decoded, cycle) = trb_of(trb);
+            RowTrb::new(trb.address, decoded, cycle)
+        };
+        let trbs: Vec<RowTrb> = row.trbs.iter().map(row_trb).collect();
+        let results: Vec<TdResult> =
+            row.results.iter().map(|(status, length)| TdResult::new(result_in_row(*status), *length)).collect();
+        let block = self.block().to_vec();
+        let answer = self.watched(lent, |this| match &mut this.handle {
+            Handle::In(handle) => {
+                handle.complete_row(&trbs, &results, data).map_err(|refusal| No::Refused(number_of(refusal)))
+            }
+            Handle::Control(_) => Err(Stop::BadLine.into()),
+        });
+        assert!(self.block() == block, "a row changed the block");
+        let records = std::mem::take(&mut self.logged);
+        Some(answer.map(|(result, finished)| RowCompleted { records, result, finished }))
     }
 
     fn held(&mut self) -> usize {
@@ -317,7 +323,7 @@ impl Engine for InPlace {
     }
 
     fn submission_is_due(&self) -> bool {
-        self.block()[if self.is_control() { 5 } else { 6 }] == 0
+        self.block()[if self.is_control() { ControlEndpoint::STATE } else { InEndpoint::STATE }] == 0
     }
 
     /// The log's records; the effects that the handle made of them are the same records once more.
@@ -371,8 +377,22 @@ impl Engine for InPlace {
 }
 
 /// Where creation is refused, hal has no endpoint, and the block that the engine hands back has ids 0.
-fn created(handle: Handle, to: Connections, no: Option<u8>) -> (InPlace, Option<u8>) {
-    let mut made = InPlace { handle, to, logged: vec![], collect: vec![UNTOUCHED; MAX_COLLECT as usize] };
+fn created<E: HalEndpoint>(
+    of: fn(handles::Handle<E, ScriptedDevice>) -> Handle,
+    endpoint: u8,
+    slot: u8,
+    chosen: E::Chosen,
+    to: Connections,
+) -> (InPlace, Option<u8>) {
+    let handle = |endpoint, slot| {
+        handles::Handle::new(slot, endpoint, chosen, to.device.clone(), to.memory.clone(), to.events.clone())
+    };
+    let (handle, no) = match handle(endpoint, slot) {
+        Ok(handle) => (handle, None),
+        Err(refusal) => (handle(1, 1).expect("ids in range"), Some(number_of(refusal))),
+    };
+    let collect = vec![UNTOUCHED; MAX_COLLECT as usize];
+    let mut made = InPlace { handle: of(handle), to, logged: vec![], collect };
     if no.is_some() {
         made.make_up(|block| block[1..3].fill(0));
     }

@@ -1,19 +1,22 @@
 //! Call scripts (docs/CALLS.md) on hal: the product's block in place, behind the interface of the Rust's endpoints.
 //!
-//!     drop_in                        a script on standard input, answered as `replay` answers it
-//!     drop_in SCRIPT ANSWERS ..      lists with the answers that are kept
+//!     drop_in                             a script on standard input, answered as `replay` answers it
+//!     drop_in SCRIPT ANSWERS ..           lists with the answers that are kept
+//!     drop_in --two-fillings SCRIPT ..    scripts over two fillings of guest memory and device data: alike but for SUM
 
 mod handles;
 mod in_place;
 
 use std::{
-    env, fs,
+    env,
+    fmt::Display,
+    fs,
     io::{self, BufWriter, Read, Write},
     process::exit,
 };
 
 use in_place::InPlace;
-use oracle::{driver, lists};
+use oracle::{driver, lists, two_fillings};
 
 fn main() -> io::Result<()> {
     let files: Vec<String> = env::args().skip(1).collect();
@@ -26,18 +29,29 @@ fn main() -> io::Result<()> {
         out.write_all(run.last_line().unwrap_or_default().as_bytes())?;
         return out.flush();
     }
+    if files[0] == "--two-fillings" {
+        for script in &files[1..] {
+            told(script, two_fillings::alike::<InPlace>(&fs::read(script)?));
+        }
+        return Ok(());
+    }
     for list in files.chunks(2) {
         let [script, answers] = list else {
-            eprintln!("usage: drop_in [SCRIPT ANSWERS] ..");
+            eprintln!("usage: drop_in [SCRIPT ANSWERS ..] | drop_in --two-fillings SCRIPT ..");
             exit(2);
         };
-        match lists::answered::<InPlace>(&fs::read(script)?, &fs::read_to_string(answers)?) {
-            Ok(answered) => println!("{script}: {} calls equal, {} passed over", answered.equal, answered.passed_over),
-            Err(difference) => {
-                println!("{script}: {difference}");
-                exit(1);
-            }
-        }
+        told(script, lists::answered::<InPlace>(&fs::read(script)?, &fs::read_to_string(answers)?));
     }
     Ok(())
+}
+
+/// Prints how a list compares; a difference ends the program.
+fn told(script: &str, compared: Result<impl Display, String>) {
+    match compared {
+        Ok(alike) => println!("{script}: {alike}"),
+        Err(difference) => {
+            println!("{script}: {difference}");
+            exit(1);
+        }
+    }
 }

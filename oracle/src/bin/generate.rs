@@ -30,12 +30,8 @@ fn main() -> io::Result<()> {
         [seed, count] if seed.bytes().all(|digit| digit.is_ascii_digit()) => {
             out.write_all(generate::script(number(seed), number(count) as usize).as_bytes())
         }
-        ["raw", seed, count] => {
-            out.write_all(generate::raw_script(number(seed), number(count) as usize).as_bytes())
-        }
-        ["rows", seed, count] => {
-            out.write_all(generate::row_script(number(seed), number(count) as usize).as_bytes())
-        }
+        ["raw", seed, count] => out.write_all(generate::raw_script(number(seed), number(count) as usize).as_bytes()),
+        ["rows", seed, count] => out.write_all(generate::row_script(number(seed), number(count) as usize).as_bytes()),
         ["captured", seed, count] => {
             out.write_all(generate::captured_script(number(seed), number(count) as usize).as_bytes())
         }

@@ -1,83 +1,94 @@
--- `call_runner::run_input` is safe and ends. The loop's invariant: what is left of the input lies in its buffer, and the lent buffers keep their
--- lengths. The measure is the number of turns left. Assumes nothing.
-use Prim.Native.Nat.{_≤_}
-use mathlib.Core.Path.{_≡_, _∙_}
+-- `call_runner::run_input` meets its contract. The loop's invariant: the run has come to what is read so far, its bytes that are not yet taken lie in the
+-- buffer, and the lent buffers keep their lengths. The measure is the number of turns left. Assumes nothing.
+use Prim.Native.Nat.{_<_}
+use mathlib.Core.Path.{_≡_, refl, ap, _∙_}
+use mathlib.Core.Bool.{true}
 use native.Mathlib.Omega.{arith}
 use lib.ListN.{length}
 use borrow.Author.Needs.{needs}
+use Rattle.session_calls.specs.Answers.{stateOf}
+use Rattle.script_pieces.proofs.TakenLaws.{Lengths}
+use Rattle.call_runner.specs.Turns.{started}
+use Rattle.call_runner.specs.declared.Progress.{Progress}
+use Rattle.call_runner.proofs.TurnLaws.{Reaches, reaches-start, reaches-turn, reaches-end, left-more}
 use Rattle.call_runner.proofs.run_input.Statement.{statement}
 use Rattle.call_runner.proofs.run_input.Tie as tie
 
 abbrev Inv-loop : tie.InvT-loop
-Inv-loop text₀ input₀ log₀ collect₀ «data» low₀ high₀ progress₀ from₀ filled₀ turns₀ text input log collect low high progress from filled turns =
-    (from ≤ filled) × ((filled ≤ length input₀) × ((length text ≡ length text₀) × ((length input ≡ length input₀)
-    × ((length log ≡ length log₀) × ((length collect ≡ length collect₀) × ((length low ≡ length low₀) × (length high ≡ length high₀)))))))
+Inv-loop text₀ input₀ log₀ collect₀ «data» low₀ high₀ progress₀ turns₀ text input log collect low high progress turns =
+    Lengths text₀ log₀ collect₀ low₀ high₀ text log collect low high
+    × ((length input ≡ length input₀)
+    × ((0 < turns → progress .more ≡ true)
+    × Reaches «data» (stateOf (started .session) log₀ collect₀ low₀ high₀) progress input (stateOf (progress .session) log collect low high)))
 
 abbrev μ-loop : tie.MeasureT-loop
-μ-loop text₀ input₀ log₀ collect₀ «data» low₀ high₀ progress₀ from₀ filled₀ turns₀ text input log collect low high progress from filled turns = turns
+μ-loop text₀ input₀ log₀ collect₀ «data» low₀ high₀ progress₀ turns₀ text input log collect low high progress turns = turns
 
 started-requires : tie.Need-started-requires Inv-loop μ-loop
 started-requires c κs = search needs
 
 loop-holds : tie.Need-loop-holds Inv-loop μ-loop
-loop-holds c = search needs
+loop-holds c = (
+  record { text = refl; log = refl; collect = refl; low = refl; high = refl },
+  (refl, (λ h. ap (λ (p : Progress). p .more) (c .started .ensures), rw (c .started .ensures) (reaches-start _))),
+)
 
-next-line-requires : tie.Need-next-line-requires Inv-loop μ-loop
-next-line-requires c κs = search needs
-
-run-step-requires : tie.Need-run-step-requires Inv-loop μ-loop
-run-step-requires c κs = search needs
+take-turn-requires : tie.Need-take-turn-requires Inv-loop μ-loop
+take-turn-requires c κs =
+    let s = c .before .before .before .before .before .before .before .before .before .before .before .before .before .before .before .before in
+    let l = c .before .before .before .before .before .before .before .loop in
+    let r = l .inv .1 .1 .1 in
+    (omega (arith, s .pre .0, l .inv .0 .text), (omega (arith, s .pre .1, l .inv .0 .log), (r .left, r .inside)))
 
 turns-left-requires : tie.Need-turns-left-requires Inv-loop μ-loop
-turns-left-requires c κs = search needs
+turns-left-requires c κs = c .before .before .before .before .before .before .before .before .before .before .before .before .before .before .before .before .before .before .before .loop-test .taken
 
 loop-less : tie.Need-loop-less Inv-loop μ-loop
-loop-less c = search needs
+loop-less c = c .turns-left .ensures .less
 
 loop-again : tie.Need-loop-again Inv-loop μ-loop
 loop-again c =
-    let t = c .before .before .before .before .before .before .before .before .before .before .before .run-step in
-    let n = c .before .before .before .before .before .before .before .before .before .before .before .before .before .before .before .before .before .before .before .before .next-line in
-    let kept = c .before .before .before .before .before .before .before .before .before .before .before .before .before .before .before .before .before .before .before .before .before .before .before .loop .inv .1 .1 in (
-      n .ensures .stepped .left,
+    let t = c .before .before .before .before .before .before .before .before .before .before .before .before .before .take-turn in
+    let k = c .before .before .before .before .before .before .before .before .before .before .before .before .before .before .before .before .before .before .before .before in
+    let l = k .before .loop in
+    let same = l .inv .0 in
+    let kept = t .kept .1 .1 in (
+      record {
+        text = t .kept .0 ∙ same .text;
+        log = kept .1 .0 ∙ same .log;
+        collect = kept .1 .1 .0 ∙ same .collect;
+        low = kept .1 .1 .1 .1 .0 ∙ same .low;
+        high = kept .1 .1 .1 .1 .1 .0 ∙ same .high;
+      },
       (
-        omega (arith, n .ensures .stepped .room, kept .1 .0),
+        kept .0 ∙ l .inv .1 .0,
         (
-          t .kept .0 ∙ kept .0,
-          (
-            n .kept .0 ∙ kept .1 .0,
-            (
-              t .kept .1 .1 .1 .1 .0 ∙ kept .1 .1 .0,
-              (
-                t .kept .1 .1 .1 .1 .1 .0 ∙ kept .1 .1 .1 .0,
-                (t .kept .1 .1 .1 .1 .1 .1 .1 .0 ∙ kept .1 .1 .1 .1 .0, t .kept .1 .1 .1 .1 .1 .1 .1 .1 .0 ∙ kept .1 .1 .1 .1 .1),
-              ),
-            ),
-          ),
+          λ h. left-more (t .result .more) (l .turns) (c .turns-left .result) (c .turns-left .ensures .left) h,
+          reaches-turn (l .inv .1 .1 .1) (l .inv .1 .1 .0 (k .loop-test .taken)) (t .ensures),
         ),
       ),
     )
 
 same-length : tie.Need-same-length Inv-loop μ-loop
-same-length c = search needs
+same-length c = c .before .loop .inv .0 .text
 
 same-length-2 : tie.Need-same-length-2 Inv-loop μ-loop
-same-length-2 c = search needs
+same-length-2 c = c .before .loop .inv .1 .0
 
 same-length-3 : tie.Need-same-length-3 Inv-loop μ-loop
-same-length-3 c = search needs
+same-length-3 c = c .before .loop .inv .0 .log
 
 same-length-4 : tie.Need-same-length-4 Inv-loop μ-loop
-same-length-4 c = search needs
+same-length-4 c = c .before .loop .inv .0 .collect
 
 same-length-5 : tie.Need-same-length-5 Inv-loop μ-loop
-same-length-5 c = search needs
+same-length-5 c = c .before .loop .inv .0 .low
 
 same-length-6 : tie.Need-same-length-6 Inv-loop μ-loop
-same-length-6 c = search needs
+same-length-6 c = c .before .loop .inv .0 .high
 
 returns : tie.Need-returns Inv-loop μ-loop
-returns c = search needs
+returns c = reaches-end (c .before .loop .inv .1 .1 .1)
 
 pub run-input-spec : {M : Type 1} → statement M
 run-input-spec =
@@ -87,8 +98,7 @@ run-input-spec =
     μ-loop
     started-requires
     loop-holds
-    next-line-requires
-    run-step-requires
+    take-turn-requires
     turns-left-requires
     loop-less
     loop-again

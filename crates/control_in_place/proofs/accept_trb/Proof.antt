@@ -1,12 +1,14 @@
 -- `control_in_place::accept_trb` meets its contract: it logs, collects and stores by one outcome. Assumes nothing.
 use mathlib.Core.Path.{_∙_}
+use mathlib.Core.Bool.{cond}
+use mathlib.Core.List.{[]}
 use Rattle.buffers.specs.Patch.{patch}
 use lib.ListN.{length}
 use Rattle.held_bytes.specs.Numbers.{trbOf}
 use Rattle.guest_memory.specs.Places.{Memory, memoryOf}
 use Rattle.control_block.specs.Facts.{factsOf}
-use Rattle.control_transfer.specs.Data.{dataOf}
-use Rattle.control_transfer.specs.Transfers.{collectable, bytesTaken}
+use Rattle.control_transfer.specs.Data.{bytesOf}
+use Rattle.control_transfer.specs.Transfers.{collects, collectable}
 use Rattle.control_questions.proofs.SubmissionLaws.{Passed}
 use Rattle.control_bytes.specs.Layout.{blockOf}
 use Rattle.control_in_place.proofs.AcceptLaws.{pass, holdable}
@@ -28,13 +30,12 @@ log-submission-requires c κs =
     let s = c .before .before .before .before .before .before .before .before .before in
     (s .pre .1 .long, (passed s .log-long, passed s .held))
 
-collect-trb-requires : tie.Need-collect-trb-requires
-collect-trb-requires c κs =
+collect-data-requires : tie.Need-collect-data-requires
+collect-data-requires c κs =
     let w = c .before .before .before .before .before .before in
     let s = w .before .before .before .before .before .before .before in
     let old = w .transfer .ensures in
-    let kind = s .pre .0 in
-    (passed s .collect-long, (λ j. collectable (s .args .outcome) (old j .direction) (old j .collected) (dataOf (kind j .variant))) ∙ passed s .size)
+    (passed s .collect-long, (λ j. collectable (s .args .outcome) (old j .direction) (old j .collected) (s .pre .0 j)) ∙ passed s .size)
 
 take-trb-requires : tie.Need-take-trb-requires
 take-trb-requires c κs =
@@ -59,10 +60,9 @@ returns c =
     let w = l .before .before .before in
     let s = w .before .before .before .before .before .before .before in
     let old = w .transfer .ensures in
-    let kind = s .pre .0 in
     record {
       log = l .log-submission .ensures;
-      collect = k .collect-trb .ensures ∙ (λ j. patch (s .args .collect .now) (old j .collected) (bytesTaken (s .args .outcome) (old j .direction) (kind j .variant) (memory s)));
+      collect = k .collect-data .ensures ∙ (λ j. patch (s .args .collect .now) (old j .collected) (cond (collects (s .args .outcome) (old j .direction)) (bytesOf (memory s) (s .pre .0 j)) []));
       becomes = t .take-trb .ensures;
     }
 
@@ -72,7 +72,7 @@ accept-trb-spec =
     (tie.spec
     transfer-requires
     log-submission-requires
-    collect-trb-requires
+    collect-data-requires
     take-trb-requires
     same-length
     same-length-2

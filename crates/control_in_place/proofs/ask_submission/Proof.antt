@@ -1,6 +1,7 @@
 -- `control_in_place::ask_submission` meets its contract. Assumes nothing.
 use mathlib.Core.Path.{_∙_}
 use Rattle.trb.specs.Questions.{firstNo}
+use Rattle.held_bytes.specs.Numbers.{trbOf}
 use Rattle.phase_table.specs.Table.{trbOutcome}
 use Rattle.control_questions.specs.Submission.{submissionQuestions}
 use borrow.Author.Needs.{needs}
@@ -10,8 +11,8 @@ use Rattle.control_in_place.proofs.ask_submission.Tie as tie
 facts-requires : tie.Need-facts-requires
 facts-requires c κs = search needs
 
-trb-outcome-requires : tie.Need-trb-outcome-requires
-trb-outcome-requires c κs = search needs
+outcome-of-requires : tie.Need-outcome-of-requires
+outcome-of-requires c κs = search needs
 
 ask-submission-requires : tie.Need-ask-submission-requires
 ask-submission-requires c κs = search needs
@@ -20,14 +21,16 @@ returns : tie.Need-returns
 returns c =
     let o = c .before in
     let f = o .before in
-    let a = f .before .before .args in
+    let s = f .before .before in
+    let a = s .args in
+    let n = a .numbers in
     let facts = f .facts .ensures in
-    let outcome = o .trb-outcome .ensures ∙ (λ j. trbOutcome (facts j .phase) (a .t .variant)) in
+    let outcome = o .outcome-of .ensures (n .value) (n .«transfer_length») ∙ (λ j. trbOutcome (facts j .phase) (trbOf n .variant)) in
     record {
       outcome = outcome;
-      number = c .ask-submission .ensures ∙ (λ j. firstNo (submissionQuestions (a .log-length) (a .collect-length) (facts j) (outcome j) (a .t) (a .regions)));
+      number = c .ask-submission .ensures (trbOf n) (s .pre .1) ∙ (λ j. firstNo (submissionQuestions (a .log-length) (a .collect-length) (facts j) (outcome j) (trbOf n) (a .regions)));
     }
 
 pub ask-submission-spec : {M : Type 1} → statement M
 ask-submission-spec =
-    tie.close (tie.spec facts-requires trb-outcome-requires ask-submission-requires returns)
+    tie.close (tie.spec facts-requires outcome-of-requires ask-submission-requires returns)

@@ -3,7 +3,6 @@ use mathlib.Core.Path.{_≡_, sym, ap, _∙_, subst}
 use lib.ListN.{length}
 use Rattle.trb.specs.Answers.{numberOf}
 use Rattle.trb.specs.declared.Answer.the-variants.{Accepted}
-use Rattle.trb.specs.declared.TransferTrb.{TransferTrb}
 use Rattle.held_bytes.specs.Numbers.{trbOf}
 use Rattle.guest_memory.specs.declared.Regions.{Regions}
 use Rattle.guest_memory.specs.Places.{Memory, memoryOf, regionsOf}
@@ -25,15 +24,14 @@ asked-by : (k : tie.After-ask-submission) → let a = start k .args in
 asked-by k =
     let g = k .before .before in
     let a = start k .args in
-    subst (λ (rs : Regions). Asked (length (a .log .now)) (length (a .collect .now)) (a .block .now) (trbOf (a .numbers)) rs (k .ask-submission .result)) (g .guest-regions .ensures)
-    (subst (λ (t : TransferTrb). Asked (length (a .log .now)) (length (a .collect .now)) (a .block .now) t (g .guest-regions .result) (k .ask-submission .result)) (g .before .trb-of .ensures) (k .ask-submission .ensures))
+    subst (λ (rs : Regions). Asked (length (a .log .now)) (length (a .collect .now)) (a .block .now) (trbOf (a .numbers)) rs (k .ask-submission .result)) (g .guest-regions .ensures) (k .ask-submission .ensures)
 
 acceptable : (k : tie.After-ask-submission) → k .ask-submission .result .answer ≡ Accepted → let a = start k .args in
     Acceptable (a .log .now) (a .collect .now) (a .block .now) (trbOf (a .numbers)) (memory (start k)) (k .ask-submission .result .outcome)
 acceptable k told = record { long = start k .pre; outcome = asked-by k .outcome; none = sym (asked-by k .number) ∙ ap numberOf told }
 
-trb-of-requires : tie.Need-trb-of-requires
-trb-of-requires c κs = search needs
+data-of-requires : tie.Need-data-of-requires
+data-of-requires c κs = search needs
 
 guest-regions-requires : tie.Need-guest-regions-requires
 guest-regions-requires c κs = search needs
@@ -50,7 +48,7 @@ enum-told c = search needs
 accept-trb-requires : tie.Need-accept-trb-requires
 accept-trb-requires c κs =
     let k = c .before .before .before .before .before in
-    (k .before .before .before .trb-of .ensures, acceptable k (c .before .before .before .enum-told .given .1))
+    (k .before .before .before .data-of .ensures, acceptable k (c .before .before .before .enum-told .given .1))
 
 same-length : tie.Need-same-length
 same-length c = search needs
@@ -83,7 +81,7 @@ pub submit-spec : {M : Type 1} → statement M
 submit-spec =
     tie.close
     (tie.spec
-    trb-of-requires
+    data-of-requires
     guest-regions-requires
     ask-submission-requires
     enum-known-answer

@@ -14,8 +14,8 @@ decode-requires c κs = search needs
 numbers-of-requires : tie.Need-numbers-of-requires
 numbers-of-requires c κs = search needs
 
-submit-trb-requires : tie.Need-submit-trb-requires
-submit-trb-requires c κs = search needs
+submit-numbers-requires : tie.Need-submit-numbers-requires
+submit-numbers-requires c κs = search needs
 
 same-length : tie.Need-same-length
 same-length c = search needs
@@ -32,9 +32,9 @@ returns c =
     let n = k .before .before .before .before in
     let d = n .before in
     let a = d .before .before .before .before .before .before .args in
-    subst (λ (t : TransferTrb). SubmitsInPlace (lentLog (a .log .now) (a .block .now)) t (memoryOf (a .low-base) (a .low .now) (a .high-base) (a .high .now)) (a .log .now) (a .collect .now) (a .block .now) (k .submit-trb .result) (k .submit-trb .last .0) (k .submit-trb .last .1 .0) (k .submit-trb .last .1 .1 .0))
+    subst (λ (t : TransferTrb). SubmitsInPlace (lentLog (a .log .now) (a .block .now)) t (memoryOf (a .low-base) (a .low .now) (a .high-base) (a .high .now)) (a .log .now) (a .collect .now) (a .block .now) (k .submit-numbers .result) (k .submit-numbers .last .0) (k .submit-numbers .last .1 .0) (k .submit-numbers .last .1 .1 .0))
     (n .numbers-of .ensures .1 ∙ ap (λ (x : DecodedTrb). record { variant = x .variant; addr = a .addr; «cycle_bit» = x .«cycle_bit» }) (d .decode .ensures))
-    (k .submit-trb .ensures)
+    (k .submit-numbers .ensures)
 
 pub submit-raw-spec : {M : Type 1} → statement M
 submit-raw-spec =
@@ -42,7 +42,7 @@ submit-raw-spec =
     (tie.spec
     decode-requires
     numbers-of-requires
-    submit-trb-requires
+    submit-numbers-requires
     same-length
     same-length-2
     same-length-3

@@ -39,8 +39,8 @@ loop-holds c =
     rw (c .at-start-of-td .ensures)
     (walked-none (endingWalker (a .ending) (a .info)) atStart (take (a .count) (blockOf (a .block .now) .trbs)) (a .log .now) (record { within = omega arith }), search needs)
 
-trb-at-requires : tie.Need-trb-at-requires Inv-loop μ-loop
-trb-at-requires c κs = let s = c .before .before .before .before .before in omega (arith, s .pre, c .loop-test .taken)
+numbers-at-requires : tie.Need-numbers-at-requires Inv-loop μ-loop
+numbers-at-requires c κs = let s = c .before .before .before .before .before in omega (arith, s .pre, c .loop-test .taken)
 
 next-trb-requires : tie.Need-next-trb-requires Inv-loop μ-loop
 next-trb-requires c κs =
@@ -64,7 +64,7 @@ loop-again c =
     let a = s .args in
     let b = a .block .now in
     let more = t .before .loop-test .taken in
-    let e = trb-held b (l .loop .j) pastEnd (omega (arith, more, s .pre .1 .1)) ∙ sym (t .trb-at .ensures) in (
+    let e = trb-held b (l .loop .j) pastEnd (omega (arith, more, s .pre .1 .1)) ∙ sym (t .numbers-at .ensures) in (
       walked-turn (endingWalker (a .ending) (a .info)) (blockOf b .trbs) (a .count) (few s) atStart (a .log .now) (l .loop .log) (n .next-trb .last .0) (l .loop .progress) (n .next-trb .result) (l .loop .j) pastEnd (l .loop .inv .0) refl more (room s)
           (meets (ap (λ (x : TransferTrb). nextTrb (a .ending) (a .info) (l .loop .progress) x) e) (n .next-trb .ensures)),
       search needs,
@@ -88,7 +88,7 @@ end-held-spec =
     μ-loop
     at-start-of-td-requires
     loop-holds
-    trb-at-requires
+    numbers-at-requires
     next-trb-requires
     add-j
     loop-less

@@ -1,11 +1,14 @@
--- `control_stores::end_transfer` meets its contract: the head is stored, and as many places are held as stay. Assumes nothing.
+-- `control_stores::end_transfer` meets its contract: as many places are held as stay, and of the rest of the head the phase and the state change. Assumes nothing.
 use Prim.Native.Nat.{ℕ, _-_}
 use mathlib.Core.Path.{ap, _∙_}
 use native.Mathlib.Omega.{arith}
-use Rattle.control_block.specs.Blocks.{atPhase}
+use Rattle.trb.specs.declared.ControlSubmissionState.the-variants.{NoTrbSubmitted}
+use Rattle.control_block.specs.Blocks.{transferOf}
 use Rattle.control_block.specs.Endings.{placesFreed, phaseBehind}
 use Rattle.control_block.proofs.BlockLaws.{freed-held}
-use Rattle.control_stores.proofs.StoreLaws.{ended}
+use Rattle.control_bytes.specs.Layout.{blockOf}
+use Rattle.control_bytes.specs.Stores.{turned, counting}
+use Rattle.control_stores.proofs.StoreLaws.{progress-stored, ended}
 use borrow.Author.Needs.{needs}
 use Rattle.control_stores.proofs.end_transfer.Statement.{statement}
 use Rattle.control_stores.proofs.end_transfer.Tie as tie
@@ -25,35 +28,39 @@ places-freed-requires c κs = search needs
 phase-behind-requires : tie.Need-phase-behind-requires
 phase-behind-requires c κs = search needs
 
-at-phase-requires : tie.Need-at-phase-requires
-at-phase-requires c κs = search needs
+put-turn-requires : tie.Need-put-turn-requires
+put-turn-requires c κs = search needs
 
-sub-put-head : tie.Need-sub-put-head
-sub-put-head c =
-    let p = c .before .before .before in
-    omega (arith, p .places-freed .ensures, freed-held (p .before .before .before .before .before .before .before .before .args .ending) (p .before .held .result))
+sub-put-counts : tie.Need-sub-put-counts
+sub-put-counts c =
+    let p = c .before .before .before .before .before .before in
+    omega (arith, p .places-freed .ensures, freed-held (p .before .before .before .before .before .before .before .before .before .args .ending) (p .before .held .result))
 
-put-head-requires : tie.Need-put-head-requires
-put-head-requires c κs = search needs
+put-counts-requires : tie.Need-put-counts-requires
+put-counts-requires c κs = search needs
 
 same-length : tie.Need-same-length
 same-length c = search needs
 
 returns : tie.Need-returns
 returns c =
-    let h = c .before .before in
-    let a = h .before .before in
-    let q = a .before in
+    let k = c .before .before in
+    let u = k .before .before .before .before in
+    let q = u .before .before in
     let p = q .before in
-    let k = p .before in
-    let g = k .before .before in
-    let t = g .before .before in
+    let h = p .before in
+    let g = h .before .before in
+    let t = g .before .before .before in
     let s = t .before .before .before in
     let b = s .args .block .now in
     let x = s .args .ending in
-    let phase = q .phase-behind .ensures ∙ (λ j. phaseBehind (g .state .ensures j) (t .transfer .ensures j .phase)) in
-    ended b (h .put-head .last .0) x (a .at-phase .result) (k .held .result - p .places-freed .result) (p .places-freed .result) (a .at-phase .ensures ∙ (λ j. atPhase (phase j) (t .transfer .ensures j)))
-    (p .places-freed .ensures ∙ ap (λ (n : ℕ). placesFreed x n) (k .held .ensures .0)) (ap (λ (n : ℕ). n - p .places-freed .result) (k .held .ensures .0)) (h .put-head .ensures)
+    let w = t .transfer .result in
+    let old = t .transfer .ensures in
+    let phase = q .phase-behind .ensures ∙ (λ j. phaseBehind (g .state .ensures j) (old j .phase)) in
+    ended b (k .put-counts .last .0) x (counting (w .collected) (w .request .length) (turned (q .phase-behind .result) (w .direction) (transferOf (blockOf b)))) (h .held .result - p .places-freed .result) (p .places-freed .result)
+    (λ j. counting (old j .collected) (old j .request .length) (turned (phase j) (old j .direction) (transferOf (blockOf b))))
+    (p .places-freed .ensures ∙ ap (λ (n : ℕ). placesFreed x n) (h .held .ensures .0)) (ap (λ (n : ℕ). n - p .places-freed .result) (h .held .ensures .0))
+    (progress-stored b (u .put-turn .last .0) (k .put-counts .last .0) (q .phase-behind .result) NoTrbSubmitted (w .direction) (w .collected) (w .request .length) (h .held .result - p .places-freed .result) (u .put-turn .ensures) (k .put-counts .ensures))
 
 pub end-transfer-spec : {M : Type 1} → statement M
 end-transfer-spec =
@@ -64,8 +71,8 @@ end-transfer-spec =
     held-requires
     places-freed-requires
     phase-behind-requires
-    at-phase-requires
-    sub-put-head
-    put-head-requires
+    put-turn-requires
+    sub-put-counts
+    put-counts-requires
     same-length
     returns)

@@ -1,6 +1,6 @@
 -- `control_stores::take_trb` meets its contract: the TRB is stored, if it is held, then the head. Assumes nothing.
 use Prim.Native.Nat.{ℕ, _-_}
-use mathlib.Core.Path.{_≡_, sym, ap, _∙_, subst}
+use mathlib.Core.Path.{_≡_, refl, sym, ap, _∙_, subst}
 use native.Mathlib.Omega.{arith}
 use Rattle.held_bytes.specs.Numbers.{trbOf}
 use Rattle.phase_table.specs.Outcomes.{holds, restarts, stateAfter}
@@ -48,21 +48,16 @@ hold-trb-requires c κs =
     let s = start (c .before) in
     (s .pre .0 .0, λ hold. subst (λ (n : ℕ). Holdable n (trbOf (s .args .numbers))) (sym (kept (c .before))) (s .pre .1 hold))
 
-transfer-after-requires : tie.Need-transfer-after-requires
-transfer-after-requires c κs =
-    let d = c .before .before .before .before in
-    omega (arith, ap (λ (w : ControlTransfer). w .collected) (d .before .before .before .before .transfer .ensures), start d .pre .0 .1 .1 .0)
-
-state-after-requires : tie.Need-state-after-requires
-state-after-requires c κs = search needs
-
-put-head-requires : tie.Need-put-head-requires
-put-head-requires c κs =
-    let h = c .before .before .before .before .before in
+advance-requires : tie.Need-advance-requires
+advance-requires c κs =
+    let h = c .before .before .before in
     let d = h .before .before in
+    let t = d .before .before .before .before in
     let s = start d in
-    let few = next-few (holds (s .args .outcome)) (d .before .before .held .result - d .places-dropped .result) (h .hold-trb .result) (h .hold-trb .ensures .held) in
-    (omega (arith, h .hold-trb .ensures .long, s .pre .0 .0), omega (arith, few, d .before .before .held .ensures .0, s .pre .0 .1 .0))
+    let few = next-few (holds (s .args .outcome)) (d .before .before .held .result - d .places-dropped .result) (h .hold-trb .result) (h .hold-trb .ensures .held) in (
+      (omega (arith, h .hold-trb .ensures .long, s .pre .0 .0), omega (arith, few, d .before .before .held .ensures .0, s .pre .0 .1 .0)),
+      (t .transfer .ensures ∙ sym (h .hold-trb .ensures .transfer), (omega (arith, ap (λ (w : ControlTransfer). w .collected) (t .transfer .ensures), s .pre .0 .1 .1 .0), s .pre .0 .1 .1 .1)),
+    )
 
 same-length : tie.Need-same-length
 same-length c = search needs
@@ -70,17 +65,14 @@ same-length c = search needs
 returns : tie.Need-returns
 returns c =
     let p = c .before .before in
-    let n = p .before .before in
-    let w = n .before in
-    let h = w .before .before .before in
+    let h = p .before .before .before .before in
     let d = h .before .before in
     let t = d .before .before .before .before in
     let a = start d .args in
-    let kind = start d .pre .0 .1 .1 .1 in
-    let old = t .transfer .ensures in
-    taken (a .block .now) (h .hold-trb .last .0) (a .outcome) (trbOf (a .numbers)) (d .before .before .held .result - d .places-dropped .result) (h .hold-trb .result) (kept d) (h .hold-trb .ensures) (w .transfer-after .result)
-    (n .state-after .result) (p .put-head .last .0) (w .transfer-after .ensures ∙ (λ j. transferAfter (a .outcome) (kind j .variant) (kind j .addr) (old j)))
-    (n .state-after .ensures ∙ (λ j. stateAfter (a .outcome) (kind j .addr))) (p .put-head .ensures)
+    let v = trbOf (a .numbers) .variant in
+    let at = trbOf (a .numbers) .addr in
+    taken (a .block .now) (h .hold-trb .last .0) (a .outcome) (trbOf (a .numbers)) (d .before .before .held .result - d .places-dropped .result) (h .hold-trb .result) (kept d) (h .hold-trb .ensures)
+    (transferAfter (a .outcome) v at (t .transfer .result)) (stateAfter (a .outcome) at) (p .advance .last .0) (ap (transferAfter (a .outcome) v at) (t .transfer .ensures)) refl (p .advance .ensures)
 
 pub take-trb-spec : {M : Type 1} → statement M
 take-trb-spec =
@@ -92,8 +84,6 @@ take-trb-spec =
     places-dropped-requires
     sub-hold-trb
     hold-trb-requires
-    transfer-after-requires
-    state-after-requires
-    put-head-requires
+    advance-requires
     same-length
     returns)

@@ -1,12 +1,10 @@
 -- `in_bytes::normal_length_at` meets its contract: the length is read where the place has it. Assumes nothing.
-use Prim.Native.Nat.{ℕ, _+_, _*_, _%_}
+use Prim.Native.Nat.{_+_, _*_, _%_}
 use mathlib.Core.Path.{sym, ap, _∙_}
 use mathlib.Core.Bool.{Bool, cond}
-use mathlib.Core.List.{List}
-use lib.ListN.{take, drop}
-use lib.Seq.{drop-drop}
+use lib.ListN.{drop}
 use Rattle.trb.specs.Limits.{maxTransferLength}
-use Rattle.buffers.specs.LittleEndian.{leNumber, leField}
+use Rattle.buffers.specs.LittleEndian.{leField}
 use Rattle.held_bytes.specs.Places.{placeLength}
 use Rattle.in_bytes.specs.Layout.{headLength}
 use Rattle.in_bytes.proofs.HeldLaws.{length-place}
@@ -17,32 +15,20 @@ use Rattle.in_bytes.proofs.normal_length_at.Tie as tie
 normal-at-requires : tie.Need-normal-at-requires
 normal-at-requires c κs = search needs
 
-mul-le32 : tie.Need-mul-le32
-mul-le32 c = search needs
+mul-length-at : tie.Need-mul-length-at
+mul-length-at c = search needs
 
-add-le32 : tie.Need-add-le32
-add-le32 c = search needs
+add-length-at : tie.Need-add-length-at
+add-length-at c = search needs
 
-add-le32-2 : tie.Need-add-le32-2
-add-le32-2 c = search needs
-
-le32-requires : tie.Need-le32-requires
-le32-requires c κs = search needs
-
-add-result : tie.Need-add-result
-add-result c = search needs
-
-rem-result : tie.Need-rem-result
-rem-result c = search needs
+length-at-requires : tie.Need-length-at-requires
+length-at-requires c κs = search needs
 
 returns : tie.Need-returns
 returns c =
     let s = c .before .before .before .before .args in
-    let b = s .block .now in
-    let at : ℕ = headLength + placeLength * s .i in
-    rw (c .le32 .ensures)
-    (sym (length-place (drop at b) ∙ ap (λ (x : Bool). cond x (leField 16 4 (drop at b) % (maxTransferLength + 1)) 0) (sym (c .before .before .normal-at .ensures) ∙ c .before .if1 .taken)
-    ∙ ap (λ (l : List ℕ). leNumber (take 4 l) % (maxTransferLength + 1)) (drop-drop 16 at b)))
+    let l = drop (headLength + placeLength * s .i) (s .block .now) in
+    c .length-at .ensures ∙ sym (length-place l ∙ ap (λ (x : Bool). cond x (leField 16 4 l % (maxTransferLength + 1)) 0) (sym (c .before .before .normal-at .ensures) ∙ c .before .if1 .taken))
 
 returns-2 : tie.Need-returns-2
 returns-2 c =
@@ -55,11 +41,8 @@ normal-length-at-spec =
     tie.close
     (tie.spec
     normal-at-requires
-    mul-le32
-    add-le32
-    add-le32-2
-    le32-requires
-    add-result
-    rem-result
+    mul-length-at
+    add-length-at
+    length-at-requires
     returns
     returns-2)

@@ -24,16 +24,11 @@ loop-holds c =
     let a = c .before .before .before .args in
     rw (c .untested .ensures) (testing-none (a .regions) (resultsIn (a .results .now)) (take (a .count) (trbsIn (a .row .now))), omega arith)
 
-trb-at-requires : tie.Need-trb-at-requires Inv-loop μ-loop
-trb-at-requires c κs = omega (arith, c .loop-test .taken, c .before .before .before .before .before .pre .0)
-
-result-at-requires : tie.Need-result-at-requires Inv-loop μ-loop
-result-at-requires c κs = search needs
-
-test-trb-requires : tie.Need-test-trb-requires Inv-loop μ-loop
-test-trb-requires c κs =
-    let k = c .before .before .before .loop .inv .0 in
-    omega (arith, k .held, k .tds, k .given, c .before .before .loop-test .taken, c .before .before .before .before .before .before .before .pre .1)
+test-at-requires : tie.Need-test-at-requires Inv-loop μ-loop
+test-at-requires c κs =
+    let k = c .before .loop .inv .0 in
+    let s = c .before .before .before .before .before in
+    (omega (arith, c .loop-test .taken, s .pre .0), (omega (arith, k .held, c .loop-test .taken, s .pre .1), omega (arith, k .tds, k .given, c .loop-test .taken, s .pre .1)))
 
 add-j : tie.Need-add-j Inv-loop μ-loop
 add-j c = search needs
@@ -43,13 +38,12 @@ loop-less c = search needs
 
 loop-again : tie.Need-loop-again Inv-loop μ-loop
 loop-again c =
-    let l = c .before .before .before .before in
+    let l = c .before .before in
     let s = l .before .before .before .before in
     let ts = trbsIn (s .args .row .now) in
-    let more = c .before .before .before .loop-test .taken in (
-      testing-turn (s .args .regions) (resultsIn (s .args .results .now)) (take (s .args .count) ts) (l .loop .test) (c .test-trb .result) (l .loop .j) pastEnd (l .loop .inv .0)
-          (omega (arith, length-take-le (s .args .count) ts (s .pre .0), more))
-          (rw (getD-take (s .args .count) ts (l .loop .j) pastEnd more, ← c .before .before .trb-at .ensures, ← c .before .result-at .ensures) (c .test-trb .ensures .0)) (c .test-trb .ensures .1),
+    let more = c .before .loop-test .taken in (
+      testing-turn (s .args .regions) (resultsIn (s .args .results .now)) (take (s .args .count) ts) (l .loop .test) (c .test-at .result) (l .loop .j) pastEnd (l .loop .inv .0)
+          (omega (arith, length-take-le (s .args .count) ts (s .pre .0), more)) (rw (getD-take (s .args .count) ts (l .loop .j) pastEnd more) (c .test-at .ensures .0)) (c .test-at .ensures .1),
       omega (arith, more),
     )
 
@@ -69,9 +63,7 @@ test-row-spec =
     μ-loop
     untested-requires
     loop-holds
-    trb-at-requires
-    result-at-requires
-    test-trb-requires
+    test-at-requires
     add-j
     loop-less
     loop-again

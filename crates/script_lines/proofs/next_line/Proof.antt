@@ -2,6 +2,7 @@
 use mathlib.Core.Path.{refl, sym}
 use native.Mathlib.Omega.{arith}
 use lib.Seq.{length-take-le}
+use Rattle.script_lines.proofs.LineLaws.{finds-none}
 use borrow.Author.Needs.{needs}
 use Rattle.script_lines.proofs.next_line.Statement.{statement}
 use Rattle.script_lines.proofs.next_line.Tie as tie
@@ -17,26 +18,28 @@ line-end-requires c κs =
     let s = c .before .before in
     omega (arith, s .pre .0, length-take-le (s .args .filled) (s .args .input .now) (s .pre .1))
 
-add-t9 : tie.Need-add-t9
-add-t9 c = search needs
+add-t10 : tie.Need-add-t10
+add-t10 c = search needs
 
 same-length : tie.Need-same-length
 same-length c = search needs
 
 returns : tie.Need-returns
-returns c = record {
-  stepped = search needs;
-  finds = record { input = refl; start = refl; line = c .before .line-end .ensures .line; ended = c .if1 .taken; next = refl; bytes = refl };
-}
+returns c = search needs
 
 refill-requires : tie.Need-refill-requires
 refill-requires c κs = search needs
+
+step-of-requires : tie.Need-step-of-requires
+step-of-requires c κs = search needs
 
 same-length-2 : tie.Need-same-length-2
 same-length-2 c = search needs
 
 returns-2 : tie.Need-returns-2
-returns-2 c = c .before .before .refill .ensures
+returns-2 c =
+    let e = c .before .before .before .refill in
+    finds-none (e .result) (c .step-of .ensures) (e .kept .0) (e .ensures)
 
 pub next-line-spec : {M : Type 1} → statement M
 next-line-spec =
@@ -45,9 +48,10 @@ next-line-spec =
     slice-reshare-prefix-line-end
     slice-aggregate-line-end
     line-end-requires
-    add-t9
+    add-t10
     same-length
     returns
     refill-requires
+    step-of-requires
     same-length-2
     returns-2)

@@ -1,7 +1,8 @@
 -- `script_run::read_line` meets its contract: a line that is too long is bad. Assumes nothing.
 use borrow.Author.Needs.{needs}
 use borrow.Author.Tests.{le-leb, lt-leb}
-use Rattle.script_run.specs.Runs.{maxLine, lineCall}
+use Rattle.script_lines.specs.Lines.{maxLine}
+use Rattle.script_run.specs.Runs.{lineCall}
 use Rattle.script_run.proofs.read_line.Statement.{statement}
 use Rattle.script_run.proofs.read_line.Tie as tie
 

@@ -1,0 +1,3 @@
+pub mod OtherCalls
+pub mod PlaceLaws
+pub mod RefusedCalls

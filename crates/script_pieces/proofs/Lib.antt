@@ -1,0 +1,3 @@
+pub mod LineLaws
+pub mod TakenLaws
+pub mod ComesLaws
