@@ -8,7 +8,7 @@ use lib.Dec.{eqb, leb}
 use lib.ListN.{take}
 use Rattle.trb.specs.declared.TransferTrb.{TransferTrb}
 use Rattle.trb.proofs.TestLaws.{and_left, and_right}
-use Rattle.log.specs.declared.Record.{Record}
+use Rattle.call_log.specs.declared.Record.{Record}
 use Rattle.in_td.specs.Normals.{requested}
 use Rattle.account.specs.Guest.{places, is_write, is_event, any, relied, sum_for, residual_in, account, names_held, before, later, numbered, bytes, Account}
 use Rattle.account.specs.Claims.{same, accounts}

@@ -13,7 +13,7 @@ use lib.Seq.{take_all, take-append-add, take-append-le}
 use Rattle.trb.specs.declared.NormalTrb.{NormalTrb}
 use Rattle.trb.specs.declared.TransferTrb.{TransferTrb}
 use Rattle.trb.proofs.TestLaws.{or-false-left, or-false-right, le-or-lt}
-use Rattle.log.specs.declared.Record.{Record}
+use Rattle.call_log.specs.declared.Record.{Record}
 use Rattle.in_td.specs.Normals.{normal_of, length_of, normal_length, requested}
 use Rattle.account.specs.Guest.{is_held, range, range_of, normal_range, places, Apart, is_write, any, first, before_first, before_last, numbered, stands_for, bytes, write_lengths}
 

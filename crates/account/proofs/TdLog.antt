@@ -8,9 +8,9 @@ use lib.ListN.{length}
 use Rattle.trb.specs.declared.NormalTrb.{NormalTrb}
 use Rattle.trb.specs.declared.TransferTrb.{TransferTrb}
 use Rattle.trb.specs.declared.TransferTrbVariant.TheVariants.{Normal}
-use Rattle.log.specs.Calls.{Out, silent}
-use Rattle.log.specs.Records.{when}
-use Rattle.log.specs.declared.Record.{Record}
+use Rattle.call_log.specs.Calls.{Out, silent}
+use Rattle.call_log.specs.Records.{when}
+use Rattle.call_log.specs.declared.Record.{Record}
 use Rattle.td_part.specs.Parts.{edtla_after}
 use Rattle.td_part.specs.declared.TdProcessingState.TheVariants.{Default, ShortTransfer}
 use Rattle.walks.specs.Walk.{join, walk}

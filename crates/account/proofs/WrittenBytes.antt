@@ -18,8 +18,8 @@ use Rattle.trb.specs.declared.SlotId.{SlotId}
 use Rattle.trb.specs.declared.TransferTrb.{TransferTrb}
 use Rattle.trb.specs.declared.TransferTrbVariant.TheVariants.{Normal}
 use Rattle.trb.proofs.TestLaws.{le-or-lt}
-use Rattle.log.specs.Records.{when}
-use Rattle.log.specs.declared.Record.{Record}
+use Rattle.call_log.specs.Records.{when}
+use Rattle.call_log.specs.declared.Record.{Record}
 use Rattle.td_part.specs.Parts.{edtla_after}
 use Rattle.in_td.specs.Td.{normals, fails_at_last, process_td, in_td}
 use Rattle.in_td.specs.declared.InMode.{InMode}

@@ -9,8 +9,8 @@ use Rattle.trb.specs.declared.InTrbProcessingStatus.{InTrbProcessingStatus}
 use Rattle.trb.specs.declared.InTrbProcessingStatus.TheVariants.{Success, Stall, TransactionError, Disconnect}
 use Rattle.trb.specs.declared.TransferTrb.{TransferTrb}
 use Rattle.trb.specs.declared.TransferTrbVariant.TheVariants.{Normal, EventData, NoOp}
-use Rattle.log.specs.Records.{guest_write, transfer_event}
-use Rattle.log.specs.declared.Record.{Record}
+use Rattle.call_log.specs.Records.{guest_write, transfer_event}
+use Rattle.call_log.specs.declared.Record.{Record}
 use Rattle.td_part.specs.Parts.{put_dma, realize_dma}
 use Rattle.walks.specs.Walk.{walk}
 use Rattle.in_td.specs.Td.{handle_normal, process_trb, process_td, in_td}

@@ -10,9 +10,9 @@ use Rattle.trb.specs.declared.SlotId.{SlotId}
 use Rattle.trb.specs.declared.TransferTrb.{TransferTrb}
 use Rattle.trb.specs.declared.TrbProcessingResult.{TrbProcessingResult}
 use Rattle.trb.specs.declared.TrbProcessingResult.TheVariants as result
-use Rattle.log.specs.Calls.{Out}
-use Rattle.log.specs.Records.{transfer_event}
-use Rattle.log.specs.declared.Record.{Record}
+use Rattle.call_log.specs.Calls.{Out}
+use Rattle.call_log.specs.Records.{transfer_event}
+use Rattle.call_log.specs.declared.Record.{Record}
 use Rattle.in_td.specs.Td.{is_normal, process_td, in_td}
 use Rattle.in_td.specs.declared.InMode.TheVariants.{AsPorted}
 use Rattle.in_td.specs.declared.TdProcessed.{TdProcessed}

@@ -1,4 +1,6 @@
 // What the exported calls answer: the cases of an answer as plain numbers, in structs that C has too.
+#![tactic(auto)]
+
 ghost use Rattle.std.specs.Prelude.{◌≡◌};
 ghost use Rattle.trb.specs.Answers.{number_of};
 ghost use Rattle.answer_numbers.specs.Numbers.{answered_as, flag_number, plain, located, completed_with, completion_answered};
@@ -7,7 +9,7 @@ use trb::{Answer, CompletionAnswer, CompletionCode, TrbProcessingResult};
 
 // What a call answers: the number of the question that said no, or 0, and how many records or bytes it made.
 #[repr(C)]
-#[derive(Drop)]
+#[derive(Clone, Copy)]
 pub struct Answered {
     pub number: u32,
     pub count: usize,
@@ -17,7 +19,7 @@ pub struct Answered {
 // disconnect, 4 TRB error) with its completion code; whether it carries an address and a cycle bit, and these; how many records were
 // logged.
 #[repr(C)]
-#[derive(Drop)]
+#[derive(Clone, Copy)]
 pub struct CompletionAnswered {
     pub number: u32,
     pub result: u8,

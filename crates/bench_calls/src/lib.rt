@@ -1,5 +1,7 @@
 // What bench/ times: the product on repeated work, over numbers and lent bytes alone. Each function answers a checksum.
 // One call site for each timed function, as a program has that drives an endpoint.
+#![tactic(auto)]
+
 use control_block::GuestRelease;
 use in_td::InMode;
 use trb::{

@@ -1,5 +1,7 @@
 // The work that bench/ times, and its checksum, which the same work on the Rust answers too: records, plus `FAILED` for each
 // result but Ok, plus `REFUSED` for each refusal.
+#![tactic(auto)]
+
 use trb::{
     Answer, CompletionAnswer, InTrbProcessingResult, InTrbProcessingStatus, NormalTrb, TransferTrb,
     TransferTrbVariant, TrbProcessingResult,

@@ -1,14 +1,17 @@
 // Lent buffers: bytes laid over a buffer, little-endian numbers read from one, and the bytes of a number.
+#![tactic(auto)]
+
 ghost use Rattle.std.specs.Prelude.{◌≡◌, ◌+◌, ◌<◌, ◌≤◌, length};
 ghost use Rattle.buffers.specs.Patch.{patch};
 ghost use Rattle.buffers.specs.LittleEndian.{le_field, le_bytes};
 
-// Lays the bytes of `src` over `dst` from index `at` on. The kit's `bytes::copy` moves them, at memory speed.
+// Lays the bytes of `src` over `dst` from index `at` on.
 pub fn copy_into(dst: &mut [u8], at: usize, src: &[u8])
     requires { at + length src.now ≤ length dst.old }
     ensures { dst.new ≡ patch dst.old at src.now }
 {
-    bytes::copy(src, &mut dst[at..]);
+    let end = at + src.len();
+    dst[at..end].copy_from_slice(src);
 }
 
 fn wide(byte: u8) -> u16

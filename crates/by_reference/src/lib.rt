@@ -1,6 +1,8 @@
 // Submission, completion and cancel of the two endpoints, with the block lent and updated where it is.
+#![tactic(auto)]
+
 ghost use Rattle.std.specs.Prelude.{◌≡◌, length};
-ghost use Rattle.log.specs.Calls.{Meets};
+ghost use Rattle.call_log.specs.Calls.{Meets};
 ghost use Rattle.guest_memory.specs.Regions.{guest_regions};
 ghost use Rattle.guest_memory.specs.Places.{memory_of};
 ghost use Rattle.in_endpoint.specs.Creation.{cancelled};
@@ -16,13 +18,13 @@ use trb::{
     Answer, CompletionAnswer, ControlRequestProcessingResult, InTrbProcessingResult, TransferTrb,
 };
 
-#[derive(Drop)]
+#[derive(Clone, Copy)]
 pub struct SubmissionOutcome {
     pub answer: Answer,
     pub records: usize,
 }
 
-#[derive(Drop)]
+#[derive(Clone, Copy)]
 pub struct CompletionOutcome {
     pub answer: CompletionAnswer,
     pub records: usize,

@@ -1,4 +1,6 @@
 // The answer of a call: its text, and for a completion what it does to guest memory.
+#![tactic(auto)]
+
 ghost use Rattle.std.specs.Prelude.{◌≡◌, ◌+◌, ◌≤◌, length};
 ghost use Rattle.trb.specs.Answers.{number_of};
 ghost use Rattle.trb.specs.Limits.{min_row_log};

@@ -1,4 +1,6 @@
 // Which records a call of a script gives to a capture: of the block before the call, of the records that it logged and of the bytes that it was given.
+#![tactic(auto)]
+
 ghost use Rattle.std.specs.Prelude.{◌≡◌, cond, []};
 ghost use Rattle.call_text.specs.Lines.{count_of};
 ghost use Rattle.capture_calls.specs.Events.{in_completion_event, control_completion_event};

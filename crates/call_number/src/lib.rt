@@ -1,11 +1,13 @@
 // The numbers of a call script, lower-case hex with no leading zeros, and its raw TRBs, lower-case hex byte by byte.
+#![tactic(auto)]
+
 ghost use Rattle.std.specs.Prelude.{◌≡◌, ◌++◌, ◌≤◌, length};
 ghost use Rattle.numerals.specs.Digits.{digits};
 ghost use Rattle.numerals.specs.Widths.{hex_places};
 ghost use Rattle.call_number.specs.Numbers.{digit_value, digits_from, has_leading_zero, number_of};
 ghost use Rattle.call_number.specs.RawBytes.{raw_places, no_raw_bytes, joined, halves_of, raw_of};
 
-#[derive(Drop)]
+#[derive(Clone, Copy)]
 pub enum Number {
     Is(u64),
     Bad,
@@ -80,7 +82,7 @@ pub fn read_number(field: &[u8]) -> Number
 pub const RAW_PLACES: usize = 32;
 
 // The bytes of a raw TRB; zeros where the field is none.
-#[derive(Drop)]
+#[derive(Clone, Copy)]
 pub struct RawBytes {
     pub good: bool,
     pub bytes: [u8; 16],

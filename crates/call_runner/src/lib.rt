@@ -1,5 +1,7 @@
-// Runs a call script: reads its lines from standard input and prints the answers.
-ghost use Rattle.std.specs.Prelude.{◌≡◌, ◌*◌, ◌≤◌, length};
+// Runs a call script: reads its lines and writes the answers.
+#![tactic(auto)]
+
+ghost use Rattle.std.specs.Prelude.{◌≡◌, ◌*◌, ◌≤◌, length, IfOk};
 ghost use Rattle.trb.specs.Limits.{min_row_log};
 ghost use Rattle.call_script.specs.Limits.{max_window, max_lent_log, max_lent_collect, max_script_data};
 ghost use Rattle.session_calls.specs.Answers.{state_of};
@@ -8,12 +10,14 @@ ghost use Rattle.call_runner.specs.Turns.{started, ahead_of, ReadsOn, Turns, Run
 
 use script_lines::Refilled;
 use session::Session;
+use std::io;
+use std::io::{Read, Write};
 
 // ---- Lines
 
 // How far a run has come: the lines taken, the characters that the last turn printed, whether every line was good, and whether there may be more. The bytes
 // of the input from `from` up to `filled` are not taken yet.
-#[derive(Drop)]
+#[derive(Clone, Copy)]
 struct Progress {
     session: Session,
     lines: u64,
@@ -41,7 +45,7 @@ fn started() -> Progress
 
 // What stands ahead of a run behind the lines that it took: the bytes from `from` up to `filled`; one line more where one is unfinished; whether the run
 // is good, and whether there may be more.
-#[derive(Drop)]
+#[derive(Clone, Copy)]
 struct Ahead {
     from: usize,
     filled: usize,
@@ -79,34 +83,43 @@ fn ahead_of(refilled: Refilled) -> Ahead
 }
 
 // Reads a further piece behind the bytes that were not taken, unless the run is not good any more, or there was no room for the text of all whole lines.
-fn read_on(input: &mut [u8], next: usize, filled: usize, good: bool, room: bool) -> Ahead
+fn read_on<R: Read>(
+    reader: &mut R,
+    input: &mut [u8],
+    next: usize,
+    filled: usize,
+    good: bool,
+    room: bool,
+) -> io::Result<Ahead>
     requires { (next ≤ filled) × (filled ≤ length input.old) }
-    ensures { ReadsOn good room input.old next filled result input.new }
+    ensures { IfOk result (λ ahead. ReadsOn good room input.old next filled ahead input.new) }
 {
     if !good {
-        return Ahead {
+        return Ok(Ahead {
             from: next,
             filled: filled,
             lines: 0,
             good: false,
             more: false,
-        };
+        });
     }
     if !room {
-        return Ahead {
+        return Ok(Ahead {
             from: next,
             filled: filled,
             lines: 0,
             good: true,
             more: true,
-        };
+        });
     }
-    let refilled = script_lines::refill(input, next, filled);
-    ahead_of(refilled)
+    let refilled = script_lines::refill(reader, input, next, filled)?;
+    Ok(ahead_of(refilled))
 }
 
 // Takes the whole lines that are read, writes their text out, and reads on.
-fn take_turn(
+fn take_turn<R: Read, W: Write>(
+    reader: &mut R,
+    writer: &mut W,
     text: &mut [u8],
     progress: Progress,
     input: &mut [u8],
@@ -115,11 +128,11 @@ fn take_turn(
     data: &[u8],
     low: &mut [u8],
     high: &mut [u8],
-) -> Progress
+) -> io::Result<Progress>
     requires max_answer_in_bounds { max_answer ≤ length text.old }
     requires log_len_bound { length log.old ≤ min_row_log }
     requires from_le_filled { (progress.from ≤ progress.filled) × (progress.filled ≤ length input.old) }
-    ensures { Turns «data».now (state_of progress.session log.old collect.old low.old high.old) input.old progress result text.new input.new (state_of result.session log.new collect.new low.new high.new) }
+    ensures { IfOk result (λ after. Turns «data».now (state_of progress.session log.old collect.old low.old high.old) input.old progress after text.new input.new (state_of after.session log.new collect.new low.new high.new)) }
 {
     let before = progress.session;
     let from = progress.from;
@@ -136,12 +149,12 @@ fn take_turn(
         high,
     );
     let end = taken.end;
-    script_lines::write_text(text, end);
+    script_lines::write_text(writer, text, end)?;
     let room = end <= text.len() - state_text::MAX_ANSWER;
-    let ahead = read_on(input, taken.next, filled, taken.good, room);
+    let ahead = read_on(reader, input, taken.next, filled, taken.good, room)?;
     let lines = script_lines::lines_behind(progress.lines, taken.lines);
     let after = taken.session;
-    Progress {
+    Ok(Progress {
         session: after,
         lines: script_lines::lines_behind(lines, ahead.lines),
         printed: end,
@@ -149,11 +162,13 @@ fn take_turn(
         more: ahead.more,
         from: ahead.from,
         filled: ahead.filled,
-    }
+    })
 }
 
 // Takes the input to its end, or to a bad line.
-fn run_input(
+fn run_input<R: Read, W: Write>(
+    reader: &mut R,
+    writer: &mut W,
     text: &mut [u8],
     input: &mut [u8],
     log: &mut [u8],
@@ -161,18 +176,20 @@ fn run_input(
     data: &[u8],
     low: &mut [u8],
     high: &mut [u8],
-) -> Progress
+) -> io::Result<Progress>
     requires max_answer_in_bounds { max_answer ≤ length text.old }
     requires log_len_bound { length log.old ≤ min_row_log }
-    ensures { RunsInput «data».now (state_of started.session log.old collect.old low.old high.old) result (state_of result.session log.new collect.new low.new high.new) }
+    ensures { IfOk result (λ ended. RunsInput «data».now (state_of started.session log.old collect.old low.old high.old) ended (state_of ended.session log.new collect.new low.new high.new)) }
 {
     let mut progress = started();
     let mut turns = u64::MAX;
     while 0 < turns {
-        progress = take_turn(text, progress, input, log, collect, data, low, high);
+        progress = take_turn(
+            reader, writer, text, progress, input, log, collect, data, low, high,
+        )?;
         turns = script_lines::turns_left(turns, progress.more);
     }
-    progress
+    Ok(progress)
 }
 
 // ---- Buffers
@@ -214,9 +231,9 @@ pub fn data_buffer() -> [u8; call_script::MAX_SCRIPT_DATA]
     [0u8; call_script::MAX_SCRIPT_DATA]
 }
 
-// Runs the call script on standard input and prints the answers. What it reads and writes is all that it does, and no contract can state that.
-pub fn run() {
-    let mut input = io::large_buffer();
+// Runs the call script that the reader gives and writes the answers. What it reads and writes is all that it does.
+pub fn run<R: Read, W: Write>(reader: &mut R, writer: &mut W) -> io::Result<()> {
+    let mut input = script_lines::input_buffer();
     let mut text = text_buffer();
     let mut log = log_buffer();
     let mut collect = collect_buffer();
@@ -226,6 +243,8 @@ pub fn run() {
     script_bytes::fill_device(&mut data);
     script_bytes::fill_guest(&mut low, session::FIRST_BASE);
     let progress = run_input(
+        reader,
+        writer,
         &mut text,
         &mut input,
         &mut log,
@@ -233,6 +252,6 @@ pub fn run() {
         &data,
         &mut low,
         &mut high,
-    );
-    script_lines::print_bad_line(progress.lines, progress.good);
+    )?;
+    script_lines::print_bad_line(writer, progress.lines, progress.good)
 }

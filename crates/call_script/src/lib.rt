@@ -1,4 +1,6 @@
 // One line of a call script: the call that it asks for.
+#![tactic(auto)]
+
 ghost use Rattle.std.specs.Prelude.{◌≡◌, min};
 ghost use Rattle.call_script.specs.Limits.{script_limits};
 ghost use Rattle.call_script.specs.Calls.{mode_of, release_of, status_of, in_status_of, in_state_of, phase_of, control_state_of, transfer_type_of, is_transfer_type, trb_fields, one_region, two_regions, window_call, buffers_call, ported_creation, mode_creation, in_creation, four_creation, release_creation, control_creation, submit_call, hold_call, append_call, result_call, no_result_call, cancel_call, in_state_call, control_state_call, make_up_call, row_result_call, row_call, time_call, capture_call, numbered_call, raw_call, call_of};
@@ -28,7 +30,7 @@ pub const MAX_LENT_COLLECT: usize = 0x10000;
 // Bytes of device data: as many as guest memory can have.
 pub const MAX_SCRIPT_DATA: usize = MAX_WINDOW;
 
-#[derive(Drop)]
+#[derive(Clone, Copy)]
 pub struct ScriptLimits {
     pub window: usize,
     pub log: usize,
@@ -64,14 +66,14 @@ const MAX_WORD: u64 = 0xffff_ffff;
 // ---- Calls
 
 // What an IN endpoint's transfers are, in a capture.
-#[derive(Drop)]
+#[derive(Clone, Copy)]
 pub enum InTransferType {
     Interrupt,
     Bulk,
 }
 
 // A device result: Success on IN is SuccessfulControlIn on control.
-#[derive(Drop)]
+#[derive(Clone, Copy)]
 pub enum DeviceStatus {
     Success,
     Stall,
@@ -80,7 +82,7 @@ pub enum DeviceStatus {
     SuccessfulControlOut,
 }
 
-#[derive(Drop)]
+#[derive(Clone, Copy)]
 pub enum Call {
     Window(u64, usize, u64, usize),
     Buffers(usize, usize),
@@ -568,7 +570,7 @@ pub fn read_call(line: &[u8]) -> Call
 
 // ---- Lines of the program `raw_trbs`
 
-#[derive(Drop)]
+#[derive(Clone, Copy)]
 pub enum RawLine {
     Decode(DecodedTrb),
     Encode(TransferTrb),

@@ -1,4 +1,6 @@
 // The lines that answer a call, laid into a text buffer. Every writer returns the index behind what it wrote.
+#![tactic(auto)]
+
 ghost use Rattle.std.specs.Prelude.{◌≡◌, cond, ◌++◌, ◌+◌, ◌*◌, ◌≤◌, min, length, take};
 ghost use Rattle.trb.specs.Limits.{record_length};
 ghost use Rattle.numerals.specs.Digits.{decimal_of, hex_of};

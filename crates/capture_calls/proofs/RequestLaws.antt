@@ -6,7 +6,7 @@ use Rattle.trb.specs.declared.CompletionCode.{CompletionCode}
 use Rattle.trb.specs.declared.EndpointId.{EndpointId}
 use Rattle.trb.specs.declared.SlotId.{SlotId}
 use Rattle.trb.specs.declared.UsbRequest.{UsbRequest}
-use Rattle.log.specs.Records.{transfer_event, guest_write, in_request, control_request}
+use Rattle.call_log.specs.Records.{transfer_event, guest_write, in_request, control_request}
 use Rattle.capture_record.specs.declared.CaptureEvent.TheVariants.{InSubmission, ControlSubmission}
 use Rattle.capture_record.specs.declared.InPipe.{InPipe}
 use Rattle.capture_calls.specs.declared.CallRecord.TheVariants.{NoRecord, Event}

@@ -9,8 +9,8 @@ use Rattle.trb.specs.declared.InTrbProcessingResult.TheVariants.{NoneGiven, Give
 use Rattle.trb.specs.declared.TdBasedNormalSubmissionState.{TdBasedNormalSubmissionState}
 use Rattle.trb.specs.declared.TdBasedNormalSubmissionState.TheVariants.{SubmissionDue, CollectingTd, AwaitingRealTransfer, AwaitingLocalCompletion, UnsupportedTrb}
 use Rattle.trb.specs.declared.UsbRequest.{UsbRequest}
-use Rattle.log.specs.declared.Record.{Record}
-use Rattle.log.specs.Records.{request_kind}
+use Rattle.call_log.specs.declared.Record.{Record}
+use Rattle.call_log.specs.Records.{request_kind}
 use Rattle.capture_record.specs.declared.CaptureEvent.TheVariants.{InSubmission, InCompletion, ControlSubmission, ControlCompletionIn, ControlCompletionOut, ControlError, TrbError}
 use Rattle.capture_record.specs.declared.InPipe.{InPipe}
 use Rattle.capture_record.specs.declared.TransferError.TheVariants.{Disconnect, Stall, TransactionError}

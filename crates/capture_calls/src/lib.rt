@@ -1,16 +1,18 @@
 // Which record a call gives to a capture, as endpoint_handle.rs writes them.
+#![tactic(auto)]
+
 ghost use Rattle.std.specs.Prelude.{◌≡◌};
 ghost use Rattle.capture_calls.specs.Events.{in_request_event, control_request_event, in_completion_event, request_completion_event, control_completion_event};
 
 use capture_record::{CaptureEvent, InPipe, TransferError};
-use log::Record;
+use call_log::Record;
 use trb::{
     ControlRequestProcessingResult, ControlSubmissionState, InTrbProcessingResult,
     TdBasedNormalSubmissionState, UsbRequest,
 };
 
 // The event that a call gives, if it gives one; its payload is lent beside it.
-#[derive(Drop)]
+#[derive(Clone, Copy)]
 pub enum CallRecord {
     NoRecord,
     Event(CaptureEvent),
@@ -20,7 +22,7 @@ pub enum CallRecord {
 pub fn in_request_event(pipe: InPipe, request: Record) -> CallRecord
     ensures { result ≡ in_request_event pipe request }
 {
-    if request.kind == log::KIND_REQUEST {
+    if request.kind == call_log::KIND_REQUEST {
         CallRecord::Event(CaptureEvent::InSubmission(pipe, request.address, request.length))
     } else {
         CallRecord::NoRecord
@@ -31,7 +33,7 @@ pub fn in_request_event(pipe: InPipe, request: Record) -> CallRecord
 pub fn control_request_event(request: Record) -> CallRecord
     ensures { result ≡ control_request_event request }
 {
-    if request.kind == log::KIND_REQUEST {
+    if request.kind == call_log::KIND_REQUEST {
         CallRecord::Event(CaptureEvent::ControlSubmission(UsbRequest {
             address: request.address,
             request_type: request.request_type,

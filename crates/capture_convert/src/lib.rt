@@ -1,4 +1,6 @@
 // Capture files converted between link types 189 and 220.
+#![tactic(auto)]
+
 ghost use Rattle.std.specs.Prelude.{true, ◌≡◌, ◌+◌, ◌-◌, ◌*◌, ◌^◌, ◌≤◌, ◌<◌, length};
 ghost use Rattle.buffers.specs.LittleEndian.{le_field};
 ghost use Rattle.buffers.specs.Patch.{patch};

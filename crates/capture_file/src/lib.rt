@@ -1,4 +1,6 @@
 // Capture files, pcap 2.4 with usbmon headers: what they are, by definition; what a call over them answers, and the two headers' bytes.
+#![tactic(auto)]
+
 ghost use Rattle.std.specs.Prelude.{◌≡◌};
 ghost use Rattle.capture_file.specs.Answers.{capture_number, capture_length};
 ghost use Rattle.capture_file.specs.Records.{head};
@@ -12,7 +14,7 @@ pub const LINK_SHORT: u32 = 189;
 pub const LINK_LONG: u32 = 220;
 
 // What a call over capture files answers: the length of the file made, or a refusal.
-#[derive(Drop)]
+#[derive(Clone, Copy)]
 pub enum CaptureAnswer {
     Length(usize),
     Refused(Refusal),
@@ -40,7 +42,7 @@ pub fn answer_length(answer: CaptureAnswer) -> usize
 
 // What one pass over a file finds: whether it is whole and, of a whole one, whether each record can be converted, whether the
 // times never go backwards, and how many records there are.
-#[derive(Drop)]
+#[derive(Clone, Copy)]
 pub struct Survey {
     pub whole: bool,
     pub convertible: bool,

@@ -1,4 +1,6 @@
 // The usbmon header in a record's bytes, the event that it names, and whether the writer makes it of that event.
+#![tactic(auto)]
+
 ghost use Rattle.std.specs.Prelude.{◌&&◌, ◌≡◌, ◌≤◌, length};
 ghost use Rattle.capture_record.specs.Headers.{header_in};
 ghost use Rattle.capture_header.specs.Made.{rotated_left, status_named, error_named, request_named, submission_named, control_named, in_named, pipe_named, event_named, count_named, made_again, same_setup, same_front, same_numbers, same_header};

@@ -1,4 +1,6 @@
 // Two capture files made one, ordered by the records' times.
+#![tactic(auto)]
+
 ghost use Rattle.std.specs.Prelude.{◌≡◌, true, ◌+◌, ◌-◌, ◌≤◌, ◌<◌, length, take};
 ghost use Rattle.buffers.specs.LittleEndian.{le_field};
 ghost use Rattle.buffers.specs.Patch.{patch};

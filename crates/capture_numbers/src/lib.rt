@@ -1,4 +1,6 @@
 // Captures for C and Rust, by plain numbers: converted and made one; the parts of an event, the record written, the record read.
+#![tactic(auto)]
+
 ghost use Rattle.std.specs.Prelude.{◌≡◌, length};
 ghost use Rattle.trb.specs.Questions.{first_no};
 ghost use Rattle.capture_file.specs.Answers.{capture_length};
@@ -139,7 +141,7 @@ pub fn read_capture(input: &[u8]) -> Answered
 // What a record gives: 0 or 22; its times; its header's fields, a status below 0 standing as 2^32 less its amount; where in the file its payload stands and how
 // long it is; where the next record starts.
 #[repr(C)]
-#[derive(Drop)]
+#[derive(Clone, Copy)]
 pub struct RecordRead {
     pub number: u32,
     pub seconds: u32,

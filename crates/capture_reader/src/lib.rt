@@ -1,4 +1,6 @@
 // Captures read: whether a file is one that the writer makes, and each record's times, header fields and payload.
+#![tactic(auto)]
+
 ghost use Rattle.std.specs.Prelude.{true, ◌≡◌, ◌+◌, length};
 ghost use Rattle.capture_file.specs.Reading.{record_at, whole_record};
 ghost use Rattle.capture_record.specs.Events.{snap_length};
@@ -11,7 +13,7 @@ use capture_record::{UsbHeader, UsbSetup};
 const NOT_WRITTEN: u8 = 22;
 
 // What a file gives: 0 or 22, and the number of its records.
-#[derive(Drop)]
+#[derive(Clone, Copy)]
 pub struct CaptureCount {
     pub number: u8,
     pub records: usize,
@@ -19,7 +21,7 @@ pub struct CaptureCount {
 
 // What the record at a position gives: 0 or 22; its times and header; where in the file its payload stands, and how long it is;
 // where the next record starts.
-#[derive(Drop)]
+#[derive(Clone, Copy)]
 pub struct CapturedRecord {
     pub number: u8,
     pub seconds: u32,

@@ -1,5 +1,7 @@
 // What a capture records of the calls: the events, the usbmon header of each and its 48 bytes, by definition; which events carry a payload.
 // With `event_header` and `header_bytes` it ports pcap/packet.rs and pcap/meta.rs.
+#![tactic(auto)]
+
 ghost use Rattle.std.specs.Prelude.{◌≡◌};
 ghost use Rattle.capture_record.specs.Events.{odd, to_host, carries};
 
@@ -22,21 +24,21 @@ pub const CONTROL: u8 = 2;
 pub const WITH_SETUP: u8 = 0;
 
 // Whose transfers are captured.
-#[derive(Drop)]
+#[derive(Clone, Copy)]
 pub struct UsbDevice {
     pub bus_number: u16,
     pub device_address: u8,
 }
 
 // An IN endpoint, by its xHCI id: interrupt, or else bulk.
-#[derive(Drop)]
+#[derive(Clone, Copy)]
 pub struct InPipe {
     pub endpoint_id: EndpointId,
     pub interrupt: bool,
 }
 
 // How a control transfer failed.
-#[derive(Drop)]
+#[derive(Clone, Copy)]
 pub enum TransferError {
     Disconnect,
     Stall,
@@ -44,7 +46,7 @@ pub enum TransferError {
 }
 
 // What is captured, but for its payload. `u64` is the identifier, the address of a TRB.
-#[derive(Drop)]
+#[derive(Clone, Copy)]
 pub enum CaptureEvent {
     // The requested length.
     InSubmission(InPipe, u64, u32),
@@ -59,7 +61,7 @@ pub enum CaptureEvent {
 }
 
 // The eight setup bytes (USB 2.0, 9.3).
-#[derive(Drop)]
+#[derive(Clone, Copy)]
 pub struct UsbSetup {
     pub request_type: u8,
     pub request: u8,
@@ -69,7 +71,7 @@ pub struct UsbSetup {
 }
 
 // The 48-byte usbmon header; ports `UsbPacketLinktypeHeader`. A status below 0 stands as 2^32 less its amount.
-#[derive(Drop)]
+#[derive(Clone, Copy)]
 pub struct UsbHeader {
     pub id: u64,
     pub event_type: u8,

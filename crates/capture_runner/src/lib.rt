@@ -1,5 +1,7 @@
 // Runs a call script and writes the capture of its requests and completions: takes its lines from standard input, makes the calls as `replay` does, and
 // writes the records of each.
+#![tactic(auto)]
+
 ghost use Rattle.std.specs.Prelude.{◌≡◌, ◌≤◌, length};
 ghost use Rattle.trb.specs.Limits.{min_row_log};
 ghost use Rattle.script_lines.specs.Steps.{Stepped};
@@ -7,22 +9,23 @@ ghost use Rattle.state_text.specs.Widths.{max_answer};
 
 use call_script::Call;
 use captured_calls::Setting;
-use libc::STDOUT_FILENO;
 use script_lines::{Found, Step};
 use session::{Ran, Session};
+use std::io;
+use std::io::{Read, Write};
 
 // ---- Bytes out
 
 // Writes the first `length` bytes out, or as many as there are.
-fn write_out(output: &[u8], length: usize) {
+fn write_out<W: Write>(writer: &mut W, output: &[u8], length: usize) -> io::Result<()> {
     let end = call_script::least(length, output.len());
-    io::write_all(STDOUT_FILENO, &output[..end]);
+    writer.write_all(&output[..end])
 }
 
 // ---- Lines
 
 // How far a run has come, and whether there may be more.
-#[derive(Drop)]
+#[derive(Clone, Copy)]
 struct Progress {
     session: Session,
     setting: Setting,
@@ -74,7 +77,8 @@ fn run_call(
 }
 
 // Takes one line, which comes without its line feed, and writes the records of its call. A bad line has none, and ends the run.
-fn run_line(
+fn run_line<W: Write>(
+    writer: &mut W,
     output: &mut [u8],
     text: &mut [u8],
     progress: Progress,
@@ -84,7 +88,7 @@ fn run_line(
     data: &[u8],
     longer: &mut [u8],
     shorter: &mut [u8],
-) -> Progress
+) -> io::Result<Progress>
     requires max_answer_in_bounds { max_answer ≤ length text.old }
     requires log_len_bound { length log.old ≤ min_row_log }
 {
@@ -105,15 +109,16 @@ fn run_line(
         collect,
         data,
     );
-    write_out(output, end);
-    Progress {
+    write_out(writer, output, end)?;
+    Ok(Progress {
         session: after,
         setting: next,
         more: ran.good,
-    }
+    })
 }
 
-fn run_step(
+fn run_step<W: Write>(
+    writer: &mut W,
     output: &mut [u8],
     text: &mut [u8],
     progress: Progress,
@@ -124,7 +129,7 @@ fn run_step(
     data: &[u8],
     longer: &mut [u8],
     shorter: &mut [u8],
-) -> Progress
+) -> io::Result<Progress>
     requires max_answer_in_bounds { max_answer ≤ length text.old }
     requires log_len_bound { length log.old ≤ min_row_log }
     requires stepped { Stepped (length input.now) step }
@@ -134,6 +139,7 @@ fn run_step(
     let end = step.end;
     match found {
         Found::Line => run_line(
+            writer,
             output,
             text,
             progress,
@@ -144,14 +150,16 @@ fn run_step(
             longer,
             shorter,
         ),
-        Found::Piece => progress,
-        Found::End => ended(progress),
-        Found::Unfinished => ended(progress),
+        Found::Piece => Ok(progress),
+        Found::End => Ok(ended(progress)),
+        Found::Unfinished => Ok(ended(progress)),
     }
 }
 
 // Takes the input to its end, or to a bad line.
-fn run_input(
+fn run_input<R: Read, W: Write>(
+    reader: &mut R,
+    writer: &mut W,
     output: &mut [u8],
     text: &mut [u8],
     input: &mut [u8],
@@ -160,7 +168,7 @@ fn run_input(
     data: &[u8],
     longer: &mut [u8],
     shorter: &mut [u8],
-)
+) -> io::Result<()>
     requires max_answer_in_bounds { max_answer ≤ length text.old }
     requires log_len_bound { length log.old ≤ min_row_log }
 {
@@ -169,14 +177,15 @@ fn run_input(
     let mut filled = 0;
     let mut turns = u64::MAX;
     while 0 < turns {
-        let step = script_lines::next_line(input, from, filled);
+        let step = script_lines::next_line(reader, input, from, filled)?;
         progress = run_step(
-            output, text, progress, input, step, log, collect, data, longer, shorter,
-        );
+            writer, output, text, progress, input, step, log, collect, data, longer, shorter,
+        )?;
         from = step.next;
         filled = step.filled;
         turns = script_lines::turns_left(turns, progress.more);
     }
+    Ok(())
 }
 
 // ---- Buffers
@@ -201,9 +210,9 @@ fn output_buffer() -> [u8; OUTPUT] {
     [0u8; OUTPUT]
 }
 
-// Writes the capture of the call script on standard input.
-pub fn run() {
-    let mut input = io::large_buffer();
+// Writes the capture of the call script that the reader gives.
+pub fn run<R: Read, W: Write>(reader: &mut R, writer: &mut W) -> io::Result<()> {
+    let mut input = script_lines::input_buffer();
     let mut output = output_buffer();
     let mut text = text_buffer();
     let mut log = call_runner::log_buffer();
@@ -214,8 +223,10 @@ pub fn run() {
     script_bytes::fill_device(&mut data);
     script_bytes::fill_guest(&mut longer, session::FIRST_BASE);
     let header = capture_writer::write_file_header(&mut output);
-    write_out(&output, header.length);
+    write_out(writer, &output, header.length)?;
     run_input(
+        reader,
+        writer,
         &mut output,
         &mut text,
         &mut input,
@@ -224,5 +235,5 @@ pub fn run() {
         &data,
         &mut longer,
         &mut shorter,
-    );
+    )
 }

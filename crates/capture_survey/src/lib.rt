@@ -1,4 +1,6 @@
 // A capture file checked in one pass: what is found of its records.
+#![tactic(auto)]
+
 ghost use Rattle.std.specs.Prelude.{not, ◌&&◌, ◌≡◌, ◌≤◌, length};
 ghost use Rattle.buffers.specs.LittleEndian.{le_field};
 ghost use Rattle.capture_file.specs.Times.{before};

@@ -1,4 +1,6 @@
 // The tests of a capture file: is its header whole, is a record, may it be converted, is one time before another.
+#![tactic(auto)]
+
 ghost use Rattle.std.specs.Prelude.{◌≡◌, ◌+◌, ◌≤◌, eqb, length};
 ghost use Rattle.capture_file.specs.Reading.{captured_at, record_at, whole_record, every};
 ghost use Rattle.capture_file.specs.Files.{known_link, extra_of, most_of, whole_head};

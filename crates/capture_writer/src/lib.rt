@@ -1,4 +1,6 @@
 // Captures written: a file header and records, each by a call of its own over a lent buffer, from its start on.
+#![tactic(auto)]
+
 ghost use Rattle.std.specs.Prelude.{cond, ◌≡◌, ◌+◌, ◌≤◌, ◌%◌, length};
 ghost use Rattle.buffers.specs.Patch.{patch};
 ghost use Rattle.capture_record.specs.Events.{snap_length, carries};
@@ -17,7 +19,7 @@ const HEADER_LENGTH: usize = 48;
 const FRONT_LENGTH: usize = 64;
 
 // What the writer answers: the number of the question that said no, or 0, and how many bytes it wrote.
-#[derive(Drop)]
+#[derive(Clone, Copy)]
 pub struct Written {
     pub number: u8,
     pub length: usize,

@@ -13,9 +13,9 @@ use Rattle.trb.specs.Trbs.{chain_of}
 use Rattle.trb.specs.declared.InTrbProcessingStatus.{InTrbProcessingStatus}
 use Rattle.trb.specs.declared.TransferTrb.{TransferTrb}
 use Rattle.trb.specs.declared.TransferTrbVariant.{TransferTrbVariant}
-use Rattle.log.specs.Records.{request_kind, record_at}
-use Rattle.log.specs.declared.Record.{Record}
-use Rattle.log.proofs.LogLaws.{records_in-next}
+use Rattle.call_log.specs.Records.{request_kind, record_at}
+use Rattle.call_log.specs.declared.Record.{Record}
+use Rattle.call_log.proofs.LogLaws.{records_in-next}
 use Rattle.in_td.specs.Td.{is_normal, normals, normal_count}
 use Rattle.row_walk.specs.declared.TdResult.{TdResult}
 use Rattle.row_walk.specs.Rows.{with_results, has_normal, past_results}

@@ -3,9 +3,9 @@ use Prim.Native.Nat.{ℕ, ◌+◌, ◌-◌, ◌<◌, ◌≤◌}
 use mathlib.Core.Path.{◌≡◌, sym, ap, ◌∙◌}
 use mathlib.Core.List.{List, [], ◌++◌}
 use native.Mathlib.Omega.{arith}
-use Rattle.log.specs.Records.{record_at}
-use Rattle.log.specs.declared.Record.{Record}
-use Rattle.log.proofs.LogLaws.{records_in-next}
+use Rattle.call_log.specs.Records.{record_at}
+use Rattle.call_log.specs.declared.Record.{Record}
+use Rattle.call_log.proofs.LogLaws.{records_in-next}
 use Rattle.capture_calls.specs.declared.CallRecord.{CallRecord}
 use Rattle.capture_calls.specs.Captures.{Captured, writer_call, request_captures}
 use Rattle.captured_calls.specs.Submitted.{records_from}

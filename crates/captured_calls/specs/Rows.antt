@@ -4,8 +4,8 @@ use Rattle.trb.specs.declared.InTrbProcessingResult.TheVariants.{Given}
 use Rattle.trb.specs.declared.InTrbProcessingStatus.{InTrbProcessingStatus}
 use Rattle.trb.specs.declared.TdBasedNormalSubmissionState.TheVariants.{AwaitingRealTransfer}
 use Rattle.trb.specs.declared.TransferTrb.{TransferTrb}
-use Rattle.log.specs.Records.{request_kind, record_at}
-use Rattle.log.specs.declared.Record.{Record}
+use Rattle.call_log.specs.Records.{request_kind, record_at}
+use Rattle.call_log.specs.declared.Record.{Record}
 use Rattle.in_td.specs.Td.{normals}
 use Rattle.row_walk.specs.Rows.{RowTd, has_normal}
 use Rattle.row_walk.specs.Tds.{first_td}

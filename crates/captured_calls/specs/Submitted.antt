@@ -2,8 +2,8 @@
 use Rattle.std.specs.Prelude.{ℕ, ◌-◌, ◌*◌, ◌/◌, min, List, length, drop}
 use Rattle.trb.specs.Limits.{record_length}
 use Rattle.trb.specs.declared.EndpointId.{EndpointId}
-use Rattle.log.specs.declared.Record.{Record}
-use Rattle.log.specs.Logs.{records_in}
+use Rattle.call_log.specs.declared.Record.{Record}
+use Rattle.call_log.specs.Logs.{records_in}
 use Rattle.capture_record.specs.declared.InPipe.{InPipe}
 use Rattle.capture_calls.specs.declared.CallRecord.{CallRecord}
 use Rattle.capture_calls.specs.Events.{in_request_event, control_request_event}

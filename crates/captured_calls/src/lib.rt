@@ -1,4 +1,6 @@
 // Which records a call of a script gives to a capture, laid into a lent buffer one behind the other. What stands in them is `capture_calls` and `capture_writer`'s.
+#![tactic(auto)]
+
 ghost use Rattle.std.specs.Prelude.{◌≡◌, ◌+◌, ◌-◌, ◌*◌, ◌<◌, ◌≤◌, min, length, take};
 ghost use Rattle.trb.specs.Limits.{record_length, max_row};
 ghost use Rattle.in_td.specs.Td.{normal_count};
@@ -11,7 +13,7 @@ ghost use Rattle.captured_calls.specs.Rows.{Spans, requests_in, request_at, td_c
 
 use capture_calls::CallRecord;
 use capture_record::{InPipe, UsbDevice};
-use log::Record;
+use call_log::Record;
 use row_walk::TdResult;
 use trb::{
     ControlRequestProcessingResult, ControlSubmissionState, EndpointId, InTrbProcessingResult,
@@ -20,7 +22,7 @@ use trb::{
 };
 
 // What captures say from here on: the time, whose transfers they are, and whether an IN endpoint's are interrupt, or else bulk.
-#[derive(Drop)]
+#[derive(Clone, Copy)]
 pub struct Setting {
     pub seconds: u32,
     pub microseconds: u32,
@@ -53,7 +55,7 @@ fn put(output: &mut [u8], at: usize, setting: Setting, record: CallRecord, paylo
 // ---- Submissions
 
 // Whose log it is.
-#[derive(Drop)]
+#[derive(Clone, Copy)]
 enum Requester {
     In(InPipe),
     Control,
@@ -85,7 +87,7 @@ fn put_requests(
     let mut behind = at;
     let mut i = 0;
     while i < end {
-        let record = log::read_record(log, i);
+        let record = call_log::read_record(log, i);
         let event = request_event(requester, record);
         behind = put(output, behind, setting, event, payload);
         i += 1;
@@ -184,7 +186,7 @@ pub fn put_control_completion(
 // ---- Rows
 
 // A TD of a row: the index behind it, and its Normals.
-#[derive(Drop)]
+#[derive(Clone, Copy)]
 struct TdSpan {
     end: usize,
     normals: usize,
@@ -233,8 +235,8 @@ fn next_request(log: &[u8], from: usize, records: usize) -> usize
 {
     let mut at = from;
     while at < records {
-        let record = log::read_record(log, at);
-        if record.kind == log::KIND_REQUEST {
+        let record = call_log::read_record(log, at);
+        if record.kind == call_log::KIND_REQUEST {
             return at;
         }
         at += 1;
@@ -271,7 +273,7 @@ fn put_started(
 }
 
 // Behind a TD: the index behind what was laid, and the number of the record behind its request.
-#[derive(Drop)]
+#[derive(Clone, Copy)]
 struct TdPut {
     behind: usize,
     from: usize,
@@ -301,7 +303,7 @@ fn put_td(
     }
     let index = next_request(log, from, records);
     if index < records {
-        let request = log::read_record(log, index);
+        let request = call_log::read_record(log, index);
         let status = given.status;
         let behind = put_started(output, at, setting, endpoint_id, request, status, data);
         return TdPut {

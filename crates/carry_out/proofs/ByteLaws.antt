@@ -10,7 +10,7 @@ use lib.ListN.{length, drop, get_or, length-take, length-drop}
 use lib.Seq.{length-take-le, get_or-take, get_or-drop}
 use Rattle.buffers.specs.Patch.{patch}
 use Rattle.buffers.proofs.PatchLaws.{get_or-patch-in, get_or-patch-before, get_or-patch-behind}
-use Rattle.log.specs.declared.Record.{Record}
+use Rattle.call_log.specs.declared.Record.{Record}
 use Rattle.guest_memory.specs.declared.Place.TheVariants.{InLow, InHigh}
 use Rattle.guest_memory.specs.Regions.{share_an_address}
 use Rattle.guest_memory.specs.Places.{in_region, Memory, regions_of}

@@ -13,9 +13,9 @@ use Rattle.buffers.specs.Patch.{patch}
 use Rattle.trb.specs.Limits.{record_length}
 use Rattle.trb.specs.declared.Answer.TheVariants.{Accepted, Refused}
 use Rattle.trb.specs.declared.Refusal.TheVariants.{WriteOutOfRange}
-use Rattle.log.specs.declared.Record.{Record}
-use Rattle.log.specs.Logs.{encode_all, logged, records_in, AllFit}
-use Rattle.log.proofs.LogLaws.{length-encode_all, records_in-encode_all}
+use Rattle.call_log.specs.declared.Record.{Record}
+use Rattle.call_log.specs.Logs.{encode_all, logged, records_in, AllFit}
+use Rattle.call_log.proofs.LogLaws.{length-encode_all, records_in-encode_all}
 use Rattle.guest_memory.specs.declared.Regions.{Regions}
 use Rattle.guest_memory.specs.Regions.{share_an_address}
 use Rattle.guest_memory.specs.Places.{Memory}

@@ -9,7 +9,7 @@ use lib.ListN.{length, drop, length-take}
 use borrow.Author.Tests.{leb-true}
 use Rattle.trb.proofs.TestLaws.{and_left, and_right}
 use Rattle.buffers.proofs.PatchLaws.{length-patch}
-use Rattle.log.specs.declared.Record.{Record}
+use Rattle.call_log.specs.declared.Record.{Record}
 use Rattle.guest_memory.specs.declared.Place.{Place}
 use Rattle.guest_memory.specs.declared.Place.TheVariants.{Outside, InLow, InHigh}
 use Rattle.guest_memory.specs.declared.Regions.{Regions}

@@ -1,19 +1,21 @@
 // Carry-out: performs a log's writes on guest memory. Nothing else writes there.
+#![tactic(auto)]
+
 ghost use Rattle.std.specs.Prelude.{true, ◌≡◌, length};
 ghost use Rattle.guest_memory.specs.Regions.{guest_regions};
 ghost use Rattle.guest_memory.specs.Places.{memory_of};
 ghost use Rattle.carry_out.specs.Writes.{moves_bytes, write_in_range, writes_in_range, after_record, written, records_of};
 ghost use Rattle.carry_out.specs.CarryOut.{Carried};
 
+use call_log::Record;
 use guest_memory::{Place, Regions};
-use log::Record;
 use trb::{Answer, Refusal};
 
 // Is the record a write of nonzero length? No other record touches guest memory.
 fn moves_bytes(record: Record) -> bool
     ensures { result ≡ moves_bytes «record» }
 {
-    if record.kind == log::KIND_WRITE {
+    if record.kind == call_log::KIND_WRITE {
         0 < record.length
     } else {
         false
@@ -41,7 +43,7 @@ fn writes_in_range(log: &[u8], available: usize, regions: Regions) -> bool
     let records = log.len() / trb::RECORD_LENGTH;
     let mut index = 0;
     while index < records {
-        if !write_in_range(log::read_record(log, index), available, regions) {
+        if !write_in_range(call_log::read_record(log, index), available, regions) {
             return false;
         }
         index += 1;
@@ -93,7 +95,7 @@ fn perform_writes(
     let records = log.len() / trb::RECORD_LENGTH;
     let mut index = 0;
     while index < records {
-        let record = log::read_record(log, index);
+        let record = call_log::read_record(log, index);
         perform_write(record, data, low_base, low, high_base, high);
         index += 1;
     }

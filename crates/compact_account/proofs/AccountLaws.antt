@@ -8,8 +8,8 @@ use lib.ListN.{length, take, drop}
 use lib.Seq.{take_at, drop_at}
 use Rattle.trb.specs.declared.TransferTrb.{TransferTrb}
 use Rattle.trb.proofs.TestLaws.{and_left, or-false-right}
-use Rattle.log.specs.declared.Record.{Record}
-use Rattle.log.specs.Records.{decode, write_kind}
+use Rattle.call_log.specs.declared.Record.{Record}
+use Rattle.call_log.specs.Records.{decode, write_kind}
 use Rattle.account.specs.Guest.{is_write, is_event, is_unsuccessful, any, before_last, relied, names_held, count_before, before, later, bytes, Account}
 use Rattle.account.proofs.GuestLaws.{any_at, before_first-at}
 use Rattle.carry_out.specs.Writes.{records_of}

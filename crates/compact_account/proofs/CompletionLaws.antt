@@ -9,8 +9,8 @@ use lib.ListN.{length, take}
 use Rattle.trb.specs.Limits.{record_length}
 use Rattle.trb.specs.Questions.{first_no}
 use Rattle.trb.specs.declared.InTrbProcessingResult.{InTrbProcessingResult}
-use Rattle.log.specs.Logs.{encode_all, records_in}
-use Rattle.log.proofs.LogLaws.{records_in-logged}
+use Rattle.call_log.specs.Logs.{encode_all, records_in}
+use Rattle.call_log.proofs.LogLaws.{records_in-logged}
 use Rattle.carry_out.specs.Writes.{records_of}
 use Rattle.carry_out.proofs.CarryOutLaws.{take-logged, records_of-encode_all}
 use Rattle.account.specs.Guest.{Account}

@@ -14,7 +14,7 @@ use Rattle.trb.specs.Limits.{record_length}
 use Rattle.trb.specs.Questions.{first_no}
 use Rattle.trb.specs.declared.Answer.TheVariants.{Accepted}
 use Rattle.trb.proofs.TestLaws.{and_left, and_right}
-use Rattle.log.specs.Records.{decode, record_at, write_kind}
+use Rattle.call_log.specs.Records.{decode, record_at, write_kind}
 use Rattle.log_check.specs.WellFormed.{kind_known, kinds_known, well_formed}
 use Rattle.guest_memory.specs.declared.Regions.{Regions}
 use Rattle.guest_memory.specs.Places.{Memory, regions_of}

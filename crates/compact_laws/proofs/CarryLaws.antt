@@ -14,8 +14,8 @@ use borrow.Author.Tests.{eq-eqb, lt-ltb, le-leb, leb-true}
 use Rattle.buffers.specs.Patch.{patch}
 use Rattle.buffers.proofs.PatchLaws.{patch-append}
 use Rattle.trb.proofs.TestLaws.{and_left, and_right, or-false-left, or-false-right, le-or-lt}
-use Rattle.log.specs.declared.Record.{Record}
-use Rattle.log.specs.Records.{decode, write_kind}
+use Rattle.call_log.specs.declared.Record.{Record}
+use Rattle.call_log.specs.Records.{decode, write_kind}
 use Rattle.guest_memory.specs.declared.Place.TheVariants.{Outside, InLow, InHigh}
 use Rattle.guest_memory.specs.declared.Region.{Region}
 use Rattle.guest_memory.specs.declared.Regions.{Regions}

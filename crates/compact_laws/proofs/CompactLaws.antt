@@ -9,8 +9,8 @@ use lib.Seq.{length-take-le}
 use lib.Dec.{eqb}
 use borrow.Author.Tests.{eq-eqb}
 use Rattle.trb.specs.Limits.{record_length}
-use Rattle.log.specs.declared.Record.{Record}
-use Rattle.log.specs.Records.{decode, write_kind}
+use Rattle.call_log.specs.declared.Record.{Record}
+use Rattle.call_log.specs.Records.{decode, write_kind}
 use Rattle.kept_records.specs.Rows.{rows_in}
 use Rattle.kept_records.specs.Compact.{empty_write, joins, joined, without_empty, join_from, join_all, compacted, other_rows}
 use Rattle.compact_laws.proofs.JoinLaws.{decode-joined, length-joined, joins-told, joins-first, joins-second, joins-lengthened, empty_write-joined, empty_write-kind, empty_write-other}

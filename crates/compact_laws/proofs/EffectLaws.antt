@@ -5,8 +5,8 @@ use mathlib.Core.Bool.{Bool, true, false, ◌&&◌}
 use mathlib.Core.Path.{◌≡◌, refl, sym, ap, ◌∙◌}
 use mathlib.Core.List.{List, [], ◌∷◌, map}
 use Rattle.trb.proofs.TestLaws.{and_left, and_right}
-use Rattle.log.specs.declared.Record.{Record}
-use Rattle.log.specs.Records.{decode}
+use Rattle.call_log.specs.declared.Record.{Record}
+use Rattle.call_log.specs.Records.{decode}
 use Rattle.kept_records.specs.Compact.{empty_write, joins, joined, without_empty, join_from, join_all, compacted}
 use Rattle.compact_laws.proofs.JoinLaws.{joined_record, decode-joined}
 use Rattle.compact_laws.proofs.CompactLaws.{join_from-cases, without_empty-cases, AllSized, Whole, AllWhole, whole-joined, all_whole-without_empty}

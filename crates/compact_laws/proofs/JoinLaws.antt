@@ -14,8 +14,8 @@ use Rattle.buffers.proofs.LittleEndianLaws.{le_number-le_bytes}
 use Rattle.buffers.proofs.PatchLaws.{drop-patch, get_or-patch-before, get_or-patch-behind}
 use Rattle.trb.specs.Limits.{record_length}
 use Rattle.trb.proofs.TestLaws.{and_left, and_right}
-use Rattle.log.specs.declared.Record.{Record}
-use Rattle.log.specs.Records.{decode, write_kind}
+use Rattle.call_log.specs.declared.Record.{Record}
+use Rattle.call_log.specs.Records.{decode, write_kind}
 use Rattle.kept_records.specs.Rows.{length_offset, with_length}
 use Rattle.kept_records.specs.Compact.{length_end, empty_write, same_endpoint_writes, goes_on, joins, joined}
 use Rattle.log_compact.proofs.RowLaws.{take-drop-take, drop-behind-patch, length-with_length}

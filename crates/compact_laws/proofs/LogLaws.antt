@@ -17,9 +17,9 @@ use Rattle.trb.specs.declared.Answer.TheVariants as answer
 use Rattle.trb.proofs.AnswerLaws.{accepted-is}
 use Rattle.trb.proofs.QuestionLaws.{yes-first, yes-behind}
 use Rattle.trb.proofs.TestLaws.{and_left, and_right}
-use Rattle.log.specs.declared.Record.{Record}
-use Rattle.log.specs.Records.{decode}
-use Rattle.log.specs.Logs.{records_in}
+use Rattle.call_log.specs.declared.Record.{Record}
+use Rattle.call_log.specs.Records.{decode}
+use Rattle.call_log.specs.Logs.{records_in}
 use Rattle.log_check.specs.WellFormed.{kind_known, kinds_known, well_formed}
 use Rattle.guest_memory.specs.declared.Regions.{Regions}
 use Rattle.guest_memory.specs.Regions.{share_an_address}

@@ -5,7 +5,7 @@ use Rattle.trb.specs.Questions.{first_no}
 use Rattle.trb.specs.declared.Answer.TheVariants.{Accepted, Refused}
 use Rattle.trb.specs.declared.Refusal.TheVariants.{WriteOutOfRange}
 use Rattle.buffers.specs.Patch.{patch}
-use Rattle.log.specs.Logs.{encode_all}
+use Rattle.call_log.specs.Logs.{encode_all}
 use Rattle.log_check.specs.WellFormed.{kind_known, well_formed}
 use Rattle.guest_memory.specs.declared.Regions.{Regions}
 use Rattle.guest_memory.specs.Regions.{guest_regions, holds, shares_at, share_an_address}

@@ -13,7 +13,7 @@ use Rattle.trb.specs.declared.InTrbProcessingStatus.{InTrbProcessingStatus}
 use Rattle.trb.specs.declared.InTrbProcessingStatus.TheVariants as status
 use Rattle.trb.specs.declared.TdBasedNormalSubmissionState.{TdBasedNormalSubmissionState}
 use Rattle.trb.specs.declared.TdBasedNormalSubmissionState.TheVariants.{AwaitingRealTransfer}
-use Rattle.log.specs.Calls.{Out}
+use Rattle.call_log.specs.Calls.{Out}
 use Rattle.in_td.specs.Td.{normals, process_td, in_td}
 use Rattle.in_td.specs.declared.InMode.{InMode}
 use Rattle.in_td.specs.declared.InMode.TheVariants.{Strict}

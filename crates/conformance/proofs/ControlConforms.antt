@@ -13,7 +13,7 @@ use Rattle.trb.specs.declared.NormalTrb.{NormalTrb}
 use Rattle.trb.specs.declared.SlotId.{SlotId}
 use Rattle.trb.specs.declared.TransferTrb.{TransferTrb}
 use Rattle.trb.proofs.TestLaws.{le-or-lt}
-use Rattle.log.specs.Calls.{Out}
+use Rattle.call_log.specs.Calls.{Out}
 use Rattle.td_part.specs.declared.TdProcessingState.TheVariants.{Default, ShortTransfer}
 use Rattle.td_part.specs.declared.TdProgress.{TdProgress}
 use Rattle.td_part.specs.declared.TrbDmaInfo.{TrbDmaInfo}

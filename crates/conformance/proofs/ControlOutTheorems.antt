@@ -10,8 +10,8 @@ use Rattle.trb.specs.declared.EndpointId.{EndpointId}
 use Rattle.trb.specs.declared.EventDataTrb.{EventDataTrb}
 use Rattle.trb.specs.declared.NormalTrb.{NormalTrb}
 use Rattle.trb.specs.declared.SlotId.{SlotId}
-use Rattle.log.specs.Calls.{Out}
-use Rattle.log.specs.declared.Record.{Record}
+use Rattle.call_log.specs.Calls.{Out}
+use Rattle.call_log.specs.declared.Record.{Record}
 use Rattle.td_part.specs.declared.TdProcessingState.TheVariants.{Default}
 use Rattle.td_part.specs.declared.TdProgress.{TdProgress}
 use Rattle.td_part.specs.declared.TrbDmaInfo.{TrbDmaInfo}

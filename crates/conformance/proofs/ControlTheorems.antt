@@ -13,8 +13,8 @@ use Rattle.trb.specs.declared.SlotId.{SlotId}
 use Rattle.trb.specs.declared.StatusStageTrb.{StatusStageTrb}
 use Rattle.trb.specs.declared.TransferTrb.{TransferTrb}
 use Rattle.trb.specs.declared.TransferTrbVariant.TheVariants.{StatusStage}
-use Rattle.log.specs.Calls.{Out}
-use Rattle.log.specs.Records.{when}
+use Rattle.call_log.specs.Calls.{Out}
+use Rattle.call_log.specs.Records.{when}
 use Rattle.td_part.specs.declared.TdProgress.{TdProgress}
 use Rattle.td_part.specs.Parts.{at_start, code_after, report_success, event_at}
 use Rattle.walks.specs.Walk.{walk}

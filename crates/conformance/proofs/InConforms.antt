@@ -25,7 +25,7 @@ use Rattle.trb.specs.declared.TransferTrbVariant.TheVariants.{SetupStage, DataSt
 use Rattle.trb.specs.declared.TrbProcessingResult.{TrbProcessingResult}
 use Rattle.trb.specs.declared.TrbProcessingResult.TheVariants as result
 use Rattle.trb.proofs.TestLaws.{le-or-lt}
-use Rattle.log.specs.Calls.{Out, silent}
+use Rattle.call_log.specs.Calls.{Out, silent}
 use Rattle.td_part.specs.declared.TdProcessingState.TheVariants.{ShortTransfer}
 use Rattle.td_part.specs.declared.TdProgress.{TdProgress}
 use Rattle.td_part.specs.declared.TdInfo.{TdInfo}

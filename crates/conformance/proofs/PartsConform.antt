@@ -11,9 +11,9 @@ use Rattle.trb.specs.Codes.{code_number}
 use Rattle.trb.specs.declared.CompletionCode.{CompletionCode}
 use Rattle.trb.specs.declared.CompletionCode.TheVariants.{Success, ShortPacket}
 use Rattle.trb.specs.declared.EventDataTrb.{EventDataTrb}
-use Rattle.log.specs.Calls.{Out}
-use Rattle.log.specs.Records.{guest_write, when}
-use Rattle.log.specs.declared.Record.{Record}
+use Rattle.call_log.specs.Calls.{Out}
+use Rattle.call_log.specs.Records.{guest_write, when}
+use Rattle.call_log.specs.declared.Record.{Record}
 use Rattle.td_part.specs.declared.TdInfo.{TdInfo}
 use Rattle.td_part.specs.declared.TdProgress.{TdProgress}
 use Rattle.td_part.specs.declared.TdProcessingState.TheVariants.{Default, ShortTransfer}

@@ -15,7 +15,7 @@ use Rattle.trb.specs.declared.TransferTrb.{TransferTrb}
 use Rattle.trb.specs.declared.TransferTrbVariant.{TransferTrbVariant}
 use Rattle.trb.specs.declared.TransferTrbVariant.TheVariants.{SetupStage, DataStage, StatusStage, Normal, EventData, NoOp, Isoch, Unrecognized}
 use Rattle.trb.proofs.TestLaws.{or-false-left, or-false-right, le-or-lt}
-use Rattle.log.specs.Records.{control_request, encode}
+use Rattle.call_log.specs.Records.{control_request, encode}
 use Rattle.phase_table.specs.declared.Outcome.{Outcome}
 use Rattle.phase_table.specs.Outcomes.{holds, phase_after}
 use Rattle.phase_table.specs.Table.{trb_outcome}

@@ -8,8 +8,8 @@ use Rattle.trb.specs.Codes.{code_number}
 use Rattle.trb.specs.declared.CompletionCode.{CompletionCode}
 use Rattle.trb.specs.declared.EndpointId.{EndpointId}
 use Rattle.trb.specs.declared.SlotId.{SlotId}
-use Rattle.log.specs.Records.{write_kind, event_kind, transfer_event, when}
-use Rattle.log.specs.declared.Record.{Record}
+use Rattle.call_log.specs.Records.{write_kind, event_kind, transfer_event, when}
+use Rattle.call_log.specs.declared.Record.{Record}
 use Rattle.standard.specs.Xhci.{event_if, Delivery, delivery, deliver_if}
 use Rattle.standard.specs.Xhci as xhci
 use Rattle.conformance.specs.Translate.{event_of, told, wrote}

@@ -6,8 +6,8 @@ use Rattle.trb.specs.declared.InTrbProcessingResult.TheVariants.{Given, NoneGive
 use Rattle.trb.specs.declared.InTrbProcessingStatus.TheVariants as status
 use Rattle.trb.specs.declared.TransferTrbVariant.TheVariants.{Unrecognized}
 use Rattle.in_td.specs.declared.InMode.TheVariants.{Strict}
-use Rattle.log.specs.Records.{request_kind}
-use Rattle.log.specs.declared.Record.{Record}
+use Rattle.call_log.specs.Records.{request_kind}
+use Rattle.call_log.specs.declared.Record.{Record}
 use Rattle.control_block.specs.declared.GuestRelease.TheVariants.{Release4, Release5}
 use Rattle.standard.specs.Control.{Kind, ControlTransfer, data_stage, status_stage, setup_stage, transferred, data_failed, status_failed, control_events, immediate_allowed}
 use Rattle.standard.specs.Usb.{Setup, setup_bytes, stages}

@@ -13,7 +13,7 @@ use Rattle.trb.specs.declared.TdBasedNormalSubmissionState.TheVariants.{Awaiting
 use Rattle.trb.specs.declared.TransferTrb.{TransferTrb}
 use Rattle.trb.specs.declared.TransferTrbVariant.{TransferTrbVariant}
 use Rattle.trb.specs.declared.TransferTrbVariant.TheVariants.{SetupStage, DataStage, StatusStage, Normal, EventData, NoOp, Unrecognized}
-use Rattle.log.specs.declared.Record.{Record}
+use Rattle.call_log.specs.declared.Record.{Record}
 use Rattle.in_block.specs.Blocks.{fresh_block, with_state, stored}
 use Rattle.in_block.specs.declared.InBlock.{InBlock}
 use Rattle.in_block.specs.Facts.{sound_block as in_sound}

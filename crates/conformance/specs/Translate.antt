@@ -8,8 +8,8 @@ use Rattle.trb.specs.declared.TransferTrbVariant.{TransferTrbVariant}
 use Rattle.trb.specs.declared.TransferTrbVariant.TheVariants.{SetupStage, DataStage, StatusStage, Normal, EventData, NoOp, Isoch, Unrecognized}
 use Rattle.trb.specs.declared.TrbProcessingResult.{TrbProcessingResult}
 use Rattle.trb.specs.declared.TrbProcessingResult.TheVariants as result
-use Rattle.log.specs.Records.{write_kind, event_kind}
-use Rattle.log.specs.declared.Record.{Record}
+use Rattle.call_log.specs.Records.{write_kind, event_kind}
+use Rattle.call_log.specs.declared.Record.{Record}
 use Rattle.in_td.specs.Td.{normals}
 use Rattle.in_td.specs.declared.InMode.{InMode}
 use Rattle.in_td.specs.declared.InMode.TheVariants.{AsPorted, Strict}

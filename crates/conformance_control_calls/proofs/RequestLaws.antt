@@ -21,8 +21,8 @@ use Rattle.trb.specs.declared.TransferTrbVariant.{TransferTrbVariant}
 use Rattle.trb.specs.declared.TransferTrbVariant.TheVariants.{SetupStage, DataStage, StatusStage, Normal, EventData, NoOp, Isoch}
 use Rattle.trb.specs.declared.TransferTrbVariant.TheVariants as variant
 use Rattle.trb.specs.declared.UsbRequest.{UsbRequest}
-use Rattle.log.specs.Calls.{Out}
-use Rattle.log.specs.Records.{control_request}
+use Rattle.call_log.specs.Calls.{Out}
+use Rattle.call_log.specs.Records.{control_request}
 use Rattle.phase_table.specs.Leads.{entry_of, leads_on, trbs_lead}
 use Rattle.phase_table.specs.Outcomes.{holds, restarts, requests, phase_after, state_after}
 use Rattle.phase_table.specs.Table.{data_taken, setup_stage_outcome, data_stage_outcome, normal_outcome, trb_outcome}

@@ -20,7 +20,7 @@ use Rattle.trb.specs.declared.SlotId.{SlotId}
 use Rattle.trb.specs.declared.TransferTrb.{TransferTrb}
 use Rattle.trb.specs.declared.TransferTrbVariant.TheVariants.{SetupStage, StatusStage}
 use Rattle.trb.proofs.TestLaws.{or-false-left, or-false-right}
-use Rattle.log.specs.Calls.{Out}
+use Rattle.call_log.specs.Calls.{Out}
 use Rattle.walks.specs.All.{all}
 use Rattle.guest_memory.specs.Places.{Memory, regions_of, bytes_at}
 use Rattle.phase_table.specs.Leads.{trbs_lead}

@@ -9,9 +9,9 @@ use Rattle.trb.specs.declared.ControlTransferState.TheVariants.{ExpectSetupStage
 use Rattle.trb.specs.declared.TransferTrb.{TransferTrb}
 use Rattle.trb.specs.declared.TransferTrbVariant.{TransferTrbVariant}
 use Rattle.trb.specs.declared.TransferTrbVariant.TheVariants.{SetupStage, DataStage, StatusStage, Normal, EventData, NoOp, Isoch, Unrecognized}
-use Rattle.log.specs.Calls.{Out}
-use Rattle.log.specs.Records.{control_request}
-use Rattle.log.specs.declared.Record.{Record}
+use Rattle.call_log.specs.Calls.{Out}
+use Rattle.call_log.specs.Records.{control_request}
+use Rattle.call_log.specs.declared.Record.{Record}
 use Rattle.walks.specs.All.{all}
 use Rattle.guest_memory.specs.declared.Regions.{Regions}
 use Rattle.guest_memory.specs.Places.{Memory, regions_of, bytes_at}

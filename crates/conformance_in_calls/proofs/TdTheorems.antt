@@ -24,9 +24,9 @@ use Rattle.trb.specs.declared.TransferTrb.{TransferTrb}
 use Rattle.trb.specs.declared.TransferTrbVariant.{TransferTrbVariant}
 use Rattle.trb.specs.declared.TransferTrbVariant.TheVariants.{SetupStage, DataStage, StatusStage, Normal, EventData, NoOp, Isoch, Unrecognized}
 use Rattle.trb.proofs.TestLaws.{and_left, and_right, le-or-lt}
-use Rattle.log.specs.Calls.{Out}
-use Rattle.log.specs.Records.{when}
-use Rattle.log.specs.declared.Record.{Record}
+use Rattle.call_log.specs.Calls.{Out}
+use Rattle.call_log.specs.Records.{when}
+use Rattle.call_log.specs.declared.Record.{Record}
 use Rattle.guest_memory.specs.declared.Regions.{Regions}
 use Rattle.guest_memory.specs.Regions.{share_an_address}
 use Rattle.held.specs.Places.{blank_trb}

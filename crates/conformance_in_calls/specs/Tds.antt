@@ -7,8 +7,8 @@ use Rattle.trb.specs.declared.CompletionAnswer.{CompletionAnswer}
 use Rattle.trb.specs.declared.CompletionAnswer.TheVariants.{Completed, Refused}
 use Rattle.trb.specs.declared.TdBasedNormalSubmissionState.TheVariants.{SubmissionDue}
 use Rattle.trb.specs.declared.TransferTrb.{TransferTrb}
-use Rattle.log.specs.Calls.{Out}
-use Rattle.log.specs.Records.{when, in_request}
+use Rattle.call_log.specs.Calls.{Out}
+use Rattle.call_log.specs.Records.{when, in_request}
 use Rattle.guest_memory.specs.declared.Regions.{Regions}
 use Rattle.guest_memory.specs.Regions.{share_an_address}
 use Rattle.walks.specs.All.{all}

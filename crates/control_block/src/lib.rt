@@ -1,5 +1,7 @@
 // The block of a control endpoint: made and changed; the facts of it that the questions ask about; what a completion does; and where the
 // event of a failed transfer goes.
+#![tactic(auto)]
+
 ghost use Rattle.std.specs.Prelude.{◌≡◌, ◌<◌};
 ghost use Rattle.trb.specs.Limits.{max_held};
 ghost use Rattle.control_block.specs.Blocks.{no_transfer, at_phase, fresh_block, stored, advanced};
@@ -13,7 +15,7 @@ use trb::{
 };
 
 // Whose rule a block is created for: where its guest looks for the event of a failed transfer.
-#[derive(Drop)]
+#[derive(Clone, Copy)]
 pub enum GuestRelease {
     // At the Setup TRB.
     Release4,
@@ -21,7 +23,7 @@ pub enum GuestRelease {
     Release5,
 }
 
-#[derive(Drop)]
+#[derive(Clone, Copy)]
 pub struct ControlBlock {
     pub endpoint_id: EndpointId,
     pub slot_id: SlotId,
@@ -39,7 +41,7 @@ pub struct ControlBlock {
 }
 
 // What a block knows of its transfer; the Rust's `ControlTransfer`.
-#[derive(Drop)]
+#[derive(Clone, Copy)]
 pub struct ControlTransfer {
     pub phase: ControlTransferState,
     pub direction: bool,
@@ -145,7 +147,7 @@ pub fn advance(
 // ---- Facts
 
 // What the questions ask about. `sound`: the TRBs held are of kinds that the endpoint supports, each of a length within the limit.
-#[derive(Drop)]
+#[derive(Clone, Copy)]
 pub struct BlockFacts {
     pub endpoint_id: EndpointId,
     pub slot_id: SlotId,
@@ -204,7 +206,7 @@ pub fn awaits_device(state: ControlSubmissionState) -> bool
 // ---- Endings
 
 // What a completion does.
-#[derive(Drop)]
+#[derive(Clone, Copy)]
 pub enum Ending {
     // More TRBs of the transfer follow.
     KeepCollecting,
@@ -329,7 +331,7 @@ fn is_status_stage(variant: TransferTrbVariant) -> bool
 }
 
 // The stage found among the TRBs held so far: the first Data Stage TRB, failing that the first Status Stage TRB.
-#[derive(Drop)]
+#[derive(Clone, Copy)]
 pub struct StageFound {
     pub data_stage: bool,
     pub status_stage: bool,

@@ -1,5 +1,7 @@
 // The block of a control endpoint as a lent row of bytes: its head and its places, read and stored. specs/Layout.antt says which block the
 // bytes are.
+#![tactic(auto)]
+
 ghost use Rattle.std.specs.Prelude.{◌≡◌, true, ◌+◌, ◌*◌, ◌<◌, ◌≤◌, ◌^◌, length, drop};
 ghost use Rattle.trb.specs.Limits.{max_held, max_transfer_length};
 ghost use Rattle.trb.specs.Trbs.{transfer_length};

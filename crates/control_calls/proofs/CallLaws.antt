@@ -13,8 +13,8 @@ use Rattle.trb.specs.declared.ControlRequestProcessingResult.{ControlRequestProc
 use Rattle.trb.specs.declared.EndpointId.{EndpointId}
 use Rattle.trb.specs.declared.SlotId.{SlotId}
 use Rattle.trb.specs.declared.TransferTrb.{TransferTrb}
-use Rattle.log.specs.Calls.{Out, Meets}
-use Rattle.log.specs.Logs.{logged}
+use Rattle.call_log.specs.Calls.{Out, Meets}
+use Rattle.call_log.specs.Logs.{logged}
 use Rattle.numerals.specs.Written.{Written}
 use Rattle.numerals.proofs.WrittenLaws.{written-append, written-within}
 use Rattle.buffers.specs.Patch.{patch}

@@ -11,7 +11,7 @@ use Rattle.trb.specs.declared.EndpointId.{EndpointId}
 use Rattle.trb.specs.declared.SlotId.{SlotId}
 use Rattle.trb.specs.declared.TransferTrb.{TransferTrb}
 use Rattle.trb.specs.declared.UsbRequest.{UsbRequest}
-use Rattle.log.specs.Logs.{logged}
+use Rattle.call_log.specs.Logs.{logged}
 use Rattle.guest_memory.specs.Places.{Memory, regions_of}
 use Rattle.numerals.specs.Written.{Written}
 use Rattle.call_text.specs.Lines.{count_of}

@@ -10,9 +10,9 @@ use Rattle.trb.specs.declared.CompletionCode.TheVariants.{Success}
 use Rattle.trb.specs.declared.EndpointId.{EndpointId}
 use Rattle.trb.specs.declared.SlotId.{SlotId}
 use Rattle.trb.specs.declared.TransferTrb.{TransferTrb}
-use Rattle.log.specs.declared.Record.{Record}
-use Rattle.log.specs.Records.{transfer_event}
-use Rattle.log.proofs.RecordLaws.{length-when}
+use Rattle.call_log.specs.declared.Record.{Record}
+use Rattle.call_log.specs.Records.{transfer_event}
+use Rattle.call_log.proofs.RecordLaws.{length-when}
 use Rattle.td_part.specs.declared.TdInfo.{TdInfo}
 use Rattle.td_part.specs.declared.TdProgress.{TdProgress}
 use Rattle.td_part.specs.Parts.{Within}

@@ -11,9 +11,9 @@ use Rattle.trb.specs.declared.CompletionCode.TheVariants.{TrbError}
 use Rattle.trb.specs.declared.EndpointId.{EndpointId}
 use Rattle.trb.specs.declared.SlotId.{SlotId}
 use Rattle.trb.specs.declared.TransferTrb.{TransferTrb}
-use Rattle.log.specs.declared.Record.{Record}
-use Rattle.log.specs.Calls.{silent, Put}
-use Rattle.log.proofs.LogLaws.{logged-append, AllFit-append}
+use Rattle.call_log.specs.declared.Record.{Record}
+use Rattle.call_log.specs.Calls.{silent, Put}
+use Rattle.call_log.proofs.LogLaws.{logged-append, AllFit-append}
 use Rattle.td_part.specs.declared.TdInfo.{TdInfo}
 use Rattle.td_part.specs.declared.TdProgress.{TdProgress}
 use Rattle.td_part.specs.Parts.{Within, at_start}

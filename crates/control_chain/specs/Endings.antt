@@ -5,9 +5,9 @@ use Rattle.trb.specs.declared.CompletionCode.TheVariants.{TrbError}
 use Rattle.trb.specs.declared.EndpointId.{EndpointId}
 use Rattle.trb.specs.declared.SlotId.{SlotId}
 use Rattle.trb.specs.declared.TransferTrb.{TransferTrb}
-use Rattle.log.specs.declared.Record.{Record}
-use Rattle.log.specs.Calls.{Out, silent}
-use Rattle.log.specs.Records.{transfer_event}
+use Rattle.call_log.specs.declared.Record.{Record}
+use Rattle.call_log.specs.Calls.{Out, silent}
+use Rattle.call_log.specs.Records.{transfer_event}
 use Rattle.td_part.specs.declared.TdInfo.{TdInfo}
 use Rattle.td_part.specs.declared.TdProgress.{TdProgress}
 use Rattle.control_block.specs.declared.Ending.{Ending}

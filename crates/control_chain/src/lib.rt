@@ -1,7 +1,9 @@
 // The TRBs of a control transfer that succeeded as its completion comes, each by its kind; ports the parts of `realize_control_chain`.
+#![tactic(auto)]
+
 ghost use Rattle.std.specs.Prelude.{◌≡◌, ◌+◌, ◌*◌, ◌≤◌, length};
 ghost use Rattle.trb.specs.Limits.{record_length};
-ghost use Rattle.log.specs.Calls.{Meets};
+ghost use Rattle.call_log.specs.Calls.{Meets};
 ghost use Rattle.td_part.specs.Parts.{Within};
 ghost use Rattle.control_chain.specs.Chain.{edtla_zeroed, move_out, move_data, realize_stage, realize_data_stage, realize_normal};
 
@@ -9,7 +11,7 @@ use td_part::{TdInfo, TdProcessingState, TdProgress, TrbDmaInfo};
 use trb::{DataStageTrb, NormalTrb};
 
 // What stays the same over a control transfer. With SuccessfulControlIn there is device data: `input` is on.
-#[derive(Drop)]
+#[derive(Clone, Copy)]
 pub struct ControlTd {
     pub info: TdInfo,
     pub input: bool,

@@ -1,4 +1,6 @@
 // What was submitted to the control endpoint, completed; ports `next_completion` of `ControlEndpointHandle`.
+#![tactic(auto)]
+
 ghost use Rattle.std.specs.Prelude.{length};
 ghost use Rattle.control_endpoint.specs.Completion.{Completes};
 

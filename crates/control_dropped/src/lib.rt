@@ -1,7 +1,9 @@
 // A TRB held that is dropped; ports a turn of `clean_current_trbs`.
+#![tactic(auto)]
+
 ghost use Rattle.std.specs.Prelude.{◌≡◌, ◌+◌, ◌*◌, ◌≤◌, length};
 ghost use Rattle.trb.specs.Limits.{record_length};
-ghost use Rattle.log.specs.Calls.{Meets};
+ghost use Rattle.call_log.specs.Calls.{Meets};
 ghost use Rattle.control_chain.specs.Dropped.{interrupt_of, report_dropped};
 
 use td_part::{TdInfo, TdProgress};

@@ -1,7 +1,9 @@
 // What the completion of a control transfer logs behind the events of the TRBs held; ports `handle_processing_error`.
+#![tactic(auto)]
+
 ghost use Rattle.std.specs.Prelude.{[], ◌∷◌, ◌≡◌, ◌+◌, ◌*◌, ◌≤◌, length};
 ghost use Rattle.trb.specs.Limits.{record_length};
-ghost use Rattle.log.specs.Calls.{Meets, counted};
+ghost use Rattle.call_log.specs.Calls.{Meets, counted};
 ghost use Rattle.control_chain.specs.Endings.{info_of, event_of, last_records};
 
 use control_block::Ending;
@@ -37,8 +39,8 @@ fn put_event(
     requires { record_length * (count + 1) ≤ length log.old }
     ensures { Meets (counted count (event_of addr code endpoint_id slot_id ∷ [])) count log.old result log.new }
 {
-    let event = log::transfer_event(addr, 0, code, false, endpoint_id, slot_id);
-    log::put_record(log, count, event);
+    let event = call_log::transfer_event(addr, 0, code, false, endpoint_id, slot_id);
+    call_log::put_record(log, count, event);
     count + 1
 }
 

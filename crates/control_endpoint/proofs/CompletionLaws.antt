@@ -21,9 +21,9 @@ use Rattle.trb.specs.declared.ControlSubmissionState.TheVariants.{NoTrbSubmitted
 use Rattle.trb.specs.declared.Refusal.{Refusal}
 use Rattle.trb.specs.declared.TransferTrb.{TransferTrb}
 use Rattle.trb.specs.declared.TrbProcessingResult.{TrbProcessingResult}
-use Rattle.log.specs.declared.Record.{Record}
-use Rattle.log.specs.Calls.{Put, Meets}
-use Rattle.log.proofs.CallLaws.{meets, meets-silent}
+use Rattle.call_log.specs.declared.Record.{Record}
+use Rattle.call_log.specs.Calls.{Put, Meets}
+use Rattle.call_log.proofs.CallLaws.{meets, meets-silent}
 use Rattle.held.specs.Places.{cleared}
 use Rattle.td_part.specs.declared.TdInfo.{TdInfo}
 use Rattle.td_part.specs.Parts.{at_start}

@@ -8,8 +8,8 @@ use native.Mathlib.Omega.{arith}
 use lib.ListN.{length, take, get_or, set, length-append}
 use Rattle.trb.specs.Limits.{record_length}
 use Rattle.trb.specs.declared.TransferTrb.{TransferTrb}
-use Rattle.log.specs.declared.Record.{Record}
-use Rattle.log.specs.Calls.{Out, Put, Meets, counted}
+use Rattle.call_log.specs.declared.Record.{Record}
+use Rattle.call_log.specs.Calls.{Out, Put, Meets, counted}
 use Rattle.held.specs.Places.{blank_trb, cleared, past_end}
 use Rattle.held.proofs.PlaceLaws.{blanked, blanked-none, blanked-more, blanked-next, cleared-blanked}
 use Rattle.td_part.specs.declared.TdInfo.{TdInfo}

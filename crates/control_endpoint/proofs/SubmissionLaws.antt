@@ -19,11 +19,11 @@ use Rattle.trb.specs.declared.Answer.TheVariants.{Accepted, Refused}
 use Rattle.trb.specs.declared.ControlSubmissionState.{ControlSubmissionState}
 use Rattle.trb.specs.declared.Refusal.{Refusal}
 use Rattle.trb.specs.declared.TransferTrb.{TransferTrb}
-use Rattle.log.specs.declared.Record.{Record}
-use Rattle.log.specs.Calls.{Put}
-use Rattle.log.proofs.CallLaws.{meets, meets-silent}
-use Rattle.log.proofs.RecordLaws.{length-when}
-use Rattle.log.specs.Records.{control_request}
+use Rattle.call_log.specs.declared.Record.{Record}
+use Rattle.call_log.specs.Calls.{Put}
+use Rattle.call_log.proofs.CallLaws.{meets, meets-silent}
+use Rattle.call_log.proofs.RecordLaws.{length-when}
+use Rattle.call_log.specs.Records.{control_request}
 use Rattle.held.specs.Places.{cleared}
 use Rattle.td_part.specs.declared.TdInfo.{TdInfo}
 use Rattle.td_part.specs.Parts.{at_start}

@@ -1,7 +1,7 @@
 -- 02, R-11: a call under one rule beside the same call under another. Assumes nothing.
 use Rattle.std.specs.Prelude.{Bool, true, false, map}
-use Rattle.log.specs.declared.Record.{Record}
-use Rattle.log.specs.Calls.{Out}
+use Rattle.call_log.specs.declared.Record.{Record}
+use Rattle.call_log.specs.Calls.{Out}
 use Rattle.control_block.specs.declared.ControlBlock.{ControlBlock}
 use Rattle.control_block.specs.declared.Ending.{Ending}
 use Rattle.control_block.specs.declared.Ending.TheVariants.{KeepCollecting, ReportBadTrb, Fail, Realize}

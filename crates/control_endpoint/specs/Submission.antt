@@ -6,8 +6,8 @@ use Rattle.trb.specs.Answers.{number_of, refusal_of}
 use Rattle.trb.specs.Questions.{first_no, after_questions}
 use Rattle.trb.specs.declared.Answer.TheVariants.{Accepted, Refused}
 use Rattle.trb.specs.declared.TransferTrb.{TransferTrb}
-use Rattle.log.specs.declared.Record.{Record}
-use Rattle.log.specs.Calls.{Out, silent, Meets}
+use Rattle.call_log.specs.declared.Record.{Record}
+use Rattle.call_log.specs.Calls.{Out, silent, Meets}
 use Rattle.guest_memory.specs.declared.Regions.{Regions}
 use Rattle.guest_memory.specs.Places.{Memory, regions_of}
 use Rattle.phase_table.specs.declared.Outcome.{Outcome}

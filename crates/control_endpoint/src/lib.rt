@@ -1,24 +1,26 @@
 // The control endpoint: what its calls are, by definition; creation and cancel. Ports `ControlEndpointHandle`.
+#![tactic(auto)]
+
 ghost use Rattle.std.specs.Prelude.{◌≡◌};
 ghost use Rattle.control_endpoint.specs.Creation.{Creates};
 
 use control_block::{ControlBlock, GuestRelease};
 use trb::{Answer, CompletionAnswer, EndpointId, Refusal, SlotId};
 
-#[derive(Drop)]
+#[derive(Clone, Copy)]
 pub struct Created {
     pub answer: Answer,
     pub block: ControlBlock,
 }
 
-#[derive(Drop)]
+#[derive(Clone, Copy)]
 pub struct Submitted {
     pub answer: Answer,
     pub records: usize,
     pub block: ControlBlock,
 }
 
-#[derive(Drop)]
+#[derive(Clone, Copy)]
 pub struct Completed {
     pub answer: CompletionAnswer,
     pub records: usize,

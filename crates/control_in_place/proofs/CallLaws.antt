@@ -23,8 +23,8 @@ use Rattle.trb.specs.declared.Refusal.TheVariants.{BufferTooShort}
 use Rattle.trb.specs.declared.TransferTrb.{TransferTrb}
 use Rattle.trb.specs.declared.TrbProcessingResult.{TrbProcessingResult}
 use Rattle.trb.specs.declared.TrbProcessingResult.TheVariants as result
-use Rattle.log.specs.Calls.{Meets, counted}
-use Rattle.log.proofs.CallLaws.{meets-silent}
+use Rattle.call_log.specs.Calls.{Meets, counted}
+use Rattle.call_log.proofs.CallLaws.{meets-silent}
 use Rattle.held_bytes.specs.Places.{place_length}
 use Rattle.guest_memory.specs.Places.{Memory, regions_of}
 use Rattle.phase_table.specs.declared.Outcome.{Outcome}

@@ -9,7 +9,7 @@ use Rattle.trb.specs.declared.ControlRequestProcessingResult.TheVariants.{NoneGi
 use Rattle.trb.specs.declared.EndpointId.{EndpointId}
 use Rattle.trb.specs.declared.SlotId.{SlotId}
 use Rattle.trb.specs.declared.TransferTrb.{TransferTrb}
-use Rattle.log.specs.Calls.{Out, Meets, counted}
+use Rattle.call_log.specs.Calls.{Out, Meets, counted}
 use Rattle.guest_memory.specs.Places.{Memory, regions_of}
 use Rattle.guest_memory.specs.declared.Regions.{Regions}
 use Rattle.phase_table.specs.declared.Outcome.{Outcome}

@@ -1,5 +1,7 @@
 // The control endpoint in place: its block is a lent row of bytes, of which a call reads and stores what it needs; ports
 // `ControlEndpointHandle`. A HAL in C or Rust calls these, through the exported functions of `polvihe`: numbers and lent bytes alone.
+#![tactic(auto)]
+
 ghost use Rattle.std.specs.Prelude.{◌≡◌, [], ◌∷◌, ◌≤◌, length};
 ghost use Rattle.trb.specs.Answers.{number_of};
 ghost use Rattle.trb.specs.Questions.{first_no};
@@ -24,7 +26,7 @@ use trb::{
 
 // ---- Submission
 
-#[derive(Drop)]
+#[derive(Clone, Copy)]
 struct AskedSubmission {
     answer: Answer,
     outcome: Outcome,
@@ -94,7 +96,7 @@ fn accept_trb<'a>(
     records
 }
 
-#[derive(Drop)]
+#[derive(Clone, Copy)]
 struct SubmittedInPlace {
     answer: Answer,
     records: usize,
@@ -256,7 +258,7 @@ fn ask_completion(
     control_questions::ask_completion(log_length, facts, res, data_length)
 }
 
-#[derive(Drop)]
+#[derive(Clone, Copy)]
 struct CompletedInPlace {
     answer: CompletionAnswer,
     records: usize,

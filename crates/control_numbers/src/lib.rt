@@ -1,5 +1,7 @@
 // A submission on a control endpoint, of a TRB that is given by numbers: the outcome of phase_table, the data of control_transfer and the
 // questions of control_questions, without a decoded TRB between.
+#![tactic(auto)]
+
 ghost use Rattle.std.specs.Prelude.{◌≡◌, ℕ, ◌+◌, ◌≤◌, true, not, ◌&&◌, ◌||◌, [], length, if◌then◌else◌, ◌==◌, nat_le};
 ghost use Rattle.buffers.specs.Patch.{patch};
 ghost use Rattle.trb.specs.Answers.{number_of};

@@ -11,10 +11,10 @@ use Rattle.trb.specs.declared.EndpointId.{EndpointId}
 use Rattle.trb.specs.declared.SlotId.{SlotId}
 use Rattle.trb.specs.declared.TransferTrb.{TransferTrb}
 use Rattle.trb.specs.declared.UsbRequest.{UsbRequest}
-use Rattle.log.specs.declared.Record.{Record}
-use Rattle.log.specs.Calls.{Put, Meets, counted}
-use Rattle.log.specs.Records.{control_request, when}
-use Rattle.log.proofs.CallLaws.{meets, meets-silent}
+use Rattle.call_log.specs.declared.Record.{Record}
+use Rattle.call_log.specs.Calls.{Put, Meets, counted}
+use Rattle.call_log.specs.Records.{control_request, when}
+use Rattle.call_log.proofs.CallLaws.{meets, meets-silent}
 use Rattle.td_part.specs.declared.TdInfo.{TdInfo}
 use Rattle.td_part.specs.declared.TdProgress.{TdProgress}
 use Rattle.td_part.specs.Parts.{at_start}

@@ -2,7 +2,7 @@
 use Rattle.std.specs.Prelude.{ℕ, ◌≡◌, Bool, true, false, not, cond, List}
 use Rattle.trb.specs.declared.EndpointId.{EndpointId}
 use Rattle.trb.specs.declared.SlotId.{SlotId}
-use Rattle.log.specs.declared.Record.{Record}
+use Rattle.call_log.specs.declared.Record.{Record}
 use Rattle.control_block.specs.declared.ControlBlock.{ControlBlock}
 use Rattle.phase_table.specs.declared.Outcome.{Outcome}
 use Rattle.phase_table.specs.Outcomes.{restarts, requests}

@@ -1,8 +1,10 @@
 // The places of a control endpoint's block in bytes, one TRB after the other: what a submission and a completion log of those held, and
 // where the event of a failed transfer goes.
+#![tactic(auto)]
+
 ghost use Rattle.std.specs.Prelude.{◌≡◌, ◌≤◌, length, take};
 ghost use Rattle.trb.specs.Limits.{max_held, min_log};
-ghost use Rattle.log.specs.Calls.{Meets, counted};
+ghost use Rattle.call_log.specs.Calls.{Meets, counted};
 ghost use Rattle.td_part.specs.Parts.{at_start};
 ghost use Rattle.walks.specs.Walk.{walk};
 ghost use Rattle.control_block.specs.Blocks.{held_of};

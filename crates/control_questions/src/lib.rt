@@ -1,4 +1,6 @@
 // The questions asked on a control endpoint, in the order of document 01, over the facts of its block.
+#![tactic(auto)]
+
 ghost use Rattle.std.specs.Prelude.{◌≡◌, ◌≤◌};
 ghost use Rattle.trb.specs.Answers.{number_of};
 ghost use Rattle.trb.specs.Limits.{max_held, max_collected};

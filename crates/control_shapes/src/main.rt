@@ -1,10 +1,12 @@
 // Prints the shapes of control chains up to the length that it is given on standard input (R-10).
+#![tactic(auto)]
+
 ghost use Rattle.std.specs.Prelude.{◌≡◌, ◌∷◌, [], ◌≤◌, length};
 ghost use Rattle.numerals.specs.Written.{Written};
 ghost use Rattle.shape_lines.specs.Lines.{max_text};
 ghost use Rattle.control_shapes.specs.Answers.{in_range, one_digit, two_digits, asked as asked_of, refused_text, answer_text};
 
-use libc::{STDIN_FILENO, STDOUT_FILENO};
+use std::io;
 
 // ---- What is read
 
@@ -127,10 +129,10 @@ fn text_buffer() -> [u8; shape_lines::MAX_TEXT] {
     [0u8; shape_lines::MAX_TEXT]
 }
 
-fn main() {
+fn main(rt: HostRuntime) -> io::Result<()> {
     let mut input = [0u8; INPUT];
-    let read = io::read_full(STDIN_FILENO, &mut input);
+    let read = input_bytes::read_full(&mut rt.stdin(), &mut input)?;
     let mut text = text_buffer();
     let end = put_answer(&mut text, &input[..read]);
-    io::write_all(STDOUT_FILENO, &text[..end]);
+    rt.write_all(&text[..end])
 }

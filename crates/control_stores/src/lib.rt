@@ -1,4 +1,6 @@
 // What an accepted call stores in a control endpoint's block in bytes: the TRB that is held, and the head.
+#![tactic(auto)]
+
 ghost use Rattle.std.specs.Prelude.{◌≡◌, true, ◌-◌, ◌<◌, ◌≤◌, ◌^◌, length};
 ghost use Rattle.trb.specs.Limits.{max_held, max_collected};
 ghost use Rattle.held_bytes.specs.Numbers.{trb_of};

@@ -1,4 +1,6 @@
 // A TRB submitted to the control endpoint; ports `submit_trb` of `ControlEndpointHandle`.
+#![tactic(auto)]
+
 ghost use Rattle.std.specs.Prelude.{◌≡◌};
 ghost use Rattle.guest_memory.specs.Places.{memory_of};
 ghost use Rattle.control_endpoint.specs.Submission.{places_dropped, Submits};

@@ -9,8 +9,8 @@ use Rattle.trb.specs.declared.SlotId.{SlotId}
 use Rattle.trb.specs.declared.TransferTrbVariant.{TransferTrbVariant}
 use Rattle.trb.specs.declared.TransferTrbVariant.TheVariants.{SetupStage, DataStage, StatusStage, Normal, EventData, NoOp, Isoch, Unrecognized}
 use Rattle.trb.specs.declared.UsbRequest.{UsbRequest}
-use Rattle.log.specs.declared.Record.{Record}
-use Rattle.log.specs.Records.{control_request, when}
+use Rattle.call_log.specs.declared.Record.{Record}
+use Rattle.call_log.specs.Records.{control_request, when}
 use Rattle.guest_memory.specs.Places.{Memory}
 use Rattle.phase_table.specs.declared.Outcome.{Outcome}
 use Rattle.phase_table.specs.Outcomes.{holds, requests, phase_after}

@@ -1,12 +1,14 @@
 // What a TRB makes of a control transfer: its request, the bytes asked for and the bytes collected; and the TRB's data, its size, whether
 // it lies in guest memory, and its collecting on OUT. Ports `instantiate_setup_trb`, `collect_transfer_length` and
 // `collect_transfer_data`.
+#![tactic(auto)]
+
 ghost use Rattle.std.specs.Prelude.{◌≡◌, ◌+◌, ◌*◌, ◌≤◌, true, not, ◌||◌, length};
 ghost use Rattle.buffers.specs.LittleEndian.{le_bytes};
 ghost use Rattle.buffers.specs.Patch.{patch};
 ghost use Rattle.trb.specs.Limits.{record_length, max_collected};
 ghost use Rattle.guest_memory.specs.Places.{memory_of, bytes_at};
-ghost use Rattle.log.specs.Calls.{Meets, counted};
+ghost use Rattle.call_log.specs.Calls.{Meets, counted};
 ghost use Rattle.control_transfer.specs.Data.{no_data, data_of, immediate_length, size_of, in_reach, bytes_of};
 ghost use Rattle.control_transfer.specs.Transfers.{request_of, begun, lengthened, grown, taken_by, held_into, transfer_after, requests_of, collects, collectable, bytes_taken};
 
@@ -21,7 +23,7 @@ use trb::{EndpointId, SetupStageTrb, SlotId, TransferTrbVariant, UsbRequest};
 pub const MAX_IMMEDIATE: u32 = 8;
 
 // What a DataStage or Normal TRB moves.
-#[derive(Drop)]
+#[derive(Clone, Copy)]
 pub struct TrbData {
     pub data_pointer: u64,
     pub transfer_length: u32,
@@ -295,8 +297,8 @@ pub fn log_request(
     requires { record_length * (count + 1) ≤ length log.old }
     ensures { Meets (counted count (requests_of outcome request endpoint_id slot_id)) count log.old result log.new }
 {
-    let record = log::control_request(request, endpoint_id, slot_id);
-    log::put_when(log, count, phase_table::is_request(outcome), record)
+    let record = call_log::control_request(request, endpoint_id, slot_id);
+    call_log::put_when(log, count, phase_table::is_request(outcome), record)
 }
 
 // Are the TRB's bytes collected? `input`: the transfer is IN.

@@ -1,7 +1,9 @@
 // The turn of a TRB held as the completion of a control transfer comes; ports a turn of `realize_control_chain`.
+#![tactic(auto)]
+
 ghost use Rattle.std.specs.Prelude.{◌+◌, ◌*◌, ◌≤◌, length};
 ghost use Rattle.trb.specs.Limits.{record_length};
-ghost use Rattle.log.specs.Calls.{Meets};
+ghost use Rattle.call_log.specs.Calls.{Meets};
 ghost use Rattle.td_part.specs.Parts.{Within};
 ghost use Rattle.control_chain.specs.Chain.{realize_trb};
 ghost use Rattle.control_chain.specs.Endings.{next_trb};

@@ -4,7 +4,7 @@ use mathlib.Core.Path.{◌≡◌, refl}
 use mathlib.Core.Bool.{Bool, true, false, cond}
 use lib.Dec.{eqb}
 use Rattle.trb.specs.declared.TransferTrbVariant.TheVariants.{NoOp, Isoch, Unrecognized}
-use Rattle.log.specs.Calls.{silent}
+use Rattle.call_log.specs.Calls.{silent}
 use Rattle.raw_trb.specs.Layouts.{normal_type, setup_stage_type, data_stage_type, status_stage_type, isoch_type, event_data_type, no_op_type}
 use Rattle.held_bytes.specs.Numbers.{no_op_of, variant_of}
 use Rattle.td_part.specs.declared.TdProgress.{TdProgress}

@@ -1,7 +1,9 @@
 // The turn of a TRB held as the completion of a control transfer comes, as in control_turn, of a TRB that is given by numbers.
+#![tactic(auto)]
+
 ghost use Rattle.std.specs.Prelude.{◌≡◌, ◌+◌, ◌*◌, ◌≤◌, length};
 ghost use Rattle.trb.specs.Limits.{record_length};
-ghost use Rattle.log.specs.Calls.{Meets};
+ghost use Rattle.call_log.specs.Calls.{Meets};
 ghost use Rattle.td_part.specs.Parts.{Within};
 ghost use Rattle.held_bytes.specs.Numbers.{data_stage_of, event_data_of, trb_of};
 ghost use Rattle.control_chain.specs.Chain.{realize_trb};

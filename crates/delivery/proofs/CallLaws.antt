@@ -14,10 +14,10 @@ use Rattle.trb.specs.declared.Answer.TheVariants.{Accepted}
 use Rattle.trb.specs.declared.InTrbProcessingResult.{InTrbProcessingResult}
 use Rattle.trb.specs.declared.TrbProcessingResult.{TrbProcessingResult}
 use Rattle.trb.proofs.AnswerLaws.{answered-no}
-use Rattle.log.specs.Calls.{Out, Meets}
-use Rattle.log.specs.Logs.{encode_all}
-use Rattle.log.proofs.CallLaws.{meets}
-use Rattle.log.proofs.LogLaws.{logged_none}
+use Rattle.call_log.specs.Calls.{Out, Meets}
+use Rattle.call_log.specs.Logs.{encode_all}
+use Rattle.call_log.proofs.CallLaws.{meets}
+use Rattle.call_log.proofs.LogLaws.{logged_none}
 use Rattle.guest_memory.specs.Places.{Memory, regions_of}
 use Rattle.carry_out.specs.Writes.{written}
 use Rattle.carry_out.specs.CarryOut.{answer_of, memory_after, Carried}

@@ -13,10 +13,10 @@ use Rattle.trb.specs.declared.InTrbProcessingResult.TheVariants.{NoneGiven, Give
 use Rattle.trb.specs.declared.InTrbProcessingStatus.TheVariants.{Success}
 use Rattle.trb.specs.declared.TdBasedNormalSubmissionState.{TdBasedNormalSubmissionState}
 use Rattle.trb.specs.declared.TdBasedNormalSubmissionState.TheVariants.{SubmissionDue, CollectingTd, AwaitingRealTransfer, AwaitingLocalCompletion, UnsupportedTrb}
-use Rattle.log.specs.Calls.{Out, Meets}
-use Rattle.log.specs.Logs.{encode_all, records_in}
-use Rattle.log.specs.declared.Record.{Record}
-use Rattle.log.proofs.LogLaws.{length-encode_all, records_in-logged}
+use Rattle.call_log.specs.Calls.{Out, Meets}
+use Rattle.call_log.specs.Logs.{encode_all, records_in}
+use Rattle.call_log.specs.declared.Record.{Record}
+use Rattle.call_log.proofs.LogLaws.{length-encode_all, records_in-logged}
 use Rattle.log_check.specs.WellFormed.{kind_known, kinds_known}
 use Rattle.guest_memory.specs.declared.Regions.{Regions}
 use Rattle.guest_memory.specs.Regions.{share_an_address}

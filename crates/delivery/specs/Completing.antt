@@ -6,8 +6,8 @@ use Rattle.trb.specs.Limits.{record_length, min_log, max_data}
 use Rattle.trb.specs.Questions.{first_no, after_questions, agree}
 use Rattle.trb.specs.declared.CompletionAnswer.{CompletionAnswer}
 use Rattle.trb.specs.declared.InTrbProcessingResult.{InTrbProcessingResult}
-use Rattle.log.specs.Calls.{Out, Meets}
-use Rattle.log.specs.Logs.{records_in}
+use Rattle.call_log.specs.Calls.{Out, Meets}
+use Rattle.call_log.specs.Logs.{records_in}
 use Rattle.guest_memory.specs.declared.Regions.{Regions}
 use Rattle.guest_memory.specs.Regions.{share_an_address}
 use Rattle.guest_memory.specs.Places.{Memory, regions_of}

@@ -1,4 +1,6 @@
 // No torn frame: completion and carry-out in one call, with guest memory at the event that the guest relies on as its promise.
+#![tactic(auto)]
+
 ghost use Rattle.std.specs.Prelude.{◌≡◌, cond, ◌*◌, ◌≤◌, min, length, take};
 ghost use Rattle.trb.specs.Answers.{number_of};
 ghost use Rattle.trb.specs.Limits.{record_length};

@@ -13,10 +13,10 @@ use Rattle.trb.specs.Questions.{first_no}
 use Rattle.trb.specs.declared.Answer.TheVariants.{Accepted}
 use Rattle.trb.specs.declared.TransferTrb.{TransferTrb}
 use Rattle.trb.proofs.TestLaws.{and_left, and_right, or-false-left, or-false-right}
-use Rattle.log.specs.Logs.{encode_all, AllFit}
-use Rattle.log.specs.Records.{encode}
-use Rattle.log.proofs.RecordLaws.{length-encode}
-use Rattle.log.specs.declared.Record.{Record}
+use Rattle.call_log.specs.Logs.{encode_all, AllFit}
+use Rattle.call_log.specs.Records.{encode}
+use Rattle.call_log.proofs.RecordLaws.{length-encode}
+use Rattle.call_log.specs.declared.Record.{Record}
 use Rattle.log_check.specs.WellFormed.{kind_known, kinds_known}
 use Rattle.guest_memory.specs.Regions.{share_an_address}
 use Rattle.guest_memory.specs.Places.{Memory, regions_of}

@@ -10,8 +10,8 @@ use Rattle.trb.specs.declared.NormalTrb.{NormalTrb}
 use Rattle.trb.specs.declared.TransferTrb.{TransferTrb}
 use Rattle.trb.specs.declared.TransferTrbVariant.{TransferTrbVariant}
 use Rattle.trb.specs.declared.TransferTrbVariant.TheVariants.{SetupStage, DataStage, StatusStage, Normal, EventData, NoOp, Isoch, Unrecognized}
-use Rattle.log.specs.Records.{when}
-use Rattle.log.specs.declared.Record.{Record}
+use Rattle.call_log.specs.Records.{when}
+use Rattle.call_log.specs.declared.Record.{Record}
 use Rattle.log_check.specs.WellFormed.{kind_known, kinds_known}
 use Rattle.walks.proofs.WalkLaws.{walk-records}
 use Rattle.td_part.specs.declared.TdProcessingState.{TdProcessingState}

@@ -12,7 +12,7 @@ use borrow.Author.Tests.{ltb-false, leb-true}
 use Rattle.trb.proofs.TestLaws.{and_left, and_right}
 use Rattle.buffers.specs.Patch.{patch}
 use Rattle.buffers.proofs.PatchLaws.{length-patch, patch-none, patch-append}
-use Rattle.log.specs.declared.Record.{Record}
+use Rattle.call_log.specs.declared.Record.{Record}
 use Rattle.guest_memory.specs.declared.Place.{Place}
 use Rattle.guest_memory.specs.declared.Place.TheVariants.{Outside, InLow, InHigh}
 use Rattle.guest_memory.specs.declared.Regions.{Regions}

@@ -17,8 +17,8 @@ use Rattle.trb.specs.declared.SlotId.{SlotId}
 use Rattle.trb.specs.declared.TransferTrb.{TransferTrb}
 use Rattle.trb.specs.declared.TransferTrbVariant.TheVariants.{Normal}
 use Rattle.trb.proofs.TestLaws.{or-false-left, or-false-right, le-or-lt}
-use Rattle.log.specs.Records.{guest_write, when}
-use Rattle.log.specs.declared.Record.{Record}
+use Rattle.call_log.specs.Records.{guest_write, when}
+use Rattle.call_log.specs.declared.Record.{Record}
 use Rattle.guest_memory.specs.declared.Regions.{Regions}
 use Rattle.guest_memory.specs.Places.{range_inside}
 use Rattle.carry_out.specs.Writes.{moves_bytes, write_in_range, writes_in_range}

@@ -10,9 +10,9 @@ use Rattle.trb.specs.declared.SlotId.{SlotId}
 use Rattle.trb.specs.declared.TransferTrb.{TransferTrb}
 use Rattle.trb.specs.declared.TransferTrbVariant.TheVariants.{Normal}
 use Rattle.buffers.specs.Patch.{patch}
-use Rattle.log.specs.Logs.{encode_all}
-use Rattle.log.specs.Records.{guest_write, transfer_event}
-use Rattle.log.specs.declared.Record.{Record}
+use Rattle.call_log.specs.Logs.{encode_all}
+use Rattle.call_log.specs.Records.{guest_write, transfer_event}
+use Rattle.call_log.specs.declared.Record.{Record}
 use Rattle.guest_memory.specs.Places.{in_region, place_of, Memory, memory_of}
 use Rattle.carry_out.specs.CarryOut.{memory_after}
 use Rattle.carry_out.specs.Writes.{moves_bytes, after_record}

@@ -1,1 +1,3 @@
 // Definitions and laws alone: guest memory at the event that the guest relies on, of any log of a TD.
+#![tactic(auto)]
+

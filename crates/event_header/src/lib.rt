@@ -1,4 +1,6 @@
 // The usbmon header of an event; ports `log_packet`.
+#![tactic(auto)]
+
 ghost use Rattle.std.specs.Prelude.{cond, ◌≡◌};
 ghost use Rattle.capture_record.specs.Headers.{no_setup, usb_header};
 ghost use Rattle.capture_record.specs.Events.{completion, control, without_setup, rotated_right, transfer_type, submission_flag, completion_flag, in_status, error_status, setup_of, endpoint_zero, header_of};

@@ -11,9 +11,9 @@ use Rattle.trb.specs.declared.InTrbProcessingStatus.TheVariants as device
 use Rattle.trb.specs.declared.TransferTrb.{TransferTrb}
 use Rattle.trb.specs.declared.TrbProcessingResult.{TrbProcessingResult}
 use Rattle.trb.specs.declared.TrbProcessingResult.TheVariants as result
-use Rattle.log.specs.Logs.{encode_all}
-use Rattle.log.specs.Records.{guest_write, transfer_event, in_request, control_request}
-use Rattle.log.specs.declared.Record.{Record}
+use Rattle.call_log.specs.Logs.{encode_all}
+use Rattle.call_log.specs.Records.{guest_write, transfer_event, in_request, control_request}
+use Rattle.call_log.specs.declared.Record.{Record}
 use Rattle.log_check.specs.WellFormed.{kind_known, well_formed}
 use Rattle.numerals.specs.Digits.{digit_char, digits, trimmed, decimal_of, hex_of, byte_hex, bytes_hex}
 use Rattle.log_text.specs.Lines.{kind_fields, id_fields, number_fields, fields_of, line_of, lines_in}

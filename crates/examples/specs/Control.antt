@@ -8,7 +8,7 @@ use Rattle.trb.specs.declared.ControlRequestProcessingResult.TheVariants.{NoneGi
 use Rattle.trb.specs.declared.TransferTrb.{TransferTrb}
 use Rattle.trb.specs.declared.TransferTrbVariant.TheVariants.{SetupStage, DataStage, StatusStage}
 use Rattle.trb.specs.declared.TrbProcessingResult.TheVariants.{Ok}
-use Rattle.log.specs.Calls.{Out}
+use Rattle.call_log.specs.Calls.{Out}
 use Rattle.guest_memory.specs.Places.{Memory, memory_of, regions_of}
 use Rattle.control_block.specs.declared.ControlBlock.{ControlBlock}
 use Rattle.control_block.specs.declared.GuestRelease.{GuestRelease}

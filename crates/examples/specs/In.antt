@@ -8,8 +8,8 @@ use Rattle.trb.specs.declared.InTrbProcessingResult.TheVariants.{NoneGiven}
 use Rattle.trb.specs.declared.TransferTrb.{TransferTrb}
 use Rattle.trb.specs.declared.TransferTrbVariant.TheVariants.{Normal, EventData, NoOp}
 use Rattle.trb.specs.declared.TrbProcessingResult.TheVariants.{Ok}
-use Rattle.log.specs.Calls.{Out}
-use Rattle.log.specs.declared.Record.{Record}
+use Rattle.call_log.specs.Calls.{Out}
+use Rattle.call_log.specs.declared.Record.{Record}
 use Rattle.guest_memory.specs.declared.Regions.{Regions}
 use Rattle.guest_memory.specs.Regions.{guest_regions}
 use Rattle.in_td.specs.declared.InMode.TheVariants.{AsPorted, Strict}

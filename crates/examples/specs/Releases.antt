@@ -14,8 +14,8 @@ use Rattle.trb.specs.declared.TransferTrb.{TransferTrb}
 use Rattle.trb.specs.declared.TransferTrbVariant.TheVariants.{StatusStage, Unrecognized}
 use Rattle.trb.specs.declared.TrbProcessingResult.{TrbProcessingResult}
 use Rattle.trb.specs.declared.TrbProcessingResult.TheVariants as result
-use Rattle.log.specs.Records.{transfer_event, control_request}
-use Rattle.log.specs.declared.Record.{Record}
+use Rattle.call_log.specs.Records.{transfer_event, control_request}
+use Rattle.call_log.specs.declared.Record.{Record}
 use Rattle.held.specs.Places.{cleared}
 use Rattle.held.specs.Sound.{sound_trb}
 use Rattle.walks.specs.All.{all}

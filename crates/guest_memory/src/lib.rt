@@ -1,5 +1,7 @@
 // Guest memory, lent as two regions of bytes, each at a base address: where a range of guest addresses lies in them, the bytes of
 // the range, and bytes moved into a region.
+#![tactic(auto)]
+
 ghost use Rattle.std.specs.Prelude.{◌≡◌, ◌+◌, ◌≤◌, length, take, drop};
 ghost use Rattle.buffers.specs.Patch.{patch};
 ghost use Rattle.guest_memory.specs.Regions.{guest_regions, holds, shares_at, share_an_address};
@@ -8,14 +10,14 @@ ghost use Rattle.guest_memory.specs.Places.{in_region, place_of, is_inside, rang
 // ---- Regions
 
 // A region by its numbers: `len` bytes from the address `start_addr` on.
-#[derive(Drop)]
+#[derive(Clone, Copy)]
 pub struct Region {
     pub start_addr: u64,
     pub len: usize,
 }
 
 // Guest memory by its numbers: two regions, either of which may have the lower addresses.
-#[derive(Drop)]
+#[derive(Clone, Copy)]
 pub struct Regions {
     pub low: Region,
     pub high: Region,
@@ -76,7 +78,7 @@ pub fn share_an_address(regions: Regions) -> bool
 // ---- Places
 
 // Where a range lies: outside, or in one of the regions from this index of its bytes on.
-#[derive(Drop)]
+#[derive(Clone, Copy)]
 pub enum Place {
     Outside,
     InLow(usize),

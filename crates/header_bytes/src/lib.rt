@@ -1,4 +1,6 @@
 // The 48 bytes of a usbmon header.
+#![tactic(auto)]
+
 ghost use Rattle.std.specs.Prelude.{◌≡◌};
 ghost use Rattle.capture_record.specs.Headers.{header_bytes};
 

@@ -1,4 +1,6 @@
 // The places of a block for the TRBs that it holds: blank ones, clearing, and whether what is held is sound.
+#![tactic(auto)]
+
 ghost use Rattle.std.specs.Prelude.{◌≡◌, ◌&&◌, ◌≤◌, min};
 ghost use Rattle.trb.specs.Limits.{max_held};
 ghost use Rattle.held.specs.Places.{blank_trb, cleared};
@@ -7,7 +9,7 @@ ghost use Rattle.held.specs.Sound.{supported, sound_trb};
 use trb::{NoOpTrb, TransferTrb, TransferTrbVariant};
 
 // Whose TRBs are held.
-#[derive(Drop)]
+#[derive(Clone, Copy)]
 pub enum EndpointKind {
     In,
     Control,

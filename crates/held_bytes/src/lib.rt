@@ -1,4 +1,6 @@
 // A TRB by numbers, and the place of a TRB in an endpoint block that lies in a lent row of bytes: what both endpoints in place share.
+#![tactic(auto)]
+
 ghost use Rattle.std.specs.Prelude.{◌≡◌, ◌+◌, ◌*◌, ◌<◌, ◌≤◌, length, drop, replicate};
 ghost use Rattle.buffers.specs.Patch.{patch};
 ghost use Rattle.trb.specs.declared.TransferTrbVariant.TheVariants.{SetupStage};
@@ -21,7 +23,7 @@ pub const CONTROL_LAYOUT: u8 = 2;
 
 // A TRB by numbers: xHCI's type, the flags (by weight: 1 cycle bit, 2 chain, 4 interrupt on completion, 8 interrupt on short, 16
 // immediate data, 32 direction), the address, the data pointer, event data or setup bytes, and the transfer length.
-#[derive(Drop)]
+#[derive(Clone, Copy)]
 pub struct TrbNumbers {
     pub kind: u8,
     pub flags: u8,

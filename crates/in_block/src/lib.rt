@@ -1,5 +1,7 @@
 // The block of an IN endpoint: made, stored into, emptied, and the facts of it that the questions ask about; what becomes of a TRB
 // that is submitted, and what a completion does.
+#![tactic(auto)]
+
 ghost use Rattle.std.specs.Prelude.{◌≡◌, ◌&&◌, ◌+◌, ◌<◌, min};
 ghost use Rattle.trb.specs.Limits.{max_held};
 ghost use Rattle.in_td.specs.Td.{is_normal, normal_count};
@@ -14,7 +16,7 @@ use trb::{
     TransferTrb, TransferTrbVariant,
 };
 
-#[derive(Drop)]
+#[derive(Clone, Copy)]
 pub struct InBlock {
     pub endpoint_id: EndpointId,
     pub slot_id: SlotId,
@@ -132,7 +134,7 @@ pub fn is_normal(variant: TransferTrbVariant) -> bool
 }
 
 // What question 2 asks of each TRB held: is every one sound, and how many are Normals? No more are counted than a block has places.
-#[derive(Drop)]
+#[derive(Clone, Copy)]
 pub struct HeldTest {
     pub sound: bool,
     pub normals: usize,
@@ -181,7 +183,7 @@ pub fn test_trb(so_far: HeldTest, t: TransferTrb) -> HeldTest
 }
 
 // What the questions ask about: the block's own values, and what one loop over the TRBs held found.
-#[derive(Drop)]
+#[derive(Clone, Copy)]
 pub struct BlockFacts {
     pub endpoint_id: EndpointId,
     pub slot_id: SlotId,
@@ -218,7 +220,7 @@ pub fn is_sound(facts: BlockFacts) -> bool
 
 // ---- What becomes of a TRB that is taken
 
-#[derive(Drop)]
+#[derive(Clone, Copy)]
 pub enum Outcome {
     // The TRBs held are dropped.
     Drop,
@@ -262,7 +264,7 @@ pub fn state_after(outcome: Outcome, addr: u64) -> TdBasedNormalSubmissionState
 
 // ---- What a completion does
 
-#[derive(Drop)]
+#[derive(Clone, Copy)]
 pub enum Ending {
     // The TRBs held are kept: their TD goes on.
     KeepCollecting,

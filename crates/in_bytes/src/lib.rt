@@ -1,5 +1,7 @@
 // The block of an IN endpoint as a lent row of bytes: read, tested, summed, stored and made blank. specs/Layout.antt says which block the
 // bytes are.
+#![tactic(auto)]
+
 ghost use Rattle.std.specs.Prelude.{◌≡◌, true, cond, [], ◌∷◌, ◌+◌, ◌*◌, ◌<◌, ◌≤◌, ◌%◌, ◌/◌, eqb, length, drop, take, set, replicate};
 ghost use Rattle.trb.specs.Limits.{max_held, max_transfer_length};
 ghost use Rattle.buffers.specs.Patch.{patch};

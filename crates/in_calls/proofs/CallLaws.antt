@@ -14,8 +14,8 @@ use Rattle.trb.specs.declared.InTrbProcessingResult.{InTrbProcessingResult}
 use Rattle.trb.specs.declared.InTrbProcessingResult.TheVariants.{NoneGiven, Given}
 use Rattle.trb.specs.declared.InTrbProcessingStatus.{InTrbProcessingStatus}
 use Rattle.trb.specs.declared.TransferTrb.{TransferTrb}
-use Rattle.log.specs.Calls.{Out, Meets}
-use Rattle.log.specs.Logs.{logged}
+use Rattle.call_log.specs.Calls.{Out, Meets}
+use Rattle.call_log.specs.Logs.{logged}
 use Rattle.numerals.specs.Written.{Written}
 use Rattle.numerals.proofs.WrittenLaws.{written-append, written-within}
 use Rattle.buffers.proofs.PatchLaws.{patch-none}

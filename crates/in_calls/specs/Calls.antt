@@ -8,7 +8,7 @@ use Rattle.trb.specs.declared.InTrbProcessingResult.TheVariants.{NoneGiven, Give
 use Rattle.trb.specs.declared.InTrbProcessingStatus.TheVariants as status
 use Rattle.trb.specs.declared.SlotId.{SlotId}
 use Rattle.trb.specs.declared.TransferTrb.{TransferTrb}
-use Rattle.log.specs.Logs.{logged}
+use Rattle.call_log.specs.Logs.{logged}
 use Rattle.guest_memory.specs.Places.{Memory, regions_of}
 use Rattle.numerals.specs.Written.{Written}
 use Rattle.call_text.specs.Lines.{count_of}

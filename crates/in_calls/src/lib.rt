@@ -1,4 +1,6 @@
 // The calls of a script on an IN endpoint.
+#![tactic(auto)]
+
 ghost use Rattle.std.specs.Prelude.{◌≡◌, ◌+◌, ◌≤◌, length};
 ghost use Rattle.trb.specs.Limits.{min_row_log};
 ghost use Rattle.state_text.specs.Widths.{max_state, max_answer};
@@ -17,7 +19,7 @@ use trb::{
 };
 
 // What a call leaves: the block, the index behind the answer, how many records it logged, and whether the line was good.
-#[derive(Drop)]
+#[derive(Clone, Copy)]
 pub struct InRan {
     pub block: InBlock,
     pub end: usize,

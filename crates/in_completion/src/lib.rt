@@ -1,4 +1,6 @@
 // What was submitted to the IN endpoint, completed; ports `next_completion` of `TdBasedInEndpointHandle`.
+#![tactic(auto)]
+
 ghost use Rattle.std.specs.Prelude.{length};
 ghost use Rattle.in_endpoint.specs.Completion.{Completes};
 

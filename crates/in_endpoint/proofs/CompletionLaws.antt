@@ -22,9 +22,9 @@ use Rattle.trb.specs.declared.TdBasedNormalSubmissionState.TheVariants.{Submissi
 use Rattle.trb.specs.declared.TransferTrb.{TransferTrb}
 use Rattle.trb.specs.declared.TrbProcessingResult.{TrbProcessingResult}
 use Rattle.trb.proofs.AnswerLaws.{accepted-is, refused-is}
-use Rattle.log.specs.Calls.{Out, Meets}
-use Rattle.log.specs.Logs.{records_in}
-use Rattle.log.proofs.LogLaws.{records_in-logged}
+use Rattle.call_log.specs.Calls.{Out, Meets}
+use Rattle.call_log.specs.Logs.{records_in}
+use Rattle.call_log.proofs.LogLaws.{records_in-logged}
 use Rattle.walks.proofs.WalkLaws.{walk-counts}
 use Rattle.in_td.specs.Td.{normals, process_td, unprocessed}
 use Rattle.in_td.specs.declared.InTd.{InTd}

@@ -8,7 +8,7 @@ use Rattle.trb.specs.declared.EndpointId.{EndpointId}
 use Rattle.trb.specs.declared.InTrbProcessingResult.{InTrbProcessingResult}
 use Rattle.trb.specs.declared.SlotId.{SlotId}
 use Rattle.trb.specs.declared.TransferTrb.{TransferTrb}
-use Rattle.log.specs.Calls.{Out}
+use Rattle.call_log.specs.Calls.{Out}
 use Rattle.in_td.specs.declared.InMode.{InMode}
 use Rattle.guest_memory.specs.declared.Regions.{Regions}
 use Rattle.in_block.specs.Blocks.{held_of}

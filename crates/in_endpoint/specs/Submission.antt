@@ -6,9 +6,9 @@ use Rattle.trb.specs.declared.Answer.TheVariants.{Accepted, Refused}
 use Rattle.trb.specs.declared.EndpointId.{EndpointId}
 use Rattle.trb.specs.declared.SlotId.{SlotId}
 use Rattle.trb.specs.declared.TransferTrb.{TransferTrb}
-use Rattle.log.specs.Calls.{Out, silent, Meets}
-use Rattle.log.specs.Records.{in_request}
-use Rattle.log.specs.declared.Record.{Record}
+use Rattle.call_log.specs.Calls.{Out, silent, Meets}
+use Rattle.call_log.specs.Records.{in_request}
+use Rattle.call_log.specs.declared.Record.{Record}
 use Rattle.guest_memory.specs.declared.Regions.{Regions}
 use Rattle.in_td.specs.Normals.{requested}
 use Rattle.in_block.specs.Blocks.{held_of, with_state, stored, emptied}

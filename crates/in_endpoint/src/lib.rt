@@ -1,7 +1,9 @@
 // The IN endpoint: what its calls are, by definition; creation, cancel, and what a completion answers and reports; ports `TdBasedInEndpointHandle`.
+#![tactic(auto)]
+
 ghost use Rattle.std.specs.Prelude.{◌≡◌, [], ◌∷◌, ◌≤◌, length};
 ghost use Rattle.trb.specs.Limits.{min_log};
-ghost use Rattle.log.specs.Calls.{Put};
+ghost use Rattle.call_log.specs.Calls.{Put};
 ghost use Rattle.in_endpoint.specs.Creation.{Creates, cancelled};
 ghost use Rattle.in_endpoint.specs.Completion.{unsupported_event, completion_answer};
 
@@ -12,20 +14,20 @@ use trb::{
     TdBasedNormalSubmissionState, TrbProcessingResult,
 };
 
-#[derive(Drop)]
+#[derive(Clone, Copy)]
 pub struct Created {
     pub answer: Answer,
     pub block: InBlock,
 }
 
-#[derive(Drop)]
+#[derive(Clone, Copy)]
 pub struct Submitted {
     pub answer: Answer,
     pub records: usize,
     pub block: InBlock,
 }
 
-#[derive(Drop)]
+#[derive(Clone, Copy)]
 pub struct Completed {
     pub answer: CompletionAnswer,
     pub records: usize,
@@ -60,7 +62,7 @@ pub fn report_unsupported(log: &mut [u8], addr: u64, endpoint_id: EndpointId, sl
     requires { min_log ≤ length log.old }
     ensures { Put log.old 0 (unsupported_event addr endpoint_id slot_id ∷ []) log.new }
 {
-    let event = log::transfer_event(
+    let event = call_log::transfer_event(
         addr,
         0,
         CompletionCode::TrbError,
@@ -68,7 +70,7 @@ pub fn report_unsupported(log: &mut [u8], addr: u64, endpoint_id: EndpointId, sl
         endpoint_id,
         slot_id,
     );
-    log::put_record(log, 0, event);
+    call_log::put_record(log, 0, event);
 }
 
 // What a completion answers to the questions, where its result is this.

@@ -1,7 +1,9 @@
 // A Normal's turn in the walk over an IN TD.
+#![tactic(auto)]
+
 ghost use Rattle.std.specs.Prelude.{true, ◌+◌, ◌*◌, ◌≤◌, length};
 ghost use Rattle.trb.specs.Limits.{record_length};
-ghost use Rattle.log.specs.Calls.{Meets};
+ghost use Rattle.call_log.specs.Calls.{Meets};
 ghost use Rattle.td_part.specs.Parts.{Within, of_normal, put_dma};
 ghost use Rattle.in_td.specs.Td.{ends_with, ending_normal, handle_normal};
 

@@ -1,5 +1,7 @@
 // A submission on an IN endpoint, of a TRB that is given by numbers: the questions of in_questions and the outcome of in_block, without a
 // decoded TRB between.
+#![tactic(auto)]
+
 ghost use Rattle.std.specs.Prelude.{◌≡◌, cond, eqb, ◌≤◌};
 ghost use Rattle.trb.specs.Answers.{number_of};
 ghost use Rattle.trb.specs.Limits.{max_held};

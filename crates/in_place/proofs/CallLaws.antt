@@ -25,9 +25,9 @@ use Rattle.trb.specs.declared.TrbProcessingResult.TheVariants as result
 use Rattle.trb.specs.declared.TdBasedNormalSubmissionState.{TdBasedNormalSubmissionState}
 use Rattle.trb.specs.declared.TdBasedNormalSubmissionState.TheVariants.{SubmissionDue, CollectingTd}
 use Rattle.buffers.specs.LittleEndian.{le_field}
-use Rattle.log.specs.Calls.{Out, Meets}
-use Rattle.log.specs.Logs.{records_in}
-use Rattle.log.proofs.LogLaws.{logged_none}
+use Rattle.call_log.specs.Calls.{Out, Meets}
+use Rattle.call_log.specs.Logs.{records_in}
+use Rattle.call_log.proofs.LogLaws.{logged_none}
 use Rattle.in_td.specs.Td.{in_td, process_td}
 use Rattle.in_td.specs.declared.InTd.{InTd}
 use Rattle.in_td.specs.declared.TdProcessed.{TdProcessed}

@@ -7,9 +7,9 @@ use Rattle.trb.specs.declared.InTrbProcessingResult.TheVariants.{NoneGiven, Give
 use Rattle.trb.specs.declared.InTrbProcessingStatus.TheVariants.{Disconnect, Stall, TransactionError, Success}
 use Rattle.trb.specs.declared.SlotId.{SlotId}
 use Rattle.trb.specs.declared.TdBasedNormalSubmissionState.TheVariants.{CollectingTd}
-use Rattle.log.specs.Calls.{Out, Meets}
-use Rattle.log.specs.Logs.{records_in}
-use Rattle.log.specs.declared.Record.{Record}
+use Rattle.call_log.specs.Calls.{Out, Meets}
+use Rattle.call_log.specs.Logs.{records_in}
+use Rattle.call_log.specs.declared.Record.{Record}
 use Rattle.account.specs.Guest.{Distinct, IspOnNormals, LastNormalWithIoc, Account}
 use Rattle.in_td.specs.declared.InMode.{InMode}
 use Rattle.in_block.specs.Blocks.{held_of}

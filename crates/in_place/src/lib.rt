@@ -1,5 +1,7 @@
 // The IN endpoint in place: its block is a lent row of bytes, of which a call reads and stores what it needs; ports
 // `TdBasedInEndpointHandle`. A HAL in C or Rust calls these, through the exported functions of `polvihe`: numbers and lent bytes alone.
+#![tactic(auto)]
+
 ghost use Rattle.std.specs.Prelude.{◌≡◌, true, ◌≤◌, length};
 ghost use Rattle.in_bytes.specs.Layout.{block_length, mode_of};
 ghost use Rattle.in_place_questions.specs.Lent.{lent_log};

@@ -13,8 +13,8 @@ use Rattle.trb.specs.declared.CompletionAnswer.TheVariants.{Refused}
 use Rattle.trb.specs.declared.InTrbProcessingResult.{InTrbProcessingResult}
 use Rattle.trb.specs.declared.Refusal.TheVariants.{BufferTooShort}
 use Rattle.trb.specs.declared.TrbProcessingResult.{TrbProcessingResult}
-use Rattle.log.specs.Logs.{records_in}
-use Rattle.log.proofs.LogLaws.{logged_none}
+use Rattle.call_log.specs.Logs.{records_in}
+use Rattle.call_log.proofs.LogLaws.{logged_none}
 use Rattle.guest_memory.specs.Places.{Memory, regions_of}
 use Rattle.carry_out.specs.CarryOut.{Carried}
 use Rattle.account.specs.Guest.{Account}

@@ -3,8 +3,8 @@ use Rattle.std.specs.Prelude.{ℕ, ◌*◌, ◌<◌, ◌≡◌, true, List, leng
 use Rattle.trb.specs.Limits.{record_length}
 use Rattle.trb.specs.Questions.{first_no}
 use Rattle.trb.specs.declared.InTrbProcessingResult.{InTrbProcessingResult}
-use Rattle.log.specs.Calls.{Meets}
-use Rattle.log.specs.Logs.{records_in}
+use Rattle.call_log.specs.Calls.{Meets}
+use Rattle.call_log.specs.Logs.{records_in}
 use Rattle.guest_memory.specs.Places.{Memory, regions_of}
 use Rattle.carry_out.specs.Writes.{written}
 use Rattle.account.specs.Guest.{Distinct, IspOnNormals, LastNormalWithIoc}

@@ -1,4 +1,6 @@
 // No torn frame, in place: completion and carry-out in one call over an IN block that lies in a lent row of bytes.
+#![tactic(auto)]
+
 ghost use Rattle.std.specs.Prelude.{◌≡◌, ◌≤◌, length, take};
 ghost use Rattle.trb.specs.Answers.{number_of};
 ghost use Rattle.trb.specs.Limits.{max_held};

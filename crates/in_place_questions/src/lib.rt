@@ -1,4 +1,6 @@
 // What a call in place asks of the block that its bytes are: its state, the facts about it, and the questions of submission and completion.
+#![tactic(auto)]
+
 ghost use Rattle.std.specs.Prelude.{◌≡◌, true, ◌<◌, ◌≤◌, length};
 ghost use Rattle.trb.specs.Answers.{number_of};
 ghost use Rattle.trb.specs.Questions.{first_no};

@@ -20,9 +20,9 @@ use Rattle.trb.specs.declared.SlotId.{SlotId}
 use Rattle.trb.specs.declared.TransferTrb.{TransferTrb}
 use Rattle.trb.specs.declared.TrbProcessingResult.TheVariants as result
 use Rattle.trb.proofs.TestLaws.{le-or-lt}
-use Rattle.log.specs.Calls.{Meets}
-use Rattle.log.specs.Logs.{records_in}
-use Rattle.log.proofs.LogLaws.{logged_none}
+use Rattle.call_log.specs.Calls.{Meets}
+use Rattle.call_log.specs.Logs.{records_in}
+use Rattle.call_log.proofs.LogLaws.{logged_none}
 use Rattle.guest_memory.specs.declared.Regions.{Regions}
 use Rattle.in_td.specs.declared.InMode.{InMode}
 use Rattle.in_block.specs.Facts.{facts_of}

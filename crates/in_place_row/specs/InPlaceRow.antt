@@ -7,8 +7,8 @@ use Rattle.trb.specs.declared.Answer.TheVariants.{Accepted}
 use Rattle.trb.specs.declared.CompletionAnswer.{CompletionAnswer}
 use Rattle.trb.specs.declared.TransferTrb.{TransferTrb}
 use Rattle.buffers.specs.LittleEndian.{le_field}
-use Rattle.log.specs.Calls.{Out, Meets}
-use Rattle.log.specs.Logs.{records_in}
+use Rattle.call_log.specs.Calls.{Out, Meets}
+use Rattle.call_log.specs.Logs.{records_in}
 use Rattle.guest_memory.specs.Places.{range_inside}
 use Rattle.guest_memory.specs.declared.Regions.{Regions}
 use Rattle.in_td.specs.Normals.{requested}

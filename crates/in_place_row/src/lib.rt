@@ -1,10 +1,12 @@
 // A row of whole TDs on an IN endpoint in place: block, row and results are lent bytes, each TRB is read where it lies, and each record is
 // written where it stays.
+#![tactic(auto)]
+
 ghost use Rattle.std.specs.Prelude.{◌≡◌, true, ◌+◌, ◌*◌, ◌/◌, ◌<◌, ◌≤◌, ◌^◌, length, take, drop, get_or};
 ghost use Rattle.trb.specs.Answers.{number_of};
 ghost use Rattle.trb.specs.Limits.{max_held, max_row};
 ghost use Rattle.trb.specs.Questions.{first_no};
-ghost use Rattle.log.specs.Calls.{Meets};
+ghost use Rattle.call_log.specs.Calls.{Meets};
 ghost use Rattle.guest_memory.specs.Regions.{guest_regions};
 ghost use Rattle.in_td.specs.Normals.{requested};
 ghost use Rattle.in_block.specs.Facts.{facts_of};
@@ -29,7 +31,7 @@ use trb::{Answer, CompletionAnswer, EndpointId, Refusal, SlotId, TrbProcessingRe
 // What a row answers: the number of the question that said no, or 0; the failing result, else Ok (0 Ok, 1 Stall, 2 transaction error, 3
 // disconnect), with its completion code; whether it carries an address and a cycle bit, and these; TDs finished well; records logged.
 #[repr(C)]
-#[derive(Drop)]
+#[derive(Clone, Copy)]
 pub struct RowAnswered {
     pub number: u32,
     pub result: u8,
@@ -44,7 +46,7 @@ pub struct RowAnswered {
 // ---- The walk
 
 // A TD of the row: what it asks of the device, and the index behind its last TRB.
-#[derive(Drop)]
+#[derive(Clone, Copy)]
 struct TdLooked {
     asked: TdAsk,
     end: usize,

@@ -14,7 +14,7 @@ use Rattle.trb.specs.declared.TransferTrb.{TransferTrb}
 use Rattle.trb.specs.declared.TransferTrbVariant.{TransferTrbVariant}
 use Rattle.trb.specs.declared.TransferTrbVariant.TheVariants.{Normal}
 use Rattle.buffers.specs.LittleEndian.{le_field}
-use Rattle.log.proofs.LogLaws.{logged_none}
+use Rattle.call_log.proofs.LogLaws.{logged_none}
 use Rattle.held.specs.Sound.{supported}
 use Rattle.held.specs.declared.EndpointKind.TheVariants.{In}
 use Rattle.guest_memory.specs.Regions.{share_an_address}

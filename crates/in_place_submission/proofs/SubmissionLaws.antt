@@ -13,10 +13,10 @@ use Rattle.trb.specs.declared.Answer.TheVariants.{Accepted, Refused}
 use Rattle.trb.specs.declared.Refusal.TheVariants.{BufferTooShort}
 use Rattle.trb.specs.declared.TransferTrb.{TransferTrb}
 use Rattle.trb.specs.declared.TdBasedNormalSubmissionState.TheVariants.{AwaitingRealTransfer}
-use Rattle.log.specs.Calls.{Out, Put, Meets}
-use Rattle.log.specs.declared.Record.{Record}
-use Rattle.log.specs.Logs.{logged, AllFit}
-use Rattle.log.proofs.LogLaws.{logged_none}
+use Rattle.call_log.specs.Calls.{Out, Put, Meets}
+use Rattle.call_log.specs.declared.Record.{Record}
+use Rattle.call_log.specs.Logs.{logged, AllFit}
+use Rattle.call_log.proofs.LogLaws.{logged_none}
 use Rattle.guest_memory.specs.declared.Regions.{Regions}
 use Rattle.in_block.specs.Blocks.{held_of, with_state, stored}
 use Rattle.in_block.specs.declared.InBlock.{InBlock}

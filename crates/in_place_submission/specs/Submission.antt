@@ -2,7 +2,7 @@
 use Rattle.std.specs.Prelude.{ℕ, ◌<◌, ◌≡◌, List}
 use Rattle.trb.specs.Questions.{first_no}
 use Rattle.trb.specs.declared.TransferTrb.{TransferTrb}
-use Rattle.log.specs.Calls.{Out, Meets}
+use Rattle.call_log.specs.Calls.{Out, Meets}
 use Rattle.guest_memory.specs.declared.Regions.{Regions}
 use Rattle.in_block.specs.Blocks.{held_of}
 use Rattle.in_block.specs.Facts.{held_test, facts_of}

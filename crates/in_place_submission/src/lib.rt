@@ -1,7 +1,9 @@
 // A TRB submitted to the IN endpoint in place: what becomes of it, and what the block holds then.
+#![tactic(auto)]
+
 ghost use Rattle.std.specs.Prelude.{◌≡◌, true, not, [], ◌∷◌, ◌≤◌, ◌<◌, length, take};
 ghost use Rattle.trb.specs.Limits.{max_held, min_log};
-ghost use Rattle.log.specs.Calls.{Put};
+ghost use Rattle.call_log.specs.Calls.{Put};
 ghost use Rattle.guest_memory.specs.Regions.{guest_regions, share_an_address};
 ghost use Rattle.in_block.specs.Facts.{held_test};
 ghost use Rattle.in_block.specs.Outcomes.{outcome_of};
@@ -40,8 +42,8 @@ fn log_request(log: &mut [u8], block: &[u8], held: usize)
     let length = in_bytes::requested_length(block, held);
     let endpoint_id = in_bytes::endpoint_id(block);
     let slot_id = in_bytes::slot_id(block);
-    let request = log::in_request(first.addr, length, endpoint_id, slot_id);
-    log::put_record(log, 0, request);
+    let request = call_log::in_request(first.addr, length, endpoint_id, slot_id);
+    call_log::put_record(log, 0, request);
 }
 
 // Of a row of bytes that is long enough for a block.

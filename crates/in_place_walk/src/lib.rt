@@ -1,7 +1,9 @@
 // The TD that an IN block in place holds: with what it is walked, and the walk.
+#![tactic(auto)]
+
 ghost use Rattle.std.specs.Prelude.{◌≡◌, ◌≤◌, length, take};
 ghost use Rattle.trb.specs.Limits.{max_held, min_log};
-ghost use Rattle.log.specs.Calls.{Meets};
+ghost use Rattle.call_log.specs.Calls.{Meets};
 ghost use Rattle.in_td.specs.Td.{in_td, process_td};
 ghost use Rattle.in_bytes.specs.Layout.{block_length, endpoint_of, slot_of, places, block_of};
 

@@ -1,4 +1,6 @@
 // The questions asked on an IN endpoint, in the order of document 01, over facts of the block and plain values.
+#![tactic(auto)]
+
 ghost use Rattle.std.specs.Prelude.{◌≡◌, ◌≤◌};
 ghost use Rattle.trb.specs.Answers.{number_of};
 ghost use Rattle.trb.specs.Limits.{max_held};

@@ -1,4 +1,6 @@
 // What an IN submission asks of a TRB and of the TD that it ends: its guest range, and S, the bytes to request.
+#![tactic(auto)]
+
 ghost use Rattle.std.specs.Prelude.{◌≡◌, ◌<◌, ◌≤◌, ◌^◌, take};
 ghost use Rattle.trb.specs.Limits.{max_held};
 ghost use Rattle.in_td.specs.Normals.{normal_of, length_of, requested};

@@ -26,7 +26,7 @@ use Rattle.trb.specs.declared.TdBasedNormalSubmissionState.TheVariants.{Submissi
 use Rattle.trb.specs.declared.TransferTrb.{TransferTrb}
 use Rattle.trb.specs.declared.TrbProcessingResult.TheVariants as result
 use Rattle.trb.proofs.TestLaws.{and_left, and_right}
-use Rattle.log.specs.Calls.{Out, silent}
+use Rattle.call_log.specs.Calls.{Out, silent}
 use Rattle.held.specs.Places.{blank_trb, cleared}
 use Rattle.held.specs.Sound.{supported, sound_trb, held_sound}
 use Rattle.held.specs.declared.EndpointKind.TheVariants.{In}

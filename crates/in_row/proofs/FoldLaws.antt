@@ -20,7 +20,7 @@ use Rattle.trb.specs.declared.TdBasedNormalSubmissionState.{TdBasedNormalSubmiss
 use Rattle.trb.specs.declared.TdBasedNormalSubmissionState.TheVariants.{SubmissionDue}
 use Rattle.trb.specs.declared.TransferTrb.{TransferTrb}
 use Rattle.trb.proofs.TestLaws.{and_left, and_right}
-use Rattle.log.specs.Calls.{Out, silent}
+use Rattle.call_log.specs.Calls.{Out, silent}
 use Rattle.held.specs.Places.{blank_trb}
 use Rattle.guest_memory.specs.declared.Regions.{Regions}
 use Rattle.guest_memory.specs.Regions.{share_an_address}

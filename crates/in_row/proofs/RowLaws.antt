@@ -19,9 +19,9 @@ use Rattle.trb.specs.declared.TransferTrb.{TransferTrb}
 use Rattle.trb.specs.declared.TrbProcessingResult.TheVariants.{Ok}
 use Rattle.trb.proofs.AnswerLaws.{answered-yes, answered-no, answered-all}
 use Rattle.trb.proofs.TestLaws.{and_left, and_right}
-use Rattle.log.specs.Calls.{Out, Meets}
-use Rattle.log.proofs.CallLaws.{meets}
-use Rattle.log.proofs.LogLaws.{logged_none}
+use Rattle.call_log.specs.Calls.{Out, Meets}
+use Rattle.call_log.proofs.CallLaws.{meets}
+use Rattle.call_log.proofs.LogLaws.{logged_none}
 use Rattle.guest_memory.specs.declared.Regions.{Regions}
 use Rattle.held.specs.Places.{cleared}
 use Rattle.in_block.specs.Blocks.{in_block, emptied}

@@ -8,9 +8,9 @@ use Rattle.trb.specs.declared.TdBasedNormalSubmissionState.TheVariants.{Submissi
 use Rattle.trb.specs.declared.TransferTrb.{TransferTrb}
 use Rattle.trb.specs.declared.TrbProcessingResult.{TrbProcessingResult}
 use Rattle.trb.specs.declared.TrbProcessingResult.TheVariants as result
-use Rattle.log.specs.Calls.{Out, silent, Meets}
-use Rattle.log.specs.Logs.{records_in}
-use Rattle.log.specs.declared.Record.{Record}
+use Rattle.call_log.specs.Calls.{Out, silent, Meets}
+use Rattle.call_log.specs.Logs.{records_in}
+use Rattle.call_log.specs.declared.Record.{Record}
 use Rattle.guest_memory.specs.declared.Regions.{Regions}
 use Rattle.in_block.specs.Blocks.{emptied}
 use Rattle.in_block.specs.Facts.{facts_of}

@@ -8,7 +8,7 @@ use Rattle.trb.specs.declared.InTrbProcessingResult.{InTrbProcessingResult}
 use Rattle.trb.specs.declared.InTrbProcessingResult.TheVariants.{NoneGiven, Given}
 use Rattle.trb.specs.declared.TransferTrb.{TransferTrb}
 use Rattle.trb.specs.declared.TrbProcessingResult.TheVariants.{Ok}
-use Rattle.log.specs.Calls.{Out, silent}
+use Rattle.call_log.specs.Calls.{Out, silent}
 use Rattle.held.specs.Places.{blank_trb}
 use Rattle.guest_memory.specs.declared.Regions.{Regions}
 use Rattle.walks.specs.Walk.{join, walk}

@@ -1,4 +1,6 @@
 // A row of whole TDs on one IN endpoint, completed in one call.
+#![tactic(auto)]
+
 ghost use Rattle.std.specs.Prelude.{length, take};
 ghost use Rattle.guest_memory.specs.Regions.{guest_regions};
 ghost use Rattle.in_row.specs.Completion.{CompletesTds};
@@ -8,7 +10,7 @@ use row_walk::TdResult;
 use trb::{CompletionAnswer, TransferTrb, TrbProcessingResult};
 
 // What a row comes to: the failing result, else Ok; TDs finished well; records.
-#[derive(Drop)]
+#[derive(Clone, Copy)]
 pub struct TdsCompleted {
     pub answer: CompletionAnswer,
     pub finished: usize,

@@ -1,7 +1,9 @@
 // A TRB submitted to the IN endpoint; ports `submit_trb` of `TdBasedInEndpointHandle`.
+#![tactic(auto)]
+
 ghost use Rattle.std.specs.Prelude.{[], ◌∷◌, ◌<◌, ◌≤◌, ◌^◌, length, take};
 ghost use Rattle.trb.specs.Limits.{max_held, min_log};
-ghost use Rattle.log.specs.Calls.{Put};
+ghost use Rattle.call_log.specs.Calls.{Put};
 ghost use Rattle.guest_memory.specs.Regions.{guest_regions};
 ghost use Rattle.in_td.specs.Normals.{requested};
 ghost use Rattle.in_endpoint.specs.Submission.{request_of, Submits};
@@ -23,8 +25,8 @@ fn log_request(
 {
     let first = trbs[0];
     let length = in_request::requested_length(trbs, held);
-    let request = log::in_request(first.addr, length, endpoint_id, slot_id);
-    log::put_record(log, 0, request);
+    let request = call_log::in_request(first.addr, length, endpoint_id, slot_id);
+    call_log::put_record(log, 0, request);
 }
 
 // Takes a TRB; ports `submit_trb`. Of guest memory only the regions' bases and lengths are read. The places are copied once and changed where

@@ -7,10 +7,10 @@ use native.Mathlib.Omega.{arith}
 use lib.ListN.{length, take, drop, get_or}
 use Rattle.trb.specs.Limits.{record_length}
 use Rattle.trb.specs.declared.TransferTrb.{TransferTrb}
-use Rattle.log.specs.Calls.{Out, silent, Meets}
-use Rattle.log.specs.Logs.{logged, AllFit}
-use Rattle.log.proofs.LogLaws.{logged_none}
-use Rattle.log.proofs.CallLaws.{meets}
+use Rattle.call_log.specs.Calls.{Out, silent, Meets}
+use Rattle.call_log.specs.Logs.{logged, AllFit}
+use Rattle.call_log.proofs.LogLaws.{logged_none}
+use Rattle.call_log.proofs.CallLaws.{meets}
 use Rattle.held.specs.Places.{past_end}
 use Rattle.walks.specs.Walk.{walk}
 use Rattle.walks.proofs.WalkLaws.{Walked, walk_of, walk-stopped, walked_none, walked-turn, walked_end}

@@ -1,4 +1,6 @@
 // An IN TD: what stays the same over it, how far it was processed, and where a transfer that failed ends it; ports `TdProcessingInfoIn`.
+#![tactic(auto)]
+
 ghost use Rattle.std.specs.Prelude.{◌≡◌, ◌-◌};
 ghost use Rattle.in_td.specs.Td.{going_on, fails_at_last, is_done, is_error, unprocessed, in_td};
 
@@ -6,14 +8,14 @@ use td_part::{TdInfo, TdProgress};
 use trb::{EndpointId, InTrbProcessingStatus, SlotId, TrbProcessingResult};
 
 // What a transfer that failed tells where the device brought every byte asked for: Success, as the Rust does, or its failure.
-#[derive(Drop)]
+#[derive(Clone, Copy)]
 pub enum InMode {
     AsPorted,
     Strict,
 }
 
 // What stays the same over an IN TD.
-#[derive(Drop)]
+#[derive(Clone, Copy)]
 pub struct InTd {
     pub info: TdInfo,
     pub status: InTrbProcessingStatus,
@@ -21,7 +23,7 @@ pub struct InTd {
 }
 
 // How far a TD was processed, how many Normals are left of it, and with which result: an error ends it.
-#[derive(Drop)]
+#[derive(Clone, Copy)]
 pub struct TdProcessed {
     pub progress: TdProgress,
     pub normals_left: usize,

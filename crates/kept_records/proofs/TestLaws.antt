@@ -5,7 +5,7 @@ use mathlib.Core.Path.{◌≡◌}
 use lib.Dec.{eqb, ltb}
 use borrow.Author.Tests.{ltb-true, eq-eqb, ne_eqb}
 use Rattle.trb.proofs.TestLaws.{and_right}
-use Rattle.log.specs.declared.Record.{Record}
+use Rattle.call_log.specs.declared.Record.{Record}
 use Rattle.kept_records.specs.Compact.{length_end, same_endpoint_writes, goes_on, joins}
 
 -- the two ways out of the first test

@@ -1,7 +1,7 @@
 -- 02, R-9: first drop writes of 0 bytes, then join neighbouring writes, from the front. Assumes nothing.
 use Rattle.std.specs.Prelude.{ℕ, ◌+◌, ◌^◌, Bool, ◌&&◌, cond, List, [], ◌∷◌, eqb, ltb}
-use Rattle.log.specs.declared.Record.{Record}
-use Rattle.log.specs.Records.{decode, write_kind}
+use Rattle.call_log.specs.declared.Record.{Record}
+use Rattle.call_log.specs.Records.{decode, write_kind}
 use Rattle.kept_records.specs.Rows.{with_length}
 
 -- 02, R-9: a write of 0 bytes

@@ -4,8 +4,8 @@ use Rattle.trb.specs.declared.CompletionCode.TheVariants.{Success}
 use Rattle.trb.specs.declared.EndpointId.{EndpointId}
 use Rattle.trb.specs.declared.SlotId.{SlotId}
 use Rattle.buffers.specs.Patch.{patch}
-use Rattle.log.specs.declared.Record.{Record}
-use Rattle.log.specs.Records.{encode, guest_write, transfer_event, in_request}
+use Rattle.call_log.specs.declared.Record.{Record}
+use Rattle.call_log.specs.Records.{encode, guest_write, transfer_event, in_request}
 use Rattle.kept_records.specs.Rows.{with_length}
 use Rattle.kept_records.specs.Compact.{empty_write, same_endpoint_writes, goes_on, joins, joined, compacted}
 

@@ -1,9 +1,11 @@
 // Which records of a log compacting keeps: writes of 0 bytes are dropped, and a write that goes on where the one before it ends is joined
 // to it.
+#![tactic(auto)]
+
 ghost use Rattle.std.specs.Prelude.{◌≡◌};
 ghost use Rattle.kept_records.specs.Compact.{empty_write, same_endpoint_writes, goes_on, joins};
 
-use log::Record;
+use call_log::Record;
 
 // The least number of bytes that no record's length can say.
 const LENGTH_END: u64 = 4294967296;
@@ -12,7 +14,7 @@ const LENGTH_END: u64 = 4294967296;
 pub fn is_empty_write(record: Record) -> bool
     ensures { result ≡ empty_write «record» }
 {
-    if record.kind == log::KIND_WRITE {
+    if record.kind == call_log::KIND_WRITE {
         record.length == 0
     } else {
         false
@@ -23,10 +25,10 @@ pub fn is_empty_write(record: Record) -> bool
 fn same_endpoint_writes(first: Record, second: Record) -> bool
     ensures { result ≡ same_endpoint_writes first second }
 {
-    if first.kind != log::KIND_WRITE {
+    if first.kind != call_log::KIND_WRITE {
         return false;
     }
-    if second.kind != log::KIND_WRITE {
+    if second.kind != call_log::KIND_WRITE {
         return false;
     }
     if first.endpoint_id.0 != second.endpoint_id.0 {

@@ -1,4 +1,6 @@
 // The calls of a script on an endpoint, with as much of each buffer as the script lends.
+#![tactic(auto)]
+
 ghost use Rattle.std.specs.Prelude.{◌≡◌, ◌+◌, ◌≤◌, length, take};
 ghost use Rattle.trb.specs.Limits.{min_row_log};
 ghost use Rattle.state_text.specs.Widths.{max_answer};
@@ -15,7 +17,7 @@ use row_walk::TdResult;
 use trb::TransferTrb;
 
 // How much is lent: bytes of the log and of the collect buffer, and the bases and lengths of the regions.
-#[derive(Drop)]
+#[derive(Clone, Copy)]
 pub struct Lent {
     pub log: usize,
     pub collect: usize,

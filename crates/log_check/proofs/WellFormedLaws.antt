@@ -7,9 +7,9 @@ use native.Mathlib.Nat.{add-zero}
 use lib.ListN.{drop, get_or}
 use lib.Seq.{get_or-drop}
 use Rattle.trb.specs.Limits.{record_length}
-use Rattle.log.specs.Records.{record_at}
-use Rattle.log.specs.Logs.{records_in}
-use Rattle.log.proofs.LogLaws.{records_in-next}
+use Rattle.call_log.specs.Records.{record_at}
+use Rattle.call_log.specs.Logs.{records_in}
+use Rattle.call_log.proofs.LogLaws.{records_in-next}
 use Rattle.log_check.specs.WellFormed.{kind_known, kinds_known}
 
 -- of n records, those from number i on are of known kinds where number i and those behind it are

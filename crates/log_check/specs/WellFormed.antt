@@ -1,9 +1,9 @@
 -- 01, Carry-out: is the log a multiple of 32 bytes with every kind 1, 2 or 3? Assumes nothing.
 use Rattle.std.specs.Prelude.{ℕ, ◌/◌, ◌%◌, Bool, true, ◌&&◌, ◌||◌, List, [], ◌∷◌, eqb, length}
 use Rattle.trb.specs.Limits.{record_length}
-use Rattle.log.specs.declared.Record.{Record}
-use Rattle.log.specs.Records.{write_kind, event_kind, request_kind}
-use Rattle.log.specs.Logs.{records_in}
+use Rattle.call_log.specs.declared.Record.{Record}
+use Rattle.call_log.specs.Records.{write_kind, event_kind, request_kind}
+use Rattle.call_log.specs.Logs.{records_in}
 
 -- a kind that is 1, 2 or 3
 unfoldable pub kind_known : ℕ → Bool

@@ -1,4 +1,6 @@
 // Question 10: is a log a multiple of 32 bytes with every kind 1, 2 or 3? Asked by carry-out and by the log printer.
+#![tactic(auto)]
+
 ghost use Rattle.std.specs.Prelude.{◌≡◌};
 ghost use Rattle.log_check.specs.WellFormed.{kind_known, well_formed};
 
@@ -6,13 +8,13 @@ ghost use Rattle.log_check.specs.WellFormed.{kind_known, well_formed};
 fn kind_known(kind: u8) -> bool
     ensures { result ≡ kind_known kind }
 {
-    if kind == log::KIND_WRITE {
+    if kind == call_log::KIND_WRITE {
         return true;
     }
-    if kind == log::KIND_EVENT {
+    if kind == call_log::KIND_EVENT {
         return true;
     }
-    kind == log::KIND_REQUEST
+    kind == call_log::KIND_REQUEST
 }
 
 // Is the log a multiple of 32 bytes with every kind 1, 2 or 3?

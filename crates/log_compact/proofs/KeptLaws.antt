@@ -4,8 +4,8 @@ use mathlib.Core.Bool.{Bool, true, false, true≢false}
 use mathlib.Core.Path.{◌≡◌, refl, sym, ap, ◌∙◌}
 use mathlib.Core.List.{List, [], ◌∷◌, ◌++◌, append_assoc}
 use native.Mathlib.Omega.{arith}
-use Rattle.log.specs.declared.Record.{Record}
-use Rattle.log.specs.Records.{decode, record_at}
+use Rattle.call_log.specs.declared.Record.{Record}
+use Rattle.call_log.specs.Records.{decode, record_at}
 use Rattle.kept_records.specs.Rows.{row_at, rows_in, with_length}
 use Rattle.kept_records.specs.Compact.{empty_write, joins, joined, without_empty, join_from, compacted}
 use Rattle.log_compact.specs.Kept.{joins_last, joined_to_last, kept_with, kept_after}

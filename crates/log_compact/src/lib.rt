@@ -1,4 +1,6 @@
 // Compacting a stored log in its own buffer: the records that `kept_records` says are kept move to its front.
+#![tactic(auto)]
+
 ghost use Rattle.std.specs.Prelude.{true, ◌≡◌, ◌+◌, ◌*◌, ◌≤◌, length};
 ghost use Rattle.buffers.specs.Patch.{patch};
 ghost use Rattle.trb.specs.Limits.{record_length};
@@ -6,14 +8,14 @@ ghost use Rattle.kept_records.specs.Rows.{row_at, with_length, rows_in, zeroed_f
 ghost use Rattle.log_compact.specs.Kept.{joins_last, LastJoined, RowTaken};
 ghost use Rattle.log_compact.specs.Compacting.{RowsKept, Compacts};
 
-use log::Record;
+use call_log::Record;
 use trb::Refusal;
 
 // Where a record's length stands in its row.
 const LENGTH_OFFSET: usize = 16;
 
 // What compacting answers: how many records are kept.
-#[derive(Drop)]
+#[derive(Clone, Copy)]
 pub enum CompactAnswer {
     Kept(usize),
     Refused(Refusal),
@@ -27,7 +29,7 @@ fn joins_last(log: &[u8], kept: usize, record: Record) -> bool
     if kept == 0 {
         return false;
     }
-    kept_records::joins(log::read_record(log, kept - 1), record)
+    kept_records::joins(call_log::read_record(log, kept - 1), record)
 }
 
 // The bytes of row number `index`.
@@ -74,7 +76,7 @@ fn join_to_last(log: &mut [u8], kept: usize, record: Record)
     requires { (record_length * kept ≤ length log.old) × (joins_last (rows_in kept log.old) «record» ≡ true) }
     ensures { LastJoined log.old kept «record» log.new }
 {
-    let last = log::read_record(log, kept - 1);
+    let last = call_log::read_record(log, kept - 1);
     set_length(log, kept - 1, last.length + record.length);
 }
 
@@ -84,7 +86,7 @@ fn take_row(log: &mut [u8], kept: usize, index: usize) -> usize
     requires { (kept ≤ index) × (record_length * (index + 1) ≤ length log.old) }
     ensures { RowTaken log.old kept index result log.new }
 {
-    let record = log::read_record(log, index);
+    let record = call_log::read_record(log, index);
     if kept_records::is_empty_write(record) {
         return kept;
     }

@@ -1,10 +1,12 @@
 // Compacts the log that it is given on standard input, and writes the records that are kept (R-9).
+#![tactic(auto)]
+
 ghost use Rattle.std.specs.Prelude.{◌<◌, ◌≤◌, length, take};
 ghost use Rattle.log_print.specs.LogText.{refused_text};
 ghost use Rattle.log_compactor.specs.Output.{max_log, output_of, Leads};
 
-use libc::{STDIN_FILENO, STDOUT_FILENO};
 use log_compact::CompactAnswer;
+use std::io;
 
 // Bytes of the longest log that is taken.
 const MAX_LOG: usize = 1048576;
@@ -40,9 +42,9 @@ fn put_output(buffer: &mut [u8], read: usize) -> usize
     }
 }
 
-fn main() {
+fn main(rt: HostRuntime) -> io::Result<()> {
     let mut buffer = log_buffer();
-    let read = io::read_full(STDIN_FILENO, &mut buffer);
+    let read = input_bytes::read_full(&mut rt.stdin(), &mut buffer)?;
     let end = put_output(&mut buffer, read);
-    io::write_all(STDOUT_FILENO, &buffer[..end]);
+    rt.write_all(&buffer[..end])
 }

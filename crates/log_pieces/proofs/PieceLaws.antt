@@ -12,8 +12,8 @@ use lib.Seq.{take-append-le, drop-append-le}
 use borrow.Author.Tests.{eq-eqb, eqb-true}
 use Rattle.trb.specs.Limits.{record_length}
 use Rattle.trb.proofs.TestLaws.{and_left, and_right}
-use Rattle.log.specs.declared.Record.{Record}
-use Rattle.log.specs.Records.{decode}
+use Rattle.call_log.specs.declared.Record.{Record}
+use Rattle.call_log.specs.Records.{decode}
 use Rattle.log_check.specs.WellFormed.{kind_known, kinds_known, well_formed}
 use Rattle.log_text.specs.Lines.{line_of, lines_in}
 use Rattle.log_print.specs.LogText.{printable, log_text}

@@ -1,1 +1,3 @@
 // A stored log printed in pieces: theorems alone.
+#![tactic(auto)]
+

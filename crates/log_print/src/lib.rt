@@ -1,4 +1,6 @@
 // The text of a log, printed into a lent buffer.
+#![tactic(auto)]
+
 ghost use Rattle.std.specs.Prelude.{◌≡◌, ◌≤◌, length};
 ghost use Rattle.numerals.specs.Written.{Written};
 ghost use Rattle.log_text.specs.Widths.{max_text};
@@ -38,7 +40,7 @@ pub fn text_buffer() -> [u8; log_text::MAX_TEXT]
 }
 
 // What printing a log answers: whether the buffer was long enough, and how long the text is.
-#[derive(Drop)]
+#[derive(Clone, Copy)]
 pub struct Printed {
     pub answer: Answer,
     pub length: usize,

@@ -6,8 +6,8 @@ use native.Mathlib.Omega.{arith}
 use lib.ListN.{length, take, drop, length-append, length-take}
 use lib.Seq.{drop-drop}
 use Rattle.trb.specs.Limits.{record_length}
-use Rattle.log.specs.declared.Record.{Record}
-use Rattle.log.specs.Records.{decode}
+use Rattle.call_log.specs.declared.Record.{Record}
+use Rattle.call_log.specs.Records.{decode}
 use Rattle.numerals.proofs.DigitLaws.{length-decimal_of, length-hex_of, length-bytes_hex}
 use Rattle.log_text.specs.Lines.{kind_fields, id_fields, number_fields, fields_of, line_of, lines_in}
 use Rattle.log_text.specs.Widths.{max_kinds, max_ids, max_numbers, max_fields, max_line}

@@ -1,8 +1,8 @@
 -- 01, Examples from the bench: a record's line. Assumes nothing.
 use Rattle.std.specs.Prelude.{ℕ, zero, suc, List, [], ◌∷◌, ◌++◌, take, drop}
 use Rattle.trb.specs.Limits.{record_length}
-use Rattle.log.specs.declared.Record.{Record}
-use Rattle.log.specs.Records.{decode}
+use Rattle.call_log.specs.declared.Record.{Record}
+use Rattle.call_log.specs.Records.{decode}
 use Rattle.numerals.specs.Digits.{decimal_of, hex_of, bytes_hex}
 
 abbrev pub space : ℕ

@@ -1,4 +1,6 @@
 // The lines of a log, one for each record.
+#![tactic(auto)]
+
 ghost use Rattle.std.specs.Prelude.{◌≡◌, ◌+◌, ◌*◌, ◌/◌, ◌≤◌, length, drop};
 ghost use Rattle.trb.specs.Limits.{record_length};
 ghost use Rattle.numerals.specs.Digits.{decimal_of, hex_of};
@@ -7,7 +9,7 @@ ghost use Rattle.numerals.specs.Written.{Written};
 ghost use Rattle.log_text.specs.Widths.{max_kinds, max_ids, max_numbers, max_fields, max_line, lines_room, text_limits};
 ghost use Rattle.log_text.specs.Lines.{field, kind_fields, id_fields, number_fields, fields_of, line_of, lines_in};
 
-use log::Record;
+use call_log::Record;
 
 // ---- Limits: each has this name here and one in specs/Widths.antt; `text_limits` ties the two.
 
@@ -17,7 +19,7 @@ pub const MAX_LINE: usize = 7 * numerals::DECIMAL_PLACES + numerals::HEX_PLACES 
 // Characters of the text of the longest log that is printed.
 pub const MAX_TEXT: usize = trb::MAX_PRINTED_LOG / trb::RECORD_LENGTH * MAX_LINE;
 
-#[derive(Drop)]
+#[derive(Clone, Copy)]
 pub struct TextLimits {
     pub line: usize,
     pub text: usize,
@@ -100,7 +102,7 @@ pub fn put_line(text: &mut [u8], at: usize, log: &[u8], index: usize) -> usize
     requires index_in_bounds { record_length * (index + 1) ≤ length log.now }
     ensures { Written max_line text.old at (line_of (drop (record_length * index) log.now)) result text.new }
 {
-    let record = log::read_record(log, index);
+    let record = call_log::read_record(log, index);
     let bytes_at = put_fields(text, at, record);
     let from = trb::RECORD_LENGTH * index + 24;
     let to = from + 8;

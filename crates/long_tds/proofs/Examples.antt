@@ -11,8 +11,8 @@ use Rattle.trb.specs.declared.InTrbProcessingStatus.TheVariants as status
 use Rattle.trb.specs.declared.SlotId.{SlotId}
 use Rattle.trb.specs.declared.TransferTrb.{TransferTrb}
 use Rattle.trb.specs.declared.TransferTrbVariant.TheVariants.{Normal, EventData}
-use Rattle.log.specs.Records.{transfer_event}
-use Rattle.log.specs.declared.Record.{Record}
+use Rattle.call_log.specs.Records.{transfer_event}
+use Rattle.call_log.specs.declared.Record.{Record}
 use Rattle.td_part.specs.Parts.{put_dma, realize_dma}
 use Rattle.walks.specs.Walk.{walk}
 use Rattle.in_td.specs.declared.InMode.TheVariants.{AsPorted}

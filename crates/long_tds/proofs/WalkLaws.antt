@@ -9,8 +9,8 @@ use lib.ListN.{length}
 use Rattle.trb.specs.Limits.{max_transfer_length}
 use Rattle.trb.specs.declared.TransferTrb.{TransferTrb}
 use Rattle.trb.proofs.TestLaws.{and_left, and_right}
-use Rattle.log.specs.Calls.{Out}
-use Rattle.log.specs.declared.Record.{Record}
+use Rattle.call_log.specs.Calls.{Out}
+use Rattle.call_log.specs.declared.Record.{Record}
 use Rattle.td_part.specs.declared.TdProgress.{TdProgress}
 use Rattle.walks.specs.All.{all}
 use Rattle.walks.specs.Walk.{walk}

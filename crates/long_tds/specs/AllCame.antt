@@ -3,8 +3,8 @@ use Rattle.std.specs.Prelude.{ℕ, ◌≡◌, Bool, false, not, ◌&&◌, eqb}
 use Rattle.trb.specs.Codes.{code_number}
 use Rattle.trb.specs.declared.CompletionCode.TheVariants.{Success}
 use Rattle.trb.specs.declared.TrbProcessingResult.TheVariants.{Ok}
-use Rattle.log.specs.Calls.{Out}
-use Rattle.log.specs.declared.Record.{Record}
+use Rattle.call_log.specs.Calls.{Out}
+use Rattle.call_log.specs.declared.Record.{Record}
 use Rattle.in_td.specs.declared.TdProcessed.{TdProcessed}
 use Rattle.account.specs.Guest.{is_event, any}
 

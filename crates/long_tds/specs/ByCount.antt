@@ -6,8 +6,8 @@ use Rattle.trb.specs.declared.EndpointId.{EndpointId}
 use Rattle.trb.specs.declared.InTrbProcessingStatus.{InTrbProcessingStatus}
 use Rattle.trb.specs.declared.SlotId.{SlotId}
 use Rattle.trb.specs.declared.TransferTrb.{TransferTrb}
-use Rattle.log.specs.Records.{event_kind}
-use Rattle.log.specs.declared.Record.{Record}
+use Rattle.call_log.specs.Records.{event_kind}
+use Rattle.call_log.specs.declared.Record.{Record}
 use Rattle.walks.specs.All.{all}
 use Rattle.td_part.specs.declared.TdProcessingState.{TdProcessingState}
 use Rattle.td_part.specs.declared.TdProcessingState.TheVariants.{Default, ShortTransfer}

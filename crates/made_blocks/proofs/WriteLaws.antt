@@ -11,8 +11,8 @@ use Rattle.trb.specs.declared.TransferTrb.{TransferTrb}
 use Rattle.trb.specs.declared.TransferTrbVariant.{TransferTrbVariant}
 use Rattle.trb.specs.declared.TransferTrbVariant.TheVariants.{SetupStage, DataStage, StatusStage, Normal, EventData, NoOp, Isoch, Unrecognized}
 use Rattle.trb.specs.declared.NormalTrb.{NormalTrb}
-use Rattle.log.specs.Records.{when}
-use Rattle.log.specs.declared.Record.{Record}
+use Rattle.call_log.specs.Records.{when}
+use Rattle.call_log.specs.declared.Record.{Record}
 use Rattle.walks.specs.Walk.{walk}
 use Rattle.td_part.specs.declared.TdInfo.{TdInfo}
 use Rattle.td_part.specs.declared.TdProcessingState.{TdProcessingState}

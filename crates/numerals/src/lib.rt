@@ -1,4 +1,6 @@
 // The digits of a number in decimal and in hex, and a character written into a lent buffer. `written_numbers` writes whole numbers.
+#![tactic(auto)]
+
 ghost use Rattle.std.specs.Prelude.{◌≡◌, [], ◌∷◌, ◌*◌, ◌/◌, ◌%◌, ◌<◌, ◌≤◌, ◌^◌, length, drop};
 ghost use Rattle.numerals.specs.Digits.{digit_char, trimmed, FirstPlace};
 ghost use Rattle.numerals.specs.Widths.{decimal_places, width_table};
@@ -12,7 +14,7 @@ pub const DECIMAL_PLACES: usize = 10;
 // Digits of a 64-bit number in hex.
 pub const HEX_PLACES: usize = 16;
 
-#[derive(Drop)]
+#[derive(Clone, Copy)]
 pub struct WidthTable {
     pub decimal: usize,
     pub hex: usize,
@@ -95,7 +97,7 @@ pub fn first_place(n: u32) -> usize
 }
 
 // The digit that a number has at a place, and what is left of the number below that place.
-#[derive(Drop)]
+#[derive(Clone, Copy)]
 pub struct Place {
     pub digit: u8,
     pub rest: u32,

@@ -1,12 +1,14 @@
 // The phase table of a control transfer: what becomes of a TRB, by phase, kind and chain bit. Ports the two matches of the
 // control endpoint's `submit_trb`.
+#![tactic(auto)]
+
 ghost use Rattle.std.specs.Prelude.{◌≡◌};
 ghost use Rattle.phase_table.specs.Table.{kind_of, data_taken, status_taken, setup_stage_outcome, data_stage_outcome, status_stage_outcome, normal_outcome, event_data_outcome, outcome_of, trb_outcome};
 ghost use Rattle.phase_table.specs.Outcomes.{holds, restarts, requests, phase_after, state_after};
 
 use trb::{ControlSubmissionState, ControlTransferState, TransferTrbVariant};
 
-#[derive(Drop)]
+#[derive(Clone, Copy)]
 pub enum TrbKind {
     SetupStage,
     DataStage,
@@ -19,7 +21,7 @@ pub enum TrbKind {
 }
 
 // What becomes of a TRB. The first six hold it.
-#[derive(Drop)]
+#[derive(Clone, Copy)]
 pub enum Outcome {
     // A transfer starts.
     StartTransfer,

@@ -17,10 +17,10 @@ use Rattle.trb.specs.declared.TransferTrbVariant.TheVariants.{Normal}
 use Rattle.trb.specs.declared.TrbProcessingResult.{TrbProcessingResult}
 use Rattle.trb.specs.declared.TrbProcessingResult.TheVariants as result
 use Rattle.buffers.specs.LittleEndian.{le_field}
-use Rattle.log.specs.Calls.{Out, Put, Meets}
-use Rattle.log.specs.Records.{guest_write}
-use Rattle.log.specs.declared.Record.{Record}
-use Rattle.log.proofs.CallLaws.{meets}
+use Rattle.call_log.specs.Calls.{Out, Put, Meets}
+use Rattle.call_log.specs.Records.{guest_write}
+use Rattle.call_log.specs.declared.Record.{Record}
+use Rattle.call_log.proofs.CallLaws.{meets}
 use Rattle.held.specs.declared.EndpointKind.TheVariants.{In}
 use Rattle.td_part.specs.Parts.{of_normal, edtla_after, left, moved_of, residual_of, code_for, due_for, put_moved, put_dma, realize_dma}
 use Rattle.td_part.specs.declared.TdInfo.{TdInfo}

@@ -3,7 +3,7 @@ use Rattle.std.specs.Prelude.{ℕ, ◌+◌, ◌*◌, ◌%◌, ◌≤◌, ◌≡�
 use Rattle.trb.specs.Limits.{max_transfer_length}
 use Rattle.trb.specs.declared.TransferTrb.{TransferTrb}
 use Rattle.buffers.specs.LittleEndian.{le_field}
-use Rattle.log.specs.Logs.{logged, AllFit}
+use Rattle.call_log.specs.Logs.{logged, AllFit}
 use Rattle.walks.specs.Walk.{walk}
 use Rattle.td_part.specs.Parts.{Within}
 use Rattle.in_td.specs.Td.{process_trb, ended}

@@ -1,8 +1,10 @@
 // The walk over a TD whose TRBs lie in places of lent bytes: of a block, and of a row. One function, so that a TRB's turn is compiled into its
 // loop, and into no other.
+#![tactic(auto)]
+
 ghost use Rattle.std.specs.Prelude.{◌≡◌, true, false, ◌+◌, ◌*◌, ◌≤◌, length, take, drop};
 ghost use Rattle.trb.specs.Limits.{record_length, max_held};
-ghost use Rattle.log.specs.Calls.{Meets};
+ghost use Rattle.call_log.specs.Calls.{Meets};
 ghost use Rattle.held.specs.declared.EndpointKind.TheVariants.{In};
 ghost use Rattle.walks.specs.Walk.{walk};
 ghost use Rattle.td_part.specs.Parts.{Within};
@@ -17,7 +19,7 @@ use td_part::{TdProcessingState, TdProgress};
 // ---- Full Normals
 
 // How far a TD was walked, and how many of its TRBs.
-#[derive(Drop)]
+#[derive(Clone, Copy)]
 struct FullWalked {
     processed: TdProcessed,
     count: usize,
@@ -110,8 +112,8 @@ fn walk_full(
         }
         let length = in_bytes::length_at(places, place);
         let pointer = buffers::le64(places, place + 8);
-        let write = log::guest_write(pointer, length, start, endpoint_id, slot_id);
-        log::put_record(log, records, write);
+        let write = call_log::guest_write(pointer, length, start, endpoint_id, slot_id);
+        call_log::put_record(log, records, write);
         start = start + length;
         edtla = td_part::edtla_after(edtla, length);
         records += 1;

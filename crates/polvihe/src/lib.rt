@@ -1,5 +1,7 @@
 // What C and Rust call: the product's functions over numbers and lent bytes, exported in one static library. Each asks its
 // questions first, and answers with the number of the first no.
+#![tactic(auto)]
+
 mod control;
 mod delivery;
 mod row;
@@ -54,7 +56,7 @@ pub extern "C" fn polvihe_carry_out(
 
 // A TRB by numbers, but for its address: xHCI's type, flags, data pointer or event data or setup bytes, and transfer length.
 #[repr(C)]
-#[derive(Drop)]
+#[derive(Clone, Copy)]
 pub struct RawTrb {
     pub kind: u8,
     pub flags: u8,

@@ -1,4 +1,6 @@
 // Raw TRBs for C and Rust, decoded to plain numbers and encoded from them.
+#![tactic(auto)]
+
 ghost use Rattle.std.specs.Prelude.{◌≡◌, ◌≤◌, length};
 ghost use Rattle.buffers.specs.Patch.{patch};
 ghost use Rattle.raw_trb.specs.Raw.{encode_questions};

@@ -1,4 +1,6 @@
 // The answers of the program `raw_trbs`, laid into a text buffer. Every writer returns the index behind what it wrote.
+#![tactic(auto)]
+
 ghost use Rattle.std.specs.Prelude.{◌≡◌, ◌+◌, ◌*◌, ◌≤◌, length};
 ghost use Rattle.trb.specs.Trbs.{transfer_length};
 ghost use Rattle.numerals.specs.Written.{Written};
@@ -13,7 +15,7 @@ use trb::{Answer, SetupStageTrb, TransferTrbVariant};
 // Characters of the longest answer: four numbers, each with a space or a line feed behind it.
 pub const MAX_RAW_ANSWER: usize = 4 * (numerals::HEX_PLACES + 1);
 
-#[derive(Drop)]
+#[derive(Clone, Copy)]
 pub struct RawLimits {
     pub answer: usize,
 }

@@ -1,5 +1,7 @@
 // Raw transfer TRBs: what the 16 bytes that the ring walker gives say (xHCI 1.2, 6.4.1 and 6.4.4.2). The tables of their fields and what is
 // decoded and encoded by them stand in specs/; `raw_trb_decoder` and `raw_trb_encoder` have the code.
+#![tactic(auto)]
+
 use trb::{Answer, TransferTrbVariant};
 
 // ---- TRB types by number (xHCI 1.2, table 6-91)
@@ -19,7 +21,7 @@ pub const EVENT_DATA: u32 = 7;
 pub const NO_OP: u32 = 8;
 
 // The four dwords of a TRB.
-#[derive(Drop)]
+#[derive(Clone, Copy)]
 pub struct Dwords {
     pub d0: u32,
     pub d1: u32,
@@ -28,14 +30,14 @@ pub struct Dwords {
 }
 
 // What 16 bytes say.
-#[derive(Drop)]
+#[derive(Clone, Copy)]
 pub struct DecodedTrb {
     pub variant: TransferTrbVariant,
     pub cycle_bit: bool,
 }
 
 // The 16 bytes of a TRB; where it is refused, zeros. (An enum cannot hold them.)
-#[derive(Drop)]
+#[derive(Clone, Copy)]
 pub struct EncodedTrb {
     pub answer: Answer,
     pub bytes: [u8; 16],

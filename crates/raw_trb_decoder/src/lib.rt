@@ -1,4 +1,6 @@
 // The decoder of raw transfer TRBs.
+#![tactic(auto)]
+
 ghost use Rattle.std.specs.Prelude.{◌≡◌, cond};
 ghost use Rattle.trb.specs.declared.TransferTrbVariant.TheVariants.{Unrecognized};
 ghost use Rattle.raw_trb.specs.Fields.{all_zero, dwords_of};

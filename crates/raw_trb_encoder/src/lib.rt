@@ -1,4 +1,6 @@
 // The encoder of transfer TRBs.
+#![tactic(auto)]
+
 ghost use Rattle.std.specs.Prelude.{◌≡◌, [], ◌<◌};
 ghost use Rattle.trb.specs.declared.TransferTrbVariant.TheVariants.{SetupStage, DataStage, StatusStage, Normal, EventData, NoOp};
 ghost use Rattle.raw_trb.specs.Fields.{dwords_with, bytes_of, Weighted, control_dword};

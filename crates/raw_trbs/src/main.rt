@@ -1,13 +1,17 @@
 // Decodes and encodes the TRBs on standard input: a line each, `d RAW` or `e KIND FLAGS A B`.
+#![tactic(auto)]
+
 ghost use Rattle.std.specs.Prelude.{◌≡◌, ◌≤◌, length};
 ghost use Rattle.raw_text.specs.RawLines.{max_raw_answer};
 ghost use Rattle.script_lines.specs.Steps.{Stepped};
 
 use call_script::RawLine;
 use script_lines::{Found, Step};
+use std::io;
+use std::io::{Read, Write};
 
 // How far a run has come: lines taken, bytes of the text not yet written out, whether every line was good, and whether there may be more.
-#[derive(Drop)]
+#[derive(Clone, Copy)]
 struct Progress {
     lines: u64,
     end: usize,
@@ -43,26 +47,39 @@ fn ended(progress: Progress) -> Progress {
 }
 
 // Takes one line, which comes without its line feed.
-fn run_line(text: &mut [u8], progress: Progress, line: &[u8]) -> Progress
+fn run_line<W: Write>(
+    writer: &mut W,
+    text: &mut [u8],
+    progress: Progress,
+    line: &[u8],
+) -> io::Result<Progress>
     requires { max_raw_answer ≤ length text.old }
 {
     let asked = call_script::read_raw_line(line);
     match asked {
         RawLine::Decode(decoded) => {
-            let at = script_lines::make_room(text, progress.end, raw_text::MAX_RAW_ANSWER);
-            good_line(progress, raw_text::put_decoded(text, at, decoded))
+            let at = script_lines::make_room(writer, text, progress.end, raw_text::MAX_RAW_ANSWER)?;
+            let end = raw_text::put_decoded(text, at, decoded);
+            Ok(good_line(progress, end))
         }
         RawLine::Encode(t) => {
-            let at = script_lines::make_room(text, progress.end, raw_text::MAX_RAW_ANSWER);
+            let at = script_lines::make_room(writer, text, progress.end, raw_text::MAX_RAW_ANSWER)?;
             let variant = t.variant;
             let encoded = raw_trb_encoder::encode(variant, t.cycle_bit);
-            good_line(progress, raw_text::put_encoded(text, at, encoded))
+            let end = raw_text::put_encoded(text, at, encoded);
+            Ok(good_line(progress, end))
         }
-        RawLine::Bad => bad_line(progress),
+        RawLine::Bad => Ok(bad_line(progress)),
     }
 }
 
-fn run_step(text: &mut [u8], progress: Progress, input: &[u8], step: Step) -> Progress
+fn run_step<W: Write>(
+    writer: &mut W,
+    text: &mut [u8],
+    progress: Progress,
+    input: &[u8],
+    step: Step,
+) -> io::Result<Progress>
     requires max_raw_answer_in_bounds { max_raw_answer ≤ length text.old }
     requires stepped { Stepped (length input.now) step }
 {
@@ -70,15 +87,20 @@ fn run_step(text: &mut [u8], progress: Progress, input: &[u8], step: Step) -> Pr
     let from = step.from;
     let end = step.end;
     match found {
-        Found::Line => run_line(text, progress, &input[from..end]),
-        Found::Piece => progress,
-        Found::End => ended(progress),
-        Found::Unfinished => bad_line(progress),
+        Found::Line => run_line(writer, text, progress, &input[from..end]),
+        Found::Piece => Ok(progress),
+        Found::End => Ok(ended(progress)),
+        Found::Unfinished => Ok(bad_line(progress)),
     }
 }
 
 // Takes the input to its end, or to a bad line.
-fn run_input(text: &mut [u8], input: &mut [u8]) -> Progress
+fn run_input<R: Read, W: Write>(
+    reader: &mut R,
+    writer: &mut W,
+    text: &mut [u8],
+    input: &mut [u8],
+) -> io::Result<Progress>
     requires { max_raw_answer ≤ length text.old }
 {
     let mut progress = Progress {
@@ -91,18 +113,35 @@ fn run_input(text: &mut [u8], input: &mut [u8]) -> Progress
     let mut filled = 0;
     let mut turns = u64::MAX;
     while 0 < turns {
-        let step = script_lines::next_line(input, from, filled);
-        progress = run_step(text, progress, input, step);
+        let step = script_lines::next_line(reader, input, from, filled)?;
+        progress = run_step(writer, text, progress, input, step)?;
         from = step.next;
         filled = step.filled;
         turns = script_lines::turns_left(turns, progress.more);
     }
-    progress
+    Ok(progress)
 }
 
-fn main() {
-    let mut input = io::large_buffer();
-    let mut text = io::large_buffer();
-    let progress = run_input(&mut text, &mut input);
-    script_lines::finish(&text, progress.end, progress.lines, progress.good);
+// Bytes of the text that is not yet written out.
+const TEXT: usize = 65536;
+
+fn text_buffer() -> [u8; TEXT]
+    ensures { length result ≡ 65536 }
+{
+    [0u8; TEXT]
+}
+
+fn main(rt: HostRuntime) -> io::Result<()> {
+    let mut reader = rt.stdin();
+    let mut writer = rt.stdout();
+    let mut input = script_lines::input_buffer();
+    let mut text = text_buffer();
+    let progress = run_input(&mut reader, &mut writer, &mut text, &mut input)?;
+    script_lines::finish(
+        &mut writer,
+        &text,
+        progress.end,
+        progress.lines,
+        progress.good,
+    )
 }

@@ -1,4 +1,8 @@
 // Runs the call script on standard input and prints the answers.
-fn main() {
-    call_runner::run();
+#![tactic(auto)]
+
+use std::io;
+
+fn main(rt: HostRuntime) -> io::Result<()> {
+    call_runner::run(&mut rt.stdin(), &mut rt.stdout())
 }

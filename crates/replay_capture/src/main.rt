@@ -1,4 +1,8 @@
 // Writes the capture of the call script on standard input to standard output.
-fn main() {
-    capture_runner::run();
+#![tactic(auto)]
+
+use std::io;
+
+fn main(rt: HostRuntime) -> io::Result<()> {
+    capture_runner::run(&mut rt.stdin(), &mut rt.stdout())
 }

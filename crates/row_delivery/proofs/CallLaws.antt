@@ -17,10 +17,10 @@ use Rattle.trb.specs.declared.Answer.TheVariants.{Accepted, Refused}
 use Rattle.trb.specs.declared.CompletionAnswer.{CompletionAnswer}
 use Rattle.trb.specs.declared.CompletionAnswer.TheVariants as answer
 use Rattle.trb.specs.declared.TransferTrb.{TransferTrb}
-use Rattle.log.specs.Calls.{Out}
-use Rattle.log.specs.Logs.{encode_all}
-use Rattle.log.specs.declared.Record.{Record}
-use Rattle.log.proofs.LogLaws.{length-encode_all}
+use Rattle.call_log.specs.Calls.{Out}
+use Rattle.call_log.specs.Logs.{encode_all}
+use Rattle.call_log.specs.declared.Record.{Record}
+use Rattle.call_log.proofs.LogLaws.{length-encode_all}
 use Rattle.guest_memory.specs.Places.{Memory, regions_of}
 use Rattle.carry_out.specs.Writes.{written}
 use Rattle.carry_out.specs.CarryOut.{memory_after, Carried}

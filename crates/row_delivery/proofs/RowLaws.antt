@@ -12,9 +12,9 @@ use Rattle.trb.specs.declared.Answer.TheVariants.{Accepted}
 use Rattle.trb.specs.declared.EndpointId.{EndpointId}
 use Rattle.trb.specs.declared.SlotId.{SlotId}
 use Rattle.trb.proofs.TestLaws.{and_left, and_right}
-use Rattle.log.specs.Logs.{encode_all, AllFit}
-use Rattle.log.specs.declared.Record.{Record}
-use Rattle.log.proofs.LogLaws.{length-encode_all}
+use Rattle.call_log.specs.Logs.{encode_all, AllFit}
+use Rattle.call_log.specs.declared.Record.{Record}
+use Rattle.call_log.proofs.LogLaws.{length-encode_all}
 use Rattle.log_check.specs.WellFormed.{kinds_known}
 use Rattle.guest_memory.specs.Regions.{share_an_address}
 use Rattle.guest_memory.specs.Places.{Memory, regions_of}

@@ -14,8 +14,8 @@ use Rattle.trb.specs.declared.EndpointId.{EndpointId}
 use Rattle.trb.specs.declared.SlotId.{SlotId}
 use Rattle.trb.specs.declared.TransferTrb.{TransferTrb}
 use Rattle.trb.proofs.TestLaws.{and_left, and_right}
-use Rattle.log.specs.Records.{when}
-use Rattle.log.specs.declared.Record.{Record}
+use Rattle.call_log.specs.Records.{when}
+use Rattle.call_log.specs.declared.Record.{Record}
 use Rattle.log_check.specs.WellFormed.{kind_known, kinds_known}
 use Rattle.guest_memory.specs.declared.Regions.{Regions}
 use Rattle.guest_memory.specs.Places.{place_of, is_inside}

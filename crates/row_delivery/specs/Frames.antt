@@ -2,7 +2,7 @@
 use Rattle.std.specs.Prelude.{ℕ, ◌+◌, ◌*◌, ◌<◌, min, false, ◌≡◌, List, [], ◌∷◌, ◌++◌, length, take, get_or}
 use Rattle.trb.specs.Limits.{record_length}
 use Rattle.trb.specs.declared.Answer.TheVariants.{Accepted}
-use Rattle.log.specs.declared.Record.{Record}
+use Rattle.call_log.specs.declared.Record.{Record}
 use Rattle.guest_memory.specs.Places.{Memory, regions_of}
 use Rattle.carry_out.specs.Writes.{records_of}
 use Rattle.carry_out.specs.CarryOut.{Carried}

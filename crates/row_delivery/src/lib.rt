@@ -1,4 +1,6 @@
 // No torn frame, of a row of TDs: completion and carry-out in one call, with guest memory at the event of each TD as its promise.
+#![tactic(auto)]
+
 ghost use Rattle.std.specs.Prelude.{take};
 ghost use Rattle.guest_memory.specs.Places.{memory_of};
 ghost use Rattle.row_delivery.specs.Completing.{DeliversTds};

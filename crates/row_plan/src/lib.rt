@@ -1,7 +1,9 @@
 // What the entry for a lent row of TRBs does beside walking the row: the questions, a TRB's turn, the answer.
+#![tactic(auto)]
+
 ghost use Rattle.std.specs.Prelude.{◌≡◌, ◌+◌, ◌*◌, ◌≤◌, length};
 ghost use Rattle.trb.specs.Limits.{record_length};
-ghost use Rattle.log.specs.Calls.{Meets};
+ghost use Rattle.call_log.specs.Calls.{Meets};
 ghost use Rattle.td_part.specs.Parts.{Within};
 ghost use Rattle.in_td.specs.Td.{next_trb};
 ghost use Rattle.row_plan.specs.Plans.{status_of, row_plan, row_answer};
@@ -13,14 +15,14 @@ use trb::{
     TdBasedNormalSubmissionState, TransferTrb,
 };
 
-#[derive(Drop)]
+#[derive(Clone, Copy)]
 pub struct RowCompleted {
     pub answer: CompletionAnswer,
     pub records: usize,
 }
 
 // What is to be done: how many TRBs of the row are walked, as which TD, and from which start.
-#[derive(Drop)]
+#[derive(Clone, Copy)]
 pub struct RowPlan {
     pub asked: Answer,
     pub td: InTd,

@@ -1,4 +1,6 @@
 // The questions asked of a row of TDs, in the order of document 02, over facts of the block, what one loop over the row finds, and plain values.
+#![tactic(auto)]
+
 ghost use Rattle.std.specs.Prelude.{◌≡◌, ◌&&◌, ◌||◌, ◌+◌, ◌*◌, ◌≤◌, ◌^◌, min};
 ghost use Rattle.trb.specs.Answers.{number_of};
 ghost use Rattle.trb.specs.Limits.{max_row};
@@ -15,7 +17,7 @@ use trb::{Answer, InTrbProcessingStatus, Refusal, TransferTrb, TransferTrbVarian
 
 // What one loop over a row finds: the first no of questions 4, 21, 5 and 6; TRBs of a TD that has not ended; whether every kind is
 // supported; TDs that have ended; whether the one that has not has a Normal; whether each was given what it may be; bytes given.
-#[derive(Drop)]
+#[derive(Clone, Copy)]
 pub struct RowTest {
     pub asked: Answer,
     pub held: usize,

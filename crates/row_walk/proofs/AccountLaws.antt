@@ -11,15 +11,15 @@ use lib.ListN.{length, take, drop, length-append}
 use Rattle.trb.specs.declared.EndpointId.{EndpointId}
 use Rattle.trb.specs.declared.SlotId.{SlotId}
 use Rattle.trb.specs.declared.TransferTrb.{TransferTrb}
-use Rattle.log.specs.Calls.{Out, silent, Meets}
-use Rattle.log.specs.Logs.{records_in}
-use Rattle.log.proofs.LogLaws.{records_in-logged}
-use Rattle.log.specs.Records.{when}
+use Rattle.call_log.specs.Calls.{Out, silent, Meets}
+use Rattle.call_log.specs.Logs.{records_in}
+use Rattle.call_log.proofs.LogLaws.{records_in-logged}
+use Rattle.call_log.specs.Records.{when}
 use Rattle.walks.specs.Walk.{join, walk}
 use Rattle.walks.proofs.GoingLaws.{walk-stopped}
 use Rattle.in_td.specs.Td.{is_error}
 use Rattle.in_td.specs.declared.InMode.{InMode}
-use Rattle.log.specs.declared.Record.{Record}
+use Rattle.call_log.specs.declared.Record.{Record}
 use Rattle.in_td.specs.Normals.{requested}
 use Rattle.account.specs.Guest.{places, Account, is_write, is_event, is_unsuccessful, any, first, before_first, before_last, relied, sum_for, residual_in, names_held, count_before, before, later, numbered, range, stands_for, bytes}
 use Rattle.account.proofs.Accounted.{accounted}

@@ -19,9 +19,9 @@ use Rattle.trb.specs.declared.TransferTrb.{TransferTrb}
 use Rattle.trb.specs.declared.TransferTrbVariant.{TransferTrbVariant}
 use Rattle.trb.specs.declared.TransferTrbVariant.TheVariants.{SetupStage, DataStage, StatusStage, Normal, EventData, NoOp, Isoch, Unrecognized}
 use Rattle.trb.specs.declared.TrbProcessingResult.TheVariants as result
-use Rattle.log.specs.Calls.{Out}
-use Rattle.log.specs.Records.{when, transfer_event, guest_write}
-use Rattle.log.specs.declared.Record.{Record}
+use Rattle.call_log.specs.Calls.{Out}
+use Rattle.call_log.specs.Records.{when, transfer_event, guest_write}
+use Rattle.call_log.specs.declared.Record.{Record}
 use Rattle.walks.specs.Walk.{walk}
 use Rattle.walks.proofs.GoingLaws.{mapped, walk-mapped}
 use Rattle.td_part.specs.declared.TdInfo.{TdInfo}

@@ -16,13 +16,13 @@ use Rattle.trb.specs.Limits.{record_length}
 use Rattle.trb.specs.declared.EndpointId.{EndpointId}
 use Rattle.trb.specs.declared.SlotId.{SlotId}
 use Rattle.trb.specs.declared.TransferTrb.{TransferTrb}
-use Rattle.log.specs.Calls.{Out, Meets, counted}
-use Rattle.log.specs.Records.{when, in_request}
-use Rattle.log.specs.Logs.{logged}
-use Rattle.log.specs.declared.Record.{Record}
-use Rattle.log.proofs.CallLaws.{meets}
-use Rattle.log.proofs.LogLaws.{logged-append, length-logged, AllFit-append}
-use Rattle.log.proofs.RecordLaws.{length-when}
+use Rattle.call_log.specs.Calls.{Out, Meets, counted}
+use Rattle.call_log.specs.Records.{when, in_request}
+use Rattle.call_log.specs.Logs.{logged}
+use Rattle.call_log.specs.declared.Record.{Record}
+use Rattle.call_log.proofs.CallLaws.{meets}
+use Rattle.call_log.proofs.LogLaws.{logged-append, length-logged, AllFit-append}
+use Rattle.call_log.proofs.RecordLaws.{length-when}
 use Rattle.walks.specs.Walk.{walk}
 use Rattle.walks.proofs.GoingLaws.{map-append, Going, going-none, going-turn, going_end, going-stop}
 use Rattle.walks.proofs.WalkLaws.{Walked, walk-counts, length-walk, walked_none, walked-turn, walked_end, walked_stop}

@@ -7,8 +7,8 @@ use Rattle.trb.specs.declared.SlotId.{SlotId}
 use Rattle.trb.specs.declared.TransferTrb.{TransferTrb}
 use Rattle.trb.specs.declared.TransferTrbVariant.TheVariants.{NoOp}
 use Rattle.trb.specs.declared.TrbProcessingResult.TheVariants as result
-use Rattle.log.specs.Calls.{Out}
-use Rattle.log.specs.declared.Record.{Record}
+use Rattle.call_log.specs.Calls.{Out}
+use Rattle.call_log.specs.declared.Record.{Record}
 use Rattle.td_part.specs.Parts.{put_dma, realize_dma}
 use Rattle.walks.specs.Walk.{walk}
 use Rattle.in_td.specs.Td.{handle_normal, process_trb}

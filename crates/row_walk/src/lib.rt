@@ -1,8 +1,10 @@
 // The walk over a row of whole TDs on one IN endpoint: no block is held, and each record is written where it stays.
+#![tactic(auto)]
+
 ghost use Rattle.std.specs.Prelude.{◌≡◌, not, ◌+◌, ◌*◌, ◌<◌, ◌≤◌, ◌^◌, eqb, length, take};
 ghost use Rattle.trb.specs.Limits.{record_length, max_row};
-ghost use Rattle.log.specs.Calls.{Meets, counted};
-ghost use Rattle.log.specs.Records.{in_request, when};
+ghost use Rattle.call_log.specs.Calls.{Meets, counted};
+ghost use Rattle.call_log.specs.Records.{in_request, when};
 ghost use Rattle.in_td.specs.Normals.{normal_length};
 ghost use Rattle.in_td.specs.Td.{normal_count};
 ghost use Rattle.row_walk.specs.Rows.{nothing_asked, asked_more, unstarted, td_done, process_row, from, td_from, Walkable};
@@ -14,7 +16,7 @@ use trb::{
 };
 
 // What the device gave for a TD: so many bytes of the joined data.
-#[derive(Drop)]
+#[derive(Clone, Copy)]
 pub struct TdResult {
     pub status: InTrbProcessingStatus,
     pub length: u32,
@@ -22,7 +24,7 @@ pub struct TdResult {
 
 // How far a row was walked: TDs finished well, the result of the last one started, where in the joined data the next one's data
 // starts, and the number of records logged.
-#[derive(Drop)]
+#[derive(Clone, Copy)]
 pub struct RowProgress {
     pub finished: usize,
     pub result: TrbProcessingResult,
@@ -31,7 +33,7 @@ pub struct RowProgress {
 }
 
 // What a TD asks of the device, as far as it was looked at: S, and its Normals.
-#[derive(Drop)]
+#[derive(Clone, Copy)]
 pub struct TdAsk {
     pub length: u32,
     pub normals: usize,
@@ -80,8 +82,8 @@ pub fn log_request(
     requires { record_length * (records + 1) ≤ length log.old }
     ensures { Meets (counted records (when (not (eqb asked.normals 0)) (in_request addr asked.length endpoint_id slot_id))) records log.old result log.new }
 {
-    let request = log::in_request(addr, asked.length, endpoint_id, slot_id);
-    log::put_when(log, records, asked.normals != 0, request)
+    let request = call_log::in_request(addr, asked.length, endpoint_id, slot_id);
+    call_log::put_when(log, records, asked.normals != 0, request)
 }
 
 // The TD whose data starts at byte `start` of the joined data.

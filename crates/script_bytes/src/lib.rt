@@ -1,4 +1,6 @@
 // The bytes that a call script leaves unsaid: those of guest memory and those of the device; and the sum over the bytes collected.
+#![tactic(auto)]
+
 ghost use Rattle.std.specs.Prelude.{◌≡◌, ◌<◌, ◌≤◌, length};
 ghost use Rattle.trb.specs.Limits.{max_collected};
 ghost use Rattle.script_bytes.specs.Bytes.{guest_byte, device_byte, guest_bytes, device_bytes, weighted_sum};

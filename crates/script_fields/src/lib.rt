@@ -1,4 +1,6 @@
 // A line of a script taken apart: its letter, and the fields behind it, each behind one space.
+#![tactic(auto)]
+
 ghost use Rattle.std.specs.Prelude.{◌≡◌, ◌+◌, ◌≤◌, length, drop};
 ghost use Rattle.script_fields.specs.Words.{first_word};
 ghost use Rattle.script_fields.specs.Fields.{max_numbers, no_fields, fields_of, within_limits, raw_fields_of, no_raw_fields};
@@ -9,7 +11,7 @@ use call_number::Number;
 pub const MAX_NUMBERS: usize = 5;
 
 // A line's letter, and the numbers behind it; zeros where the line has no such form, and behind the last number.
-#[derive(Drop)]
+#[derive(Clone, Copy)]
 pub struct Fields {
     pub good: bool,
     pub letter: u8,
@@ -100,7 +102,7 @@ pub fn within_limits(fields: Fields, limits: &[u64]) -> bool
 // ---- Raw TRBs
 
 // A line whose last field is a raw TRB: its letter, the numbers between them, and the TRB's bytes.
-#[derive(Drop)]
+#[derive(Clone, Copy)]
 pub struct RawFields {
     pub good: bool,
     pub letter: u8,

@@ -1,17 +1,29 @@
 // The lines of standard input, each ended by a line feed, and the text that answers them.
-ghost use Rattle.std.specs.Prelude.{◌≡◌, ◌+◌, ◌≤◌, ◌<◌, min, length};
+#![tactic(auto)]
+
+ghost use Rattle.std.specs.Prelude.{◌≡◌, ◌+◌, ◌≤◌, ◌<◌, min, length, IfOk};
 ghost use Rattle.script_lines.specs.Lines.{LineEnd, MovedToFront, ReadBehind, MakesRoom, counted, TurnsLeft};
 ghost use Rattle.script_lines.specs.Steps.{no_line, at_end, Refills, step_of, NextLine};
 
-use libc::{STDIN_FILENO, STDOUT_FILENO};
+use std::io;
+use std::io::{Read, Write};
 
 // Characters of the longest line that can be good: `u`, an address and a raw TRB, and the spaces between them.
 pub const MAX_LINE: usize = 3 + numerals::HEX_PLACES + call_number::RAW_PLACES;
 
 // ---- Lines in, by a buffer that is filled piece by piece
 
+// Bytes of the input that one read may give.
+pub const PIECE: usize = 65536;
+
+pub fn input_buffer() -> [u8; PIECE]
+    ensures { length result ≡ 65536 }
+{
+    [0u8; PIECE]
+}
+
 // What a step found: a whole line, a piece of input, the input's end, or a line that is too long or that no line feed ends.
-#[derive(Drop)]
+#[derive(Clone, Copy)]
 pub enum Found {
     Line,
     Piece,
@@ -21,7 +33,7 @@ pub enum Found {
 
 // What was read behind an unfinished line: a piece, with so many bytes in the buffer then; or nothing, since the input has ended there, or ended in the
 // line, or the line is too long.
-#[derive(Drop)]
+#[derive(Clone, Copy)]
 pub enum Refilled {
     Piece(usize),
     End,
@@ -29,7 +41,7 @@ pub enum Refilled {
 }
 
 // A line stands from `from` up to `end`; the next step starts at `next`, with `filled` bytes in the buffer.
-#[derive(Drop)]
+#[derive(Clone, Copy)]
 pub struct Step {
     pub found: Found,
     pub from: usize,
@@ -54,13 +66,12 @@ pub fn line_end(input: &[u8], from: usize) -> usize
 }
 
 // Reads behind the first `held` bytes of the input. Returns how many bytes there are then.
-fn read_behind(input: &mut [u8], held: usize) -> usize
+fn read_behind<R: Read>(reader: &mut R, input: &mut [u8], held: usize) -> io::Result<usize>
     requires { held ≤ length input.old }
-    ensures { ReadBehind held result input.old input.new }
+    ensures { IfOk result (λ r. ReadBehind held r input.old input.new) }
 {
-    let rest = &mut input[held..];
-    let got = libc::read(STDIN_FILENO, rest);
-    held + io::count(got, rest)
+    let got = reader.read(&mut input[held..])?;
+    Ok(held + got)
 }
 
 // Moves the bytes from `from` up to `end` to the front. Returns how many they are.
@@ -102,19 +113,24 @@ fn at_end(held: usize) -> Refilled
 }
 
 // Reads a piece of input behind the bytes of an unfinished line, which then stand at the front.
-pub fn refill(input: &mut [u8], from: usize, filled: usize) -> Refilled
+pub fn refill<R: Read>(
+    reader: &mut R,
+    input: &mut [u8],
+    from: usize,
+    filled: usize,
+) -> io::Result<Refilled>
     requires { (from ≤ filled) × (filled ≤ length input.old) }
-    ensures { Refills result input.old from filled input.new }
+    ensures { IfOk result (λ r. Refills r input.old from filled input.new) }
 {
     let held = move_to_front(input, from, filled);
     if MAX_LINE < held {
-        return Refilled::Unfinished;
+        return Ok(Refilled::Unfinished);
     }
-    let end = read_behind(input, held);
+    let end = read_behind(reader, input, held)?;
     if end == held {
-        return at_end(held);
+        return Ok(at_end(held));
     }
-    Refilled::Piece(end)
+    Ok(Refilled::Piece(end))
 }
 
 // No line was found.
@@ -129,22 +145,27 @@ fn step_of(refilled: Refilled) -> Step
 }
 
 // The next line of the input, or a further piece of it.
-pub fn next_line(input: &mut [u8], from: usize, filled: usize) -> Step
+pub fn next_line<R: Read>(
+    reader: &mut R,
+    input: &mut [u8],
+    from: usize,
+    filled: usize,
+) -> io::Result<Step>
     requires { (from ≤ filled) × (filled ≤ length input.old) }
-    ensures { NextLine input.old from filled result input.new }
+    ensures { IfOk result (λ s. NextLine input.old from filled s input.new) }
 {
     let end = line_end(&input[..filled], from);
     if end < filled {
-        return Step {
+        return Ok(Step {
             found: Found::Line,
             from: from,
             end: end,
             next: end + 1,
             filled: filled,
-        };
+        });
     }
-    let refilled = refill(input, from, filled);
-    step_of(refilled)
+    let refilled = refill(reader, input, from, filled)?;
+    Ok(step_of(refilled))
 }
 
 // A proved loop has to end, and nothing says that the input does: so a loop over lines counts its turns down, from a number that no run uses up.
@@ -184,34 +205,44 @@ fn least(n: usize, room: usize) -> usize
 }
 
 // Writes the text out where there may be no room behind it for an answer of so many characters. Returns where the next answer starts.
-pub fn make_room(text: &[u8], end: usize, most: usize) -> usize
+pub fn make_room<W: Write>(
+    writer: &mut W,
+    text: &[u8],
+    end: usize,
+    most: usize,
+) -> io::Result<usize>
     requires { most ≤ length text.now }
-    ensures { MakesRoom (length text.now) end most result }
+    ensures { IfOk result (λ r. MakesRoom (length text.now) end most r) }
 {
     if end <= text.len() - most {
-        return end;
+        return Ok(end);
     }
-    write_text(text, end);
-    0
+    write_text(writer, text, end)?;
+    Ok(0)
 }
 
 // Writes out the number of the bad line at which a run ended, if it did. Its output is all that it does, and no contract can state that.
-pub fn print_bad_line(lines: u64, good: bool) {
+pub fn print_bad_line<W: Write>(writer: &mut W, lines: u64, good: bool) -> io::Result<()> {
     if !good {
-        io::write_all(STDOUT_FILENO, b"bad line ");
-        io::print_decimal(STDOUT_FILENO, lines);
-        io::write_all(STDOUT_FILENO, b"\n");
+        writeln!(writer, "bad line {lines}")?;
     }
+    Ok(())
 }
 
 // Writes out the first `end` characters of the text, or as many as it has, likewise.
-pub fn write_text(text: &[u8], end: usize) {
+pub fn write_text<W: Write>(writer: &mut W, text: &[u8], end: usize) -> io::Result<()> {
     let written = least(end, text.len());
-    io::write_all(STDOUT_FILENO, &text[..written]);
+    writer.write_all(&text[..written])
 }
 
 // Writes out what is left of the text and, where the run ended at a bad line, its number, likewise.
-pub fn finish(text: &[u8], end: usize, lines: u64, good: bool) {
-    write_text(text, end);
-    print_bad_line(lines, good);
+pub fn finish<W: Write>(
+    writer: &mut W,
+    text: &[u8],
+    end: usize,
+    lines: u64,
+    good: bool,
+) -> io::Result<()> {
+    write_text(writer, text, end)?;
+    print_bad_line(writer, lines, good)
 }

@@ -1,4 +1,6 @@
 // The whole lines of a piece of a call script, taken one after the other.
+#![tactic(auto)]
+
 ghost use Rattle.std.specs.Prelude.{◌≡◌, ◌≤◌, length};
 ghost use Rattle.trb.specs.Limits.{min_row_log};
 ghost use Rattle.state_text.specs.Widths.{max_answer};
@@ -8,7 +10,7 @@ ghost use Rattle.script_pieces.specs.Pieces.{TakesLines};
 use session::Session;
 
 // What was taken: the session behind it, the index of the first byte that was not, how many lines, where their text ends, and whether every line was good.
-#[derive(Drop)]
+#[derive(Clone, Copy)]
 pub struct Taken {
     pub session: Session,
     pub next: usize,

@@ -1,4 +1,6 @@
 // A line of a call script, taken: its call is made, and its answer written.
+#![tactic(auto)]
+
 ghost use Rattle.std.specs.Prelude.{◌≡◌, ◌+◌, ◌≤◌, length};
 ghost use Rattle.trb.specs.Limits.{min_row_log};
 ghost use Rattle.state_text.specs.Widths.{max_answer};

@@ -1,4 +1,6 @@
 // A decoded TRB as a script writes it: KIND ADDR FLAGS A B.
+#![tactic(auto)]
+
 ghost use Rattle.std.specs.Prelude.{◌≡◌, ◌<◌};
 ghost use Rattle.script_trb.specs.Trbs.{has_flag, allows, has_only_flags, has_only, with_variant, normal_trb, setup_stage_trb, data_stage_trb, status_stage_trb, event_data_trb, no_op_trb, bare_trb, trb_of};
 
@@ -7,14 +9,14 @@ use trb::{
     TransferTrbVariant,
 };
 
-#[derive(Drop)]
+#[derive(Clone, Copy)]
 pub enum ScriptTrb {
     Is(TransferTrb),
     Bad,
 }
 
 // The fields of a TRB.
-#[derive(Drop)]
+#[derive(Clone, Copy)]
 pub struct TrbFields {
     pub kind: u64,
     pub addr: u64,

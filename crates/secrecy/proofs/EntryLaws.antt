@@ -12,8 +12,8 @@ use Rattle.trb.specs.declared.EndpointId.{EndpointId}
 use Rattle.trb.specs.declared.InTrbProcessingResult.{InTrbProcessingResult}
 use Rattle.trb.specs.declared.SlotId.{SlotId}
 use Rattle.trb.specs.declared.TransferTrb.{TransferTrb}
-use Rattle.log.specs.Calls.{Out, Meets}
-use Rattle.log.specs.declared.Record.{Record}
+use Rattle.call_log.specs.Calls.{Out, Meets}
+use Rattle.call_log.specs.declared.Record.{Record}
 use Rattle.log_print.specs.declared.Printed.{Printed}
 use Rattle.log_print.specs.LogText.{Prints}
 use Rattle.guest_memory.specs.Places.{Memory, regions_of}

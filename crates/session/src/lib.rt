@@ -1,4 +1,6 @@
 // What a call script has come to, and each change of it.
+#![tactic(auto)]
+
 ghost use Rattle.std.specs.Prelude.{◌≡◌};
 ghost use Rattle.session.specs.Sessions.{new_session, is_in_endpoint, with_in_block, with_control_block, without_row, lent_of, quiet_ran, bad_quiet, good_quiet, in_ran, control_ran};
 
@@ -17,7 +19,7 @@ pub const FIRST_BASE: u64 = 0x8000;
 pub const FIRST_LENGTH: usize = 0x40000;
 
 // Which endpoint calls are made on.
-#[derive(Drop)]
+#[derive(Clone, Copy)]
 pub enum Endpoint {
     Nothing,
     In,
@@ -26,7 +28,7 @@ pub enum Endpoint {
 
 // What a script has come to. The row that is being written down has one TRB or result more than the places at most: what is behind the
 // places is counted, not kept, since such a row is refused.
-#[derive(Drop)]
+#[derive(Clone, Copy)]
 pub struct Session {
     pub endpoint: Endpoint,
     pub in_block: InBlock,
@@ -44,7 +46,7 @@ pub struct Session {
 }
 
 // What a line leaves: the session, the index behind the answer, how many records were logged, and whether the line was good.
-#[derive(Drop)]
+#[derive(Clone, Copy)]
 pub struct Ran {
     pub session: Session,
     pub end: usize,

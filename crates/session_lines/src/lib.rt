@@ -1,4 +1,6 @@
 // The lines of a call script that print nothing: guest memory, lengths of the lent buffers, the row that is being written down.
+#![tactic(auto)]
+
 ghost use Rattle.std.specs.Prelude.{◌≡◌, ◌≤◌};
 ghost use Rattle.trb.specs.Limits.{max_row};
 ghost use Rattle.session.specs.Sessions.{with_lengths, quiet_ran, good_quiet};

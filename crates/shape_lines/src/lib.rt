@@ -1,6 +1,8 @@
 // R-10: lines of shapes. Each function takes the letters word[..chosen], and lays a line for each word of `left` letters that may follow them,
 // from index `at` of the text on; it returns the index behind them. A line for which the text has no room is left out. Here are the phases
 // from the Status Stage TRB on.
+#![tactic(auto)]
+
 ghost use Rattle.std.specs.Prelude.{◌++◌, ◌∷◌, [], ◌+◌, ◌≤◌, length, take};
 ghost use Rattle.numerals.specs.Written.{Written};
 ghost use Rattle.log_text.specs.Lines.{line_feed};

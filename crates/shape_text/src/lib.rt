@@ -1,5 +1,7 @@
 // R-10: every legal control chain, as a line of letters: the phases of document 01's table up to the Status Stage TRB, in the form of
 // `shape_lines`.
+#![tactic(auto)]
+
 ghost use Rattle.std.specs.Prelude.{◌++◌, [], ◌+◌, ◌≤◌, ◌<◌, length, take};
 ghost use Rattle.numerals.specs.Written.{Written};
 ghost use Rattle.shapes.specs.Letters.{E, N, d, e, n, t};

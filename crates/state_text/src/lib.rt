@@ -1,4 +1,6 @@
 // The state line of an answer, laid into a text buffer. Every writer returns the index behind what it wrote.
+#![tactic(auto)]
+
 ghost use Rattle.std.specs.Prelude.{◌≡◌, cond, ◌+◌, ◌*◌, ◌≤◌, length};
 ghost use Rattle.numerals.specs.Digits.{bytes_hex};
 ghost use Rattle.numerals.specs.Written.{Written};
@@ -14,7 +16,7 @@ use trb::{ControlSubmissionState, ControlTransferState, TdBasedNormalSubmissionS
 // Characters of the longest answer: its first line, a line for each record, carry-out's line and a state line.
 pub const MAX_ANSWER: usize = 56 + trb::MAX_ROW_RECORDS * log_text::MAX_LINE + 15 + 131;
 
-#[derive(Drop)]
+#[derive(Clone, Copy)]
 pub struct AnswerLimits {
     pub answer: usize,
 }
@@ -142,7 +144,7 @@ fn put_request(text: &mut [u8], at: usize, request: UsbRequest) -> usize
 }
 
 // What a control block is at; `sum` is the sum over the collected bytes of (k + 1) times byte k, modulo 2^32.
-#[derive(Drop)]
+#[derive(Clone, Copy)]
 pub struct ControlStanding {
     pub phase: ControlTransferState,
     pub state: ControlSubmissionState,

@@ -1,4 +1,6 @@
 // Stored logs of any length, checked, compacted and printed; each call answers with plain numbers.
+#![tactic(auto)]
+
 ghost use Rattle.std.specs.Prelude.{◌≡◌};
 ghost use Rattle.trb.specs.Questions.{first_no};
 ghost use Rattle.trb.specs.Refusals.{refusal_number};

@@ -1,8 +1,10 @@
 // The TRBs of a TD that move data, and Event Data, which reports how much was moved: IN and control alike.
 // Ports `realize_dma_trb` and `handle_event_data_trb`.
+#![tactic(auto)]
+
 ghost use Rattle.std.specs.Prelude.{◌≡◌, ◌+◌, ◌*◌, ◌≤◌, length};
 ghost use Rattle.trb.specs.Limits.{record_length};
-ghost use Rattle.log.specs.Calls.{Meets};
+ghost use Rattle.call_log.specs.Calls.{Meets};
 ghost use Rattle.td_part.specs.Parts.{Within, code_after, put_dma, realize_dma, handle_event_data};
 
 use td_part::{TdInfo, TdProcessingState, TdProgress, TrbDmaInfo};
@@ -25,15 +27,15 @@ pub fn put_dma(
     let state = progress.state;
     let moved = td_part::moved_of(td, progress, dma.transfer_length);
     let residual = dma.transfer_length - moved;
-    let write = log::guest_write(
+    let write = call_log::guest_write(
         dma.data_pointer,
         moved,
         progress.start,
         endpoint_id,
         slot_id,
     );
-    let event = log::transfer_event(dma.addr, residual, code, false, endpoint_id, slot_id);
-    let records = log::put_then(log, progress.records, write, due, event);
+    let event = call_log::transfer_event(dma.addr, residual, code, false, endpoint_id, slot_id);
+    let records = call_log::put_then(log, progress.records, write, due, event);
     let next_state = td_part::state_after(state, residual);
     let edtla = td_part::edtla_after(progress.edtla, moved);
     TdProgress {
@@ -83,7 +85,7 @@ pub fn handle_event_data_trb(
     let slot_id = td.slot_id;
     let state = progress.state;
     let code = code_after(state);
-    let event = log::transfer_event(
+    let event = call_log::transfer_event(
         event_data.event_data,
         progress.edtla,
         code,
@@ -91,7 +93,7 @@ pub fn handle_event_data_trb(
         endpoint_id,
         slot_id,
     );
-    let records = log::put_when(
+    let records = call_log::put_when(
         log,
         progress.records,
         event_data.interrupt_on_completion,

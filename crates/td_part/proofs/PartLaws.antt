@@ -5,10 +5,10 @@ use mathlib.Core.Bool.{Bool}
 use native.Mathlib.Omega.{arith}
 use Rattle.trb.specs.declared.CompletionCode.{CompletionCode}
 use Rattle.trb.specs.declared.EventDataTrb.{EventDataTrb}
-use Rattle.log.specs.declared.Record.{Record}
-use Rattle.log.specs.Calls.{Out, silent}
-use Rattle.log.specs.Records.{when}
-use Rattle.log.proofs.RecordLaws.{length-when}
+use Rattle.call_log.specs.declared.Record.{Record}
+use Rattle.call_log.specs.Calls.{Out, silent}
+use Rattle.call_log.specs.Records.{when}
+use Rattle.call_log.proofs.RecordLaws.{length-when}
 use Rattle.walks.proofs.WalkLaws.{Fine, fine-silent}
 use Rattle.td_part.specs.declared.TdInfo.{TdInfo}
 use Rattle.td_part.specs.declared.TdProgress.{TdProgress}

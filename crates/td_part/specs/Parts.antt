@@ -5,9 +5,9 @@ use Rattle.trb.specs.declared.CompletionCode.TheVariants.{Success, ShortPacket}
 use Rattle.trb.specs.declared.DataStageTrb.{DataStageTrb}
 use Rattle.trb.specs.declared.EventDataTrb.{EventDataTrb}
 use Rattle.trb.specs.declared.NormalTrb.{NormalTrb}
-use Rattle.log.specs.declared.Record.{Record}
-use Rattle.log.specs.Calls.{Out}
-use Rattle.log.specs.Records.{guest_write, transfer_event, when}
+use Rattle.call_log.specs.declared.Record.{Record}
+use Rattle.call_log.specs.Calls.{Out}
+use Rattle.call_log.specs.Records.{guest_write, transfer_event, when}
 use Rattle.td_part.specs.declared.TdInfo.{TdInfo}
 use Rattle.td_part.specs.declared.TdProgress.{TdProgress}
 use Rattle.td_part.specs.declared.TdProcessingState.{TdProcessingState}

@@ -1,11 +1,13 @@
 // What IN and control endpoints know alike of one TRB of a TD: bytes moved, residual, completion code, EDTLA. Ports `Edtla` and the tests of
 // `realize_dma_trb`.
+#![tactic(auto)]
+
 ghost use Rattle.std.specs.Prelude.{◌≡◌};
 ghost use Rattle.td_part.specs.Parts.{Within, of_normal, of_data_stage, edtla_after, moved_of, residual_of, code_for, due_for, state_after, at_start};
 
 use trb::{CompletionCode, DataStageTrb, EndpointId, NormalTrb, SlotId};
 
-#[derive(Drop)]
+#[derive(Clone, Copy)]
 pub enum TdProcessingState {
     Default,
     // The bytes that the short TRB missed.
@@ -13,7 +15,7 @@ pub enum TdProcessingState {
 }
 
 // What stays the same over a TD. The device's data is `data_length` bytes.
-#[derive(Drop)]
+#[derive(Clone, Copy)]
 pub struct TdInfo {
     pub endpoint_id: EndpointId,
     pub slot_id: SlotId,
@@ -21,7 +23,7 @@ pub struct TdInfo {
 }
 
 // What each TRB changes: where in the device's data the next write starts, the EDTLA, and the number of records logged.
-#[derive(Drop)]
+#[derive(Clone, Copy)]
 pub struct TdProgress {
     pub start: u32,
     pub edtla: u32,
@@ -30,7 +32,7 @@ pub struct TdProgress {
 }
 
 // A TRB that moves data, with its address; the Rust's trait of that name.
-#[derive(Drop)]
+#[derive(Clone, Copy)]
 pub struct TrbDmaInfo {
     pub data_pointer: u64,
     pub transfer_length: u32,

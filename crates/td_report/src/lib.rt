@@ -1,7 +1,9 @@
 // The TRBs of a TD that move no data and report: IN and control alike.
+#![tactic(auto)]
+
 ghost use Rattle.std.specs.Prelude.{◌+◌, ◌*◌, ◌≤◌, length};
 ghost use Rattle.trb.specs.Limits.{record_length};
-ghost use Rattle.log.specs.Calls.{Meets};
+ghost use Rattle.call_log.specs.Calls.{Meets};
 ghost use Rattle.td_part.specs.Parts.{report_trb, repeat_short, report_success};
 
 use td_part::{TdInfo, TdProgress};
@@ -24,8 +26,8 @@ fn report(
     let endpoint_id = td.endpoint_id;
     let slot_id = td.slot_id;
     let state = progress.state;
-    let event = log::transfer_event(addr, residual, code, false, endpoint_id, slot_id);
-    let records = log::put_when(log, progress.records, due, event);
+    let event = call_log::transfer_event(addr, residual, code, false, endpoint_id, slot_id);
+    let records = call_log::put_when(log, progress.records, due, event);
     TdProgress {
         start: progress.start,
         edtla: edtla,

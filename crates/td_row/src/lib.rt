@@ -1,7 +1,9 @@
 // The TD as a lent row of TRBs: answered as completion answers for a block in that mode that holds the row and awaits the device.
+#![tactic(auto)]
+
 ghost use Rattle.std.specs.Prelude.{◌≡◌, length, take};
-ghost use Rattle.log.specs.Calls.{Meets};
-ghost use Rattle.log.specs.Logs.{records_in};
+ghost use Rattle.call_log.specs.Calls.{Meets};
+ghost use Rattle.call_log.specs.Logs.{records_in};
 ghost use Rattle.in_td.specs.Td.{process_td};
 ghost use Rattle.in_block.specs.Facts.{held_test};
 ghost use Rattle.row_plan.specs.Rows.{CompletesRow, AccountedRow};

@@ -1,8 +1,10 @@
 // Rows of TRBs on a control endpoint, number 3 of slot 2, with guest memory of 131,072 bytes at address 0. Each TRB is submitted and
 // completed; where the endpoint then awaits the device, that sends 18 bytes. A line has the TRB's address and the answer, or the
 // result of the completion; the records that the call logged stand below it: kind, code, address, length, start, request type.
+#![tactic(auto)]
+
 use control_block::{ControlBlock, GuestRelease};
-use libc::STDOUT_FILENO;
+use std::io;
 use trb::{
     Answer, CompletionAnswer, ControlRequestProcessingResult, ControlSubmissionState, DataStageTrb,
     EndpointId, NormalTrb, Refusal, SetupStageTrb, SlotId, StatusStageTrb, TransferTrb,
@@ -87,75 +89,77 @@ fn unrecognized(addr: u64) -> TransferTrb {
 
 // ---- Printing
 
-fn print(text: &[u8]) {
-    io::write_all(STDOUT_FILENO, text);
+fn print(rt: &impl Print, text: &[u8]) -> io::Result<()> {
+    rt.write_all(text)
 }
 
-fn print_number(number: u64) {
-    print(b" ");
-    io::print_decimal(STDOUT_FILENO, number);
+fn print_number(rt: &impl Print, number: u64) -> io::Result<()> {
+    print(rt, b" ")?;
+    rt.print(number)
 }
 
-fn print_refusal(refusal: Refusal) {
+fn print_refusal(rt: &impl Print, refusal: Refusal) -> io::Result<()> {
     let number = trb::refusal_number(refusal);
-    print(b"refused");
-    print_number(number as u64);
+    print(rt, b"refused")?;
+    print_number(rt, number as u64)
 }
 
-fn print_answer(addr: u64, answer: Answer) {
-    print(b"TRB");
-    print_number(addr);
-    print(b": ");
+fn print_answer(rt: &impl Print, addr: u64, answer: Answer) -> io::Result<()> {
+    print(rt, b"TRB")?;
+    print_number(rt, addr)?;
+    print(rt, b": ")?;
     match answer {
-        Answer::Accepted => print(b"accepted"),
-        Answer::Refused(refusal) => print_refusal(refusal),
+        Answer::Accepted => print(rt, b"accepted")?,
+        Answer::Refused(refusal) => print_refusal(rt, refusal)?,
     }
-    print(b"\n");
+    print(rt, b"\n")
 }
 
-fn print_result(res: TrbProcessingResult) {
+fn print_result(rt: &impl Print, res: TrbProcessingResult) -> io::Result<()> {
     match res {
-        TrbProcessingResult::Ok => print(b"Ok"),
-        TrbProcessingResult::Stall => print(b"Stall"),
-        TrbProcessingResult::StallAt(_, _) => print(b"Stall at an address"),
-        TrbProcessingResult::TrbError => print(b"TrbError"),
-        TrbProcessingResult::TransactionError => print(b"TransactionError"),
-        TrbProcessingResult::TransactionErrorAt(_, _) => print(b"TransactionError at an address"),
-        TrbProcessingResult::Disconnect => print(b"Disconnect"),
+        TrbProcessingResult::Ok => print(rt, b"Ok"),
+        TrbProcessingResult::Stall => print(rt, b"Stall"),
+        TrbProcessingResult::StallAt(_, _) => print(rt, b"Stall at an address"),
+        TrbProcessingResult::TrbError => print(rt, b"TrbError"),
+        TrbProcessingResult::TransactionError => print(rt, b"TransactionError"),
+        TrbProcessingResult::TransactionErrorAt(_, _) => print(rt, b"TransactionError at an address"),
+        TrbProcessingResult::Disconnect => print(rt, b"Disconnect"),
     }
 }
 
-fn print_completion(answer: CompletionAnswer) {
-    print(b"  completed: ");
+fn print_completion(rt: &impl Print, answer: CompletionAnswer) -> io::Result<()> {
+    print(rt, b"  completed: ")?;
     match answer {
-        CompletionAnswer::Completed(result) => print_result(result),
-        CompletionAnswer::Refused(refusal) => print_refusal(refusal),
+        CompletionAnswer::Completed(result) => print_result(rt, result)?,
+        CompletionAnswer::Refused(refusal) => print_refusal(rt, refusal)?,
     }
-    print(b"\n");
+    print(rt, b"\n")
 }
 
-fn print_record(log: &[u8], index: usize) {
+fn print_record(rt: &impl Print, log: &[u8], index: usize) -> io::Result<()> {
     if index < trb::MAX_RECORDS {
         if trb::MIN_LOG <= log.len() {
-            let record = log::read_record(log, index);
-            print(b"   ");
-            print_number(record.kind as u64);
-            print_number(record.code as u64);
-            print_number(record.address);
-            print_number(record.length as u64);
-            print_number(record.start as u64);
-            print_number(record.request_type as u64);
-            print(b"\n");
+            let record = call_log::read_record(log, index);
+            print(rt, b"   ")?;
+            print_number(rt, record.kind as u64)?;
+            print_number(rt, record.code as u64)?;
+            print_number(rt, record.address)?;
+            print_number(rt, record.length as u64)?;
+            print_number(rt, record.start as u64)?;
+            print_number(rt, record.request_type as u64)?;
+            print(rt, b"\n")?;
         }
     }
+    Ok(())
 }
 
-fn print_records(log: &[u8], records: usize) {
+fn print_records(rt: &impl Print, log: &[u8], records: usize) -> io::Result<()> {
     let mut index = 0;
     while index < records {
-        print_record(log, index);
+        print_record(rt, log, index)?;
         index += 1;
     }
+    Ok(())
 }
 
 // ---- Calls
@@ -177,24 +181,31 @@ fn log_buffer() -> [u8; trb::MIN_LOG] {
     [0u8; trb::MIN_LOG]
 }
 
+// Bytes of the collect buffer that is lent.
+const COLLECT: usize = 65536;
+
+fn collect_buffer() -> [u8; COLLECT] {
+    [0u8; COLLECT]
+}
+
 // Completes, and prints what comes of it.
-fn complete(block: ControlBlock) -> ControlBlock {
+fn complete(rt: &impl Print, block: ControlBlock) -> io::Result<ControlBlock> {
     let mut log = log_buffer();
     let device = [7u8; 18];
     let state = block.state;
     let result = device_result(state);
     let completed = control_completion::next_completion(&mut log, block, result, &device);
     let answer = completed.answer;
-    print_completion(answer);
-    print_records(&log, completed.records);
+    print_completion(rt, answer)?;
+    print_records(rt, &log, completed.records)?;
     let next = completed.block;
-    next
+    Ok(next)
 }
 
 // Submits a TRB, and prints what comes of it.
-fn submit(window: &[u8], block: ControlBlock, t: TransferTrb) -> ControlBlock {
+fn submit(rt: &impl Print, window: &[u8], block: ControlBlock, t: TransferTrb) -> io::Result<ControlBlock> {
     let mut log = log_buffer();
-    let mut collect = io::large_buffer();
+    let mut collect = collect_buffer();
     let submitted = control_submission::submit_trb(
         &mut log,
         &mut collect,
@@ -206,29 +217,30 @@ fn submit(window: &[u8], block: ControlBlock, t: TransferTrb) -> ControlBlock {
         b"",
     );
     let answer = submitted.answer;
-    print_answer(t.addr, answer);
-    print_records(&log, submitted.records);
+    print_answer(rt, t.addr, answer)?;
+    print_records(rt, &log, submitted.records)?;
     let next = submitted.block;
-    next
+    Ok(next)
 }
 
 // Submits and completes the first `count` TRBs of a row.
-fn run(window: &[u8], block: ControlBlock, trbs: [TransferTrb; ROW], count: usize) {
+fn run(rt: &impl Print, window: &[u8], block: ControlBlock, trbs: [TransferTrb; ROW], count: usize) -> io::Result<()> {
     let mut next = block;
     let mut i = 0;
     while i < count {
         if i < ROW {
             let t = trbs[i];
-            next = complete(submit(window, next, t));
+            next = complete(rt, submit(rt, window, next, t)?)?;
         }
         i += 1;
     }
+    Ok(())
 }
 
 // Submits and completes a TRB, and prints nothing.
 fn pass(window: &[u8], block: ControlBlock, t: TransferTrb) -> ControlBlock {
     let mut log = log_buffer();
-    let mut collect = io::large_buffer();
+    let mut collect = collect_buffer();
     let submitted = control_submission::submit_trb(
         &mut log,
         &mut collect,
@@ -331,30 +343,30 @@ fn lengthened(window: &[u8], block: ControlBlock, rounds: usize) -> ControlBlock
     next
 }
 
-fn run_rows(window: &[u8]) {
-    print(b"An Unrecognized TRB before the status stage\n");
-    run(window, fresh(), unrecognized_in_a_chain(), 4);
-    print(b"65,536 bytes, 65,535, one more, none more\n");
-    run(window, fresh(), collected_limit(), 5);
-    print(b"The 512th held TRB, the 513th, and Setup\n");
+fn run_rows(rt: &impl Print, window: &[u8]) -> io::Result<()> {
+    print(rt, b"An Unrecognized TRB before the status stage\n")?;
+    run(rt, window, fresh(), unrecognized_in_a_chain(), 4)?;
+    print(rt, b"65,536 bytes, 65,535, one more, none more\n")?;
+    run(rt, window, fresh(), collected_limit(), 5)?;
+    print(rt, b"The 512th held TRB, the 513th, and Setup\n")?;
     let full = pass_often(
         window,
         started(window, 0),
         normal(4128, 0, true),
         trb::MAX_HELD - 3,
     );
-    run(window, full, held_limit(), 5);
+    run(rt, window, full, held_limit(), 5)?;
     // 32,769 TRBs of 131,071 bytes ask for 4,295,065,599 bytes, which is 98,303 modulo 2^32.
-    print(b"A request length past 2^32\n");
+    print(rt, b"A request length past 2^32\n")?;
     let long = lengthened(window, started(window, 131071), 64);
-    run(window, long, after_unrecognized(), 3);
+    run(rt, window, long, after_unrecognized(), 3)
 }
 
 fn guest_memory() -> [u8; 131072] {
     [0u8; 131072]
 }
 
-fn main() {
+fn main(rt: HostRuntime) -> io::Result<()> {
     let memory = guest_memory();
-    run_rows(&memory);
+    run_rows(&rt, &memory)
 }

@@ -1,9 +1,11 @@
 // Completes TDs and carries them out in one call, on guest memory in two regions of 8 bytes, all dots, with the device bytes a, b, c and so on. A line has a
 // case's name, the answer with the number of records, and the bytes of both regions afterwards.
+#![tactic(auto)]
+
 use in_block::InBlock;
 use in_endpoint::Completed;
 use in_td::InMode;
-use libc::STDOUT_FILENO;
+use std::io;
 use trb::{
     CompletionAnswer, EndpointId, InTrbProcessingResult, InTrbProcessingStatus, NormalTrb, SlotId,
     TdBasedNormalSubmissionState, TransferTrb, TransferTrbVariant,
@@ -15,29 +17,27 @@ const HIGH: u64 = 0x1_0000_0000;
 
 const SHORT_LOG: usize = trb::MIN_LOG - 1;
 
-fn print(text: &[u8]) {
-    io::write_all(STDOUT_FILENO, text);
+fn print(rt: &impl Print, text: &[u8]) -> io::Result<()> {
+    rt.write_all(text)
 }
 
-fn print_answer(done: Completed) {
+fn print_answer(rt: &impl Print, done: Completed) -> io::Result<()> {
     let answer = done.answer;
     match answer {
         CompletionAnswer::Completed(_) => {
-            print(b"accepted, ");
-            io::print_decimal(STDOUT_FILENO, done.records as u64);
-            print(b" records ");
+            let records = done.records;
+            print!(rt; "accepted, {records} records ")
         }
         CompletionAnswer::Refused(refusal) => {
             let number = trb::refusal_number(refusal);
-            print(b"refused ");
-            io::print_decimal(STDOUT_FILENO, number as u64);
-            print(b" ");
+            print!(rt; "refused {number} ")
         }
     }
 }
 
 // A completion of this block with the device's bytes `data` and this log, guest memory in two regions at these bases.
 fn case_with_log(
+    rt: &impl Print,
     name: &[u8],
     log: &mut [u8],
     block: InBlock,
@@ -45,31 +45,32 @@ fn case_with_log(
     data: &[u8],
     low_base: u64,
     high_base: u64,
-) {
+) -> io::Result<()> {
     let mut low = [b'.'; 8];
     let mut high = [b'.'; 8];
     let done = delivery::complete_and_carry_out(
         log, block, res, data, low_base, &mut low, high_base, &mut high,
     );
-    print(name);
-    print(b": ");
-    print_answer(done);
-    print(&low);
-    print(b" ");
-    print(&high);
-    print(b"\n");
+    print(rt, name)?;
+    print(rt, b": ")?;
+    print_answer(rt, done)?;
+    print(rt, &low)?;
+    print(rt, b" ")?;
+    print(rt, &high)?;
+    print(rt, b"\n")
 }
 
 fn case(
+    rt: &impl Print,
     name: &[u8],
     block: InBlock,
     res: InTrbProcessingResult,
     data: &[u8],
     low_base: u64,
     high_base: u64,
-) {
+) -> io::Result<()> {
     let mut log = [0u8; trb::MIN_LOG];
-    case_with_log(name, &mut log, block, res, data, low_base, high_base);
+    case_with_log(rt, name, &mut log, block, res, data, low_base, high_base)
 }
 
 // A Normal with interrupt-on-short.
@@ -108,66 +109,74 @@ fn frame(mode: InMode) -> InBlock {
     awaiting(mode, 0x8002, HIGH, 0x1_0000_0005)
 }
 
-fn given(name: &[u8], block: InBlock, status: InTrbProcessingStatus, data: &[u8]) {
+fn given(rt: &impl Print, name: &[u8], block: InBlock, status: InTrbProcessingStatus, data: &[u8]) -> io::Result<()> {
     case(
+ rt,
         name,
         block,
         InTrbProcessingResult::Given(status),
         data,
         LOW,
         HIGH,
-    );
+    )
 }
 
-fn frames() {
+fn frames(rt: &impl Print) -> io::Result<()> {
     let ported = frame(InMode::AsPorted);
     let strict = frame(InMode::Strict);
     given(
+ rt,
         b"all ten bytes",
         ported,
         InTrbProcessingStatus::Success,
         b"abcdefghij",
-    );
+    )?;
     given(
+ rt,
         b"more than were asked for",
         ported,
         InTrbProcessingStatus::Success,
         b"abcdefghijkl",
-    );
+    )?;
     given(
+ rt,
         b"six of ten",
         ported,
         InTrbProcessingStatus::Success,
         b"abcdef",
-    );
-    given(b"none", ported, InTrbProcessingStatus::Success, b"");
+    )?;
+    given(rt, b"none", ported, InTrbProcessingStatus::Success, b"")?;
     given(
+ rt,
         b"a stall behind six",
         ported,
         InTrbProcessingStatus::Stall,
         b"abcdef",
-    );
+    )?;
     given(
+ rt,
         b"a stall behind all ten",
         ported,
         InTrbProcessingStatus::Stall,
         b"abcdefghij",
-    );
+    )?;
     given(
+ rt,
         b"a stall behind all ten, strict",
         strict,
         InTrbProcessingStatus::Stall,
         b"abcdefghij",
-    );
+    )
 }
 
-fn questions() {
+fn questions(rt: &impl Print) -> io::Result<()> {
     let ported = frame(InMode::AsPorted);
     let success = InTrbProcessingResult::Given(InTrbProcessingStatus::Success);
     let fresh = in_block::fresh(EndpointId(3), SlotId(2), InMode::AsPorted);
     let unsound = in_block::fresh(EndpointId(0), SlotId(0), InMode::AsPorted);
     let mut short = [0u8; SHORT_LOG];
     case_with_log(
+ rt,
         b"a log one byte short",
         &mut short,
         ported,
@@ -175,71 +184,78 @@ fn questions() {
         b"abcdef",
         LOW,
         0x8007,
-    );
+    )?;
     case(
+ rt,
         b"regions that share an address",
         unsound,
         success,
         b"abcdef",
         LOW,
         0x8007,
-    );
-    case(b"an unsound block", unsound, success, b"abcdef", LOW, HIGH);
-    case(b"out of turn", fresh, success, b"abcdef", LOW, HIGH);
+    )?;
+    case(rt, b"an unsound block", unsound, success, b"abcdef", LOW, HIGH)?;
+    case(rt, b"out of turn", fresh, success, b"abcdef", LOW, HIGH)?;
     case(
+ rt,
         b"no device result",
         ported,
         InTrbProcessingResult::NoneGiven,
         b"abcdef",
         LOW,
         HIGH,
-    );
+    )
 }
 
-fn ranges() {
+fn ranges(rt: &impl Print) -> io::Result<()> {
     let outside = awaiting(InMode::AsPorted, 0x8002, 0x8008, HIGH);
     let across = awaiting(InMode::AsPorted, 0x8000, 0x8006, 0x800c);
     let beside = awaiting(InMode::AsPorted, 0x8000, 0x8004, 0x8008);
     let twice = awaiting(InMode::AsPorted, 0x8000, 0x8002, HIGH);
     let success = InTrbProcessingResult::Given(InTrbProcessingStatus::Success);
     given(
+ rt,
         b"a Normal outside, reached",
         outside,
         InTrbProcessingStatus::Success,
         b"abcde",
-    );
+    )?;
     given(
+ rt,
         b"a Normal outside, not reached",
         outside,
         InTrbProcessingStatus::Success,
         b"abcd",
-    );
+    )?;
     case(
+ rt,
         b"a Normal across regions that touch",
         across,
         success,
         b"abcdefgh",
         LOW,
         0x8008,
-    );
+    )?;
     case(
+ rt,
         b"up to and from where they touch",
         beside,
         success,
         b"abcdefghij",
         LOW,
         0x8008,
-    );
+    )?;
     given(
+ rt,
         b"an address named twice",
         twice,
         InTrbProcessingStatus::Success,
         b"abcdefghij",
-    );
+    )
 }
 
-fn main() {
-    frames();
-    questions();
-    ranges();
+fn main(rt: HostRuntime) -> io::Result<()> {
+    frames(&rt)?;
+    questions(&rt)?;
+    ranges(&rt)
 }

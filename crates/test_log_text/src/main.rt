@@ -1,8 +1,10 @@
 // Prints logs at the edges of question 10 and of the longest log that is printed, each under its name.
+#![tactic(auto)]
+
 ghost use Rattle.std.specs.Prelude.{◌≡◌, ◌+◌, length};
 ghost use Rattle.trb.specs.Limits.{max_printed_log, record_length};
 
-use libc::STDOUT_FILENO;
+use std::io;
 use trb::Answer;
 
 // Records of kind 1, every byte 1: one more than the longest log that is printed has.
@@ -13,70 +15,74 @@ fn ones() -> [u8; trb::MAX_PRINTED_LOG + trb::RECORD_LENGTH]
 }
 
 // Writes a name, and what the log prints, or where that is long only how long it is.
-fn show(name: &[u8], log: &[u8]) {
-    io::write_all(STDOUT_FILENO, name);
+fn show(rt: &impl Print, name: &[u8], log: &[u8]) -> io::Result<()> {
+    rt.write_all(name)?;
     let mut text = log_print::text_buffer();
     let printed = log_print::print_log(log, &mut text);
     let end = printed.length;
     if end < 100 {
-        io::write_all(STDOUT_FILENO, &text[..end]);
+        rt.write_all(&text[..end])
     } else {
-        io::print_decimal(STDOUT_FILENO, end as u64);
-        io::write_all(STDOUT_FILENO, b" characters\n");
+        println!(rt; "{end} characters")
     }
 }
 
 // The first bytes of `ones`.
-fn show_ones(name: &[u8], count: usize) {
+fn show_ones(rt: &impl Print, name: &[u8], count: usize) -> io::Result<()> {
     let log = ones();
     if count <= log.len() {
-        show(name, &log[..count]);
+        show(rt, name, &log[..count])?;
     }
+    Ok(())
 }
 
 // Two records, the first of kind 0.
-fn kind_zero() {
+fn kind_zero(rt: &impl Print) -> io::Result<()> {
     let mut log = [1u8; 64];
     log[0] = 0;
-    show(b"64 bytes, kind 0 in the first record\n", &log);
+    show(rt, b"64 bytes, kind 0 in the first record\n", &log)
 }
 
 // Two records, the last of kind 4.
-fn kind_four() {
+fn kind_four(rt: &impl Print) -> io::Result<()> {
     let mut log = [1u8; 64];
     log[32] = 4;
-    show(b"64 bytes, kind 4 in the last record\n", &log);
+    show(rt, b"64 bytes, kind 4 in the last record\n", &log)
 }
 
 // A text buffer with no room for every text.
-fn short_buffer() {
+fn short_buffer(rt: &impl Print) -> io::Result<()> {
     let log = [1u8; 32];
     let mut text = [b'.'; 80];
     let printed = log_print::print_log(&log, &mut text);
     let answer = printed.answer;
     match answer {
         Answer::Accepted => {
-            io::write_all(STDOUT_FILENO, b"accepted");
+            rt.print("accepted")?;
         }
         Answer::Refused(refusal) => {
-            io::write_all(STDOUT_FILENO, b"a text buffer of 80 bytes\nrefused ");
-            io::print_decimal(STDOUT_FILENO, trb::refusal_number(refusal) as u64);
+            let number = trb::refusal_number(refusal);
+            print!(rt; "a text buffer of 80 bytes\nrefused {number}")?;
         }
     }
-    io::write_all(STDOUT_FILENO, b"\n");
-    io::write_all(STDOUT_FILENO, &text);
-    io::write_all(STDOUT_FILENO, b"\n");
+    rt.write_all(b"\n")?;
+    rt.write_all(&text)?;
+    rt.write_all(b"\n")
 }
 
-fn main() {
-    show_ones(b"no bytes\n", 0);
-    show_ones(b"31 bytes\n", 31);
-    show_ones(b"32 bytes\n", 32);
-    show_ones(b"33 bytes\n", 33);
-    kind_zero();
-    kind_four();
-    show_ones(b"65,536 bytes\n", trb::MAX_PRINTED_LOG);
-    show_ones(b"65,537 bytes\n", trb::MAX_PRINTED_LOG + 1);
-    show_ones(b"65,568 bytes\n", trb::MAX_PRINTED_LOG + trb::RECORD_LENGTH);
-    short_buffer();
+fn main(rt: HostRuntime) -> io::Result<()> {
+    show_ones(&rt, b"no bytes\n", 0)?;
+    show_ones(&rt, b"31 bytes\n", 31)?;
+    show_ones(&rt, b"32 bytes\n", 32)?;
+    show_ones(&rt, b"33 bytes\n", 33)?;
+    kind_zero(&rt)?;
+    kind_four(&rt)?;
+    show_ones(&rt, b"65,536 bytes\n", trb::MAX_PRINTED_LOG)?;
+    show_ones(&rt, b"65,537 bytes\n", trb::MAX_PRINTED_LOG + 1)?;
+    show_ones(
+        &rt,
+        b"65,568 bytes\n",
+        trb::MAX_PRINTED_LOG + trb::RECORD_LENGTH,
+    )?;
+    short_buffer(&rt)
 }

@@ -1,10 +1,12 @@
 // Completes rows of TDs and carries them out in one call, on guest memory in two regions of 8 bytes, all dots at first, with the joined device bytes a, b, c and so on. A line has
 // a case's name, the answer with the number of records and of TDs finished well, and the bytes of both regions afterwards.
+#![tactic(auto)]
+
 use in_block::InBlock;
 use in_row::TdsCompleted;
 use in_td::InMode;
-use libc::STDOUT_FILENO;
 use row_walk::TdResult;
+use std::io;
 use trb::{
     CompletionAnswer, EndpointId, InTrbProcessingStatus, NoOpTrb, NormalTrb, SlotId,
     TdBasedNormalSubmissionState, TransferTrb, TransferTrbVariant,
@@ -19,45 +21,42 @@ const SHORT_LOG: usize = trb::MIN_ROW_LOG - 1;
 const TOO_LONG: u32 = trb::MAX_TRANSFER_LENGTH + 1;
 
 // A row of four TRBs, its TDs, and what the device gave for each.
-#[derive(Drop)]
+#[derive(Clone, Copy)]
 struct Row {
     trbs: [TransferTrb; 4],
     results: [TdResult; 3],
     tds: usize,
 }
 
-fn print(text: &[u8]) {
-    io::write_all(STDOUT_FILENO, text);
+fn print(rt: &impl Print, text: &[u8]) -> io::Result<()> {
+    rt.write_all(text)
 }
 
-fn print_answer(done: TdsCompleted) {
+fn print_answer(rt: &impl Print, done: TdsCompleted) -> io::Result<()> {
     let answer = done.answer;
     match answer {
         CompletionAnswer::Completed(_) => {
-            print(b"accepted, ");
-            io::print_decimal(STDOUT_FILENO, done.records as u64);
-            print(b" records, ");
-            io::print_decimal(STDOUT_FILENO, done.finished as u64);
-            print(b" finished ");
+            let records = done.records;
+            let finished = done.finished;
+            print!(rt; "accepted, {records} records, {finished} finished ")
         }
         CompletionAnswer::Refused(refusal) => {
             let number = trb::refusal_number(refusal);
-            print(b"refused ");
-            io::print_decimal(STDOUT_FILENO, number as u64);
-            print(b" ");
+            print!(rt; "refused {number} ")
         }
     }
 }
 
 // A row on this block, with the joined bytes `data` and this log, guest memory in two regions at these bases.
 fn case_with_log(
+    rt: &impl Print,
     name: &[u8],
     log: &mut [u8],
     block: InBlock,
     row: Row,
     data: &[u8],
     high_base: u64,
-) {
+) -> io::Result<()> {
     let mut low = [b'.'; 8];
     let mut high = [b'.'; 8];
     let mut trbs = [held::blank(); trb::MAX_ROW];
@@ -79,18 +78,18 @@ fn case_with_log(
     let done = row_delivery::complete_tds_and_carry_out(
         log, block, trbs, 4, results, tds, data, LOW, &mut low, high_base, &mut high,
     );
-    print(name);
-    print(b": ");
-    print_answer(done);
-    print(&low);
-    print(b" ");
-    print(&high);
-    print(b"\n");
+    print(rt, name)?;
+    print(rt, b": ")?;
+    print_answer(rt, done)?;
+    print(rt, &low)?;
+    print(rt, b" ")?;
+    print(rt, &high)?;
+    print(rt, b"\n")
 }
 
-fn case(name: &[u8], block: InBlock, row: Row, data: &[u8], high_base: u64) {
+fn case(rt: &impl Print, name: &[u8], block: InBlock, row: Row, data: &[u8], high_base: u64) -> io::Result<()> {
     let mut log = [0u8; trb::MIN_ROW_LOG];
-    case_with_log(name, &mut log, block, row, data, high_base);
+    case_with_log(rt, name, &mut log, block, row, data, high_base)
 }
 
 // A Normal with interrupt-on-short.
@@ -157,61 +156,69 @@ fn awaiting() -> InBlock {
     }
 }
 
-fn given(name: &[u8], mode: InMode, row: Row, data: &[u8]) {
-    case(name, fresh(mode), row, data, HIGH);
+fn given(rt: &impl Print, name: &[u8], mode: InMode, row: Row, data: &[u8]) -> io::Result<()> {
+    case(rt, name, fresh(mode), row, data, HIGH)
 }
 
-fn rows() {
+fn rows(rt: &impl Print) -> io::Result<()> {
     let success = InTrbProcessingStatus::Success;
     let stall = InTrbProcessingStatus::Stall;
     given(
+ rt,
         b"four bytes and four",
         InMode::AsPorted,
         frames(0x8003, gave(success, 4), gave(success, 4)),
         b"abcdefgh",
-    );
+    )?;
     given(
+ rt,
         b"three bytes and two",
         InMode::AsPorted,
         frames(0x8003, gave(success, 3), gave(success, 2)),
         b"abcde",
-    );
+    )?;
     given(
+ rt,
         b"more than were asked for, and four",
         InMode::AsPorted,
         frames(0x8003, gave(success, 6), gave(success, 4)),
         b"abcdefghij",
-    );
+    )?;
     given(
+ rt,
         b"none and four",
         InMode::AsPorted,
         frames(0x8003, gave(success, 0), gave(success, 4)),
         b"abcd",
-    );
+    )?;
     given(
+ rt,
         b"a stall behind three, the second not started",
         InMode::AsPorted,
         frames(0x8003, gave(stall, 3), gave(success, 4)),
         b"abcdefg",
-    );
+    )?;
     given(
+ rt,
         b"a stall behind all four",
         InMode::AsPorted,
         frames(0x8003, gave(stall, 4), gave(success, 4)),
         b"abcdefgh",
-    );
+    )?;
     given(
+ rt,
         b"a stall behind all four, strict",
         InMode::Strict,
         frames(0x8003, gave(stall, 4), gave(success, 4)),
         b"abcdefgh",
-    );
+    )?;
     given(
+ rt,
         b"an address named twice",
         InMode::AsPorted,
         frames(0x8002, gave(success, 4), gave(success, 4)),
         b"abcdefgh",
-    );
+    )?;
     let local = Row {
         trbs: [
             normal(0x1000, 0x8001, 2, true, false),
@@ -222,10 +229,10 @@ fn rows() {
         results: [gave(success, 2), gave(success, 0), gave(success, 4)],
         tds: 3,
     };
-    given(b"a NoOp between", InMode::AsPorted, local, b"abcdef");
+    given(rt, b"a NoOp between", InMode::AsPorted, local, b"abcdef")
 }
 
-fn questions() {
+fn questions(rt: &impl Print) -> io::Result<()> {
     let success = InTrbProcessingStatus::Success;
     let right = frames(0x8003, gave(success, 4), gave(success, 4));
     let outside = frames(0x8006, gave(success, 4), gave(success, 0));
@@ -234,23 +241,25 @@ fn questions() {
     let block = fresh(InMode::AsPorted);
     let mut short = [0u8; SHORT_LOG];
     case_with_log(
+ rt,
         b"a log one byte short",
         &mut short,
         unsound,
         right,
         b"abcdefgh",
         0x8007,
-    );
+    )?;
     case(
+ rt,
         b"regions that share an address",
         unsound,
         right,
         b"abcdefgh",
         0x8007,
-    );
-    case(b"an unsound block", unsound, right, b"abcdefg", HIGH);
-    case(b"out of turn", waiting, right, b"abcdefg", HIGH);
-    case(b"a byte of data too few", block, outside, b"abc", HIGH);
+    )?;
+    case(rt, b"an unsound block", unsound, right, b"abcdefg", HIGH)?;
+    case(rt, b"out of turn", waiting, right, b"abcdefg", HIGH)?;
+    case(rt, b"a byte of data too few", block, outside, b"abc", HIGH)?;
     let long = Row {
         trbs: [
             normal(0x1000, 0x8001, 2, true, false),
@@ -261,7 +270,7 @@ fn questions() {
         results: [gave(success, 2), gave(success, 0), gave(success, 0)],
         tds: 3,
     };
-    case(b"a Normal over length", block, long, b"ab", HIGH);
+    case(rt, b"a Normal over length", block, long, b"ab", HIGH)?;
     let immediate = Row {
         trbs: [
             normal(0x1000, 0x8001, 2, true, false),
@@ -272,17 +281,18 @@ fn questions() {
         results: [gave(success, 2), gave(success, 0), gave(success, 0)],
         tds: 3,
     };
-    case(b"immediate data", block, immediate, b"ab", HIGH);
+    case(rt, b"immediate data", block, immediate, b"ab", HIGH)?;
     case(
+ rt,
         b"a Normal outside, not reached",
         block,
         outside,
         b"abcd",
         HIGH,
-    );
+    )
 }
 
-fn main() {
-    rows();
-    questions();
+fn main(rt: HostRuntime) -> io::Result<()> {
+    rows(&rt)?;
+    questions(&rt)
 }

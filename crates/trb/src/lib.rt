@@ -1,5 +1,7 @@
 // The vocabulary of the endpoint engine: ids, TRBs, completion codes, device results, refusals and limits.
 // Ports trb.rs, real_endpoint_handle.rs and usbrequest.rs, and the result and state enums of endpoint_handle.rs.
+#![tactic(auto)]
+
 ghost use Rattle.std.specs.Prelude.{◌≡◌};
 ghost use Rattle.trb.specs.Answers.{is_accepted};
 ghost use Rattle.trb.specs.Codes.{code_number};
@@ -47,7 +49,7 @@ pub const MIN_ROW_LOG: usize = RECORD_LENGTH * MAX_ROW_RECORDS;
 // Bytes of the longest log that is printed.
 pub const MAX_PRINTED_LOG: usize = 65536;
 
-#[derive(Drop)]
+#[derive(Clone, Copy)]
 pub struct LimitTable {
     pub held: usize,
     pub transfer_length: u32,
@@ -85,10 +87,10 @@ pub fn limits() -> LimitTable
 
 // ---- Ids: two types, so that neither can be handed over as the other.
 
-#[derive(Drop)]
+#[derive(Clone, Copy)]
 pub struct EndpointId(pub u8);
 
-#[derive(Drop)]
+#[derive(Clone, Copy)]
 pub struct SlotId(pub u8);
 
 // Is the endpoint id 1 to 31 and the slot id 1 to 255?
@@ -107,7 +109,7 @@ pub fn ids_in_range(endpoint_id: EndpointId, slot_id: SlotId) -> bool
 // ---- TRBs
 
 // xHCI 1.2, 6.4.1.1
-#[derive(Drop)]
+#[derive(Clone, Copy)]
 pub struct NormalTrb {
     pub data_pointer: u64,
     pub transfer_length: u32,
@@ -118,7 +120,7 @@ pub struct NormalTrb {
 }
 
 // xHCI 1.2, 6.4.1.2.1; `length` is the setup packet's wLength, which nothing here uses.
-#[derive(Drop)]
+#[derive(Clone, Copy)]
 pub struct SetupStageTrb {
     pub request_type: u8,
     pub request: u8,
@@ -129,7 +131,7 @@ pub struct SetupStageTrb {
 }
 
 // xHCI 1.2, 6.4.1.2.2
-#[derive(Drop)]
+#[derive(Clone, Copy)]
 pub struct DataStageTrb {
     pub data_pointer: u64,
     pub transfer_length: u32,
@@ -141,7 +143,7 @@ pub struct DataStageTrb {
 }
 
 // xHCI 1.2, 6.4.1.2.3
-#[derive(Drop)]
+#[derive(Clone, Copy)]
 pub struct StatusStageTrb {
     pub chain: bool,
     pub interrupt_on_completion: bool,
@@ -149,7 +151,7 @@ pub struct StatusStageTrb {
 }
 
 // xHCI 1.2, 6.4.4.2
-#[derive(Drop)]
+#[derive(Clone, Copy)]
 pub struct EventDataTrb {
     pub event_data: u64,
     pub chain: bool,
@@ -157,13 +159,13 @@ pub struct EventDataTrb {
 }
 
 // xHCI 1.2, 6.4.1.4
-#[derive(Drop)]
+#[derive(Clone, Copy)]
 pub struct NoOpTrb {
     pub chain: bool,
     pub interrupt_on_completion: bool,
 }
 
-#[derive(Drop)]
+#[derive(Clone, Copy)]
 pub enum TransferTrbVariant {
     SetupStage(SetupStageTrb),
     DataStage(DataStageTrb),
@@ -176,7 +178,7 @@ pub enum TransferTrbVariant {
 }
 
 // A decoded TRB with its guest address and cycle bit: the Rust's `SupportedEndpointTrb`, of any kind.
-#[derive(Drop)]
+#[derive(Clone, Copy)]
 pub struct TransferTrb {
     pub variant: TransferTrbVariant,
     pub addr: u64,
@@ -233,7 +235,7 @@ pub fn chain_of(variant: TransferTrbVariant) -> bool
 
 // ---- Completion codes (xHCI 1.2, table 6-90): those that the engine reports.
 
-#[derive(Drop)]
+#[derive(Clone, Copy)]
 pub enum CompletionCode {
     Success,
     UsbTransactionError,
@@ -257,7 +259,7 @@ pub fn code_number(code: CompletionCode) -> u8
 
 // ---- Device results: the bytes themselves are lent beside them.
 
-#[derive(Drop)]
+#[derive(Clone, Copy)]
 pub enum InTrbProcessingStatus {
     Disconnect,
     Stall,
@@ -265,13 +267,13 @@ pub enum InTrbProcessingStatus {
     Success,
 }
 
-#[derive(Drop)]
+#[derive(Clone, Copy)]
 pub enum InTrbProcessingResult {
     NoneGiven,
     Given(InTrbProcessingStatus),
 }
 
-#[derive(Drop)]
+#[derive(Clone, Copy)]
 pub enum ControlRequestProcessingResult {
     NoneGiven,
     Disconnect,
@@ -282,7 +284,7 @@ pub enum ControlRequestProcessingResult {
 }
 
 // A control request for the device (USB 2.0, 9.3), with the address of its Setup TRB.
-#[derive(Drop)]
+#[derive(Clone, Copy)]
 pub struct UsbRequest {
     pub address: u64,
     pub request_type: u8,
@@ -294,7 +296,7 @@ pub struct UsbRequest {
 
 // ---- Results of a completion: the Rust's `Option<(u64, bool)>` is a case with and one without address and cycle bit.
 
-#[derive(Drop)]
+#[derive(Clone, Copy)]
 pub enum TrbProcessingResult {
     Ok,
     Stall,
@@ -308,7 +310,7 @@ pub enum TrbProcessingResult {
 // ---- States
 
 // How far a control transfer has come.
-#[derive(Drop)]
+#[derive(Clone, Copy)]
 pub enum ControlTransferState {
     ExpectSetupStageTrb,
     MaybeDataStageTrb,
@@ -318,7 +320,7 @@ pub enum ControlTransferState {
 }
 
 // What a control endpoint is at. A submission is due in the first alone, a completion in the others.
-#[derive(Drop)]
+#[derive(Clone, Copy)]
 pub enum ControlSubmissionState {
     NoTrbSubmitted,
     CollectingTd,
@@ -328,7 +330,7 @@ pub enum ControlSubmissionState {
 }
 
 // What an IN endpoint is at. A submission is due in the first alone, a completion in the others.
-#[derive(Drop)]
+#[derive(Clone, Copy)]
 pub enum TdBasedNormalSubmissionState {
     SubmissionDue,
     CollectingTd,
@@ -340,7 +342,7 @@ pub enum TdBasedNormalSubmissionState {
 // ---- Answers
 
 // The questions of documents 01 and 02: a case for each no.
-#[derive(Drop)]
+#[derive(Clone, Copy)]
 pub enum Refusal {
     BufferTooShort,
     UnsoundBlock,
@@ -395,7 +397,7 @@ pub fn refusal_number(refusal: Refusal) -> u8
 }
 
 // What creation, submission and carry-out answer.
-#[derive(Drop)]
+#[derive(Clone, Copy)]
 pub enum Answer {
     Accepted,
     Refused(Refusal),
@@ -419,7 +421,7 @@ pub fn agree(given: bool, awaited: bool) -> bool
 }
 
 // What completion answers.
-#[derive(Drop)]
+#[derive(Clone, Copy)]
 pub enum CompletionAnswer {
     Completed(TrbProcessingResult),
     Refused(Refusal),

@@ -8,10 +8,10 @@ use native.Mathlib.Numerals.{add-one}
 use lib.ListN.{length, drop, get_or, drop_of_length-le}
 use lib.Seq.{drop-cons}
 use Rattle.trb.specs.Limits.{record_length}
-use Rattle.log.specs.declared.Record.{Record}
-use Rattle.log.specs.Calls.{Out, silent, Meets}
-use Rattle.log.specs.Logs.{logged, AllFit}
-use Rattle.log.proofs.LogLaws.{logged-append, logged_none, length-logged, AllFit-append}
+use Rattle.call_log.specs.declared.Record.{Record}
+use Rattle.call_log.specs.Calls.{Out, silent, Meets}
+use Rattle.call_log.specs.Logs.{logged, AllFit}
+use Rattle.call_log.proofs.LogLaws.{logged-append, logged_none, length-logged, AllFit-append}
 use Rattle.walks.specs.Walk.{join, walk}
 
 -- after i elements of ts, of a walk from s₀ and the log l₀, with the state s and the log l

@@ -10,9 +10,9 @@ use native.Mathlib.Omega.{arith}
 use lib.ListN.{length, take, drop, get_or, length-append}
 use lib.Seq.{get_or-take, length-take-le}
 use Rattle.trb.specs.Limits.{record_length}
-use Rattle.log.specs.declared.Record.{Record}
-use Rattle.log.specs.Calls.{Out, silent, Meets}
-use Rattle.log.specs.Logs.{logged, AllFit}
+use Rattle.call_log.specs.declared.Record.{Record}
+use Rattle.call_log.specs.Calls.{Out, silent, Meets}
+use Rattle.call_log.specs.Logs.{logged, AllFit}
 use Rattle.walks.specs.Walk.{join, walk}
 use Rattle.walks.proofs.GoingLaws.{Going, walk-cons, walk_none, walk-stopped as stopped-walk, going-turn, going_end, going-stop}
 

@@ -1,6 +1,6 @@
 -- A walk over a list: each element changes a state and logs records, and a state may stop the walk. Assumes nothing.
 use Rattle.std.specs.Prelude.{Bool, cond, List, [], ◌∷◌, ◌++◌}
-use Rattle.log.specs.Calls.{Out, silent}
+use Rattle.call_log.specs.Calls.{Out, silent}
 
 -- a call, and behind it another
 abbrev pub join : {S : Type 0} → Out S → Out S → Out S

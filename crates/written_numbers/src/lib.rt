@@ -1,4 +1,6 @@
 // Numbers in decimal and in hex, written into a lent buffer. Every writer returns the index behind what it wrote.
+#![tactic(auto)]
+
 ghost use Rattle.std.specs.Prelude.{◌≡◌, map, ◌+◌, ◌*◌, ◌≤◌, length};
 ghost use Rattle.numerals.specs.Digits.{digit_char, digits, trimmed, AllBelow, decimal_of, hex_of, byte_hex, bytes_hex};
 ghost use Rattle.numerals.specs.Widths.{decimal_places, hex_places};

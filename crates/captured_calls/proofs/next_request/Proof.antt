@@ -4,7 +4,7 @@ use Prim.Native.Nat.{◌-◌}
 use mathlib.Core.Path.{◌≡◌, refl, sym, ap, ◌∙◌}
 use borrow.Author.Rules.{rules}
 use borrow.Author.Tests.{ne_eqb}
-use Rattle.log.specs.declared.Record.{Record}
+use Rattle.call_log.specs.declared.Record.{Record}
 use Rattle.captured_calls.specs.Submitted.{records_from}
 use Rattle.captured_calls.specs.Rows.{requests_in}
 use Rattle.captured_calls.proofs.RowLaws.{request-here, request-later, request-nowhere}

@@ -6,8 +6,8 @@ use mathlib.Core.List.{List}
 use native.Mathlib.Nat.{sub-zero}
 use native.Mathlib.Omega.{arith}
 use Prim.Native.Nat.{ℕ}
-use Rattle.log.specs.declared.Record.{Record}
-use Rattle.log.specs.Logs.{records_in}
+use Rattle.call_log.specs.declared.Record.{Record}
+use Rattle.call_log.specs.Logs.{records_in}
 use Rattle.capture_record.specs.Calls.{CaptureCall}
 use Rattle.capture_calls.specs.Captures.{request_captures}
 use Rattle.captured_calls.specs.declared.Requester.{Requester}

@@ -9,7 +9,7 @@ use lib.Dec.{eqb}
 use lib.ListN.{length, take}
 use borrow.Author.Rules.{rules}
 use Rattle.trb.specs.Limits.{max_row}
-use Rattle.log.specs.Logs.{records_in}
+use Rattle.call_log.specs.Logs.{records_in}
 use Rattle.row_walk.specs.Rows.{row_tds}
 use Rattle.captured_calls.specs.Submitted.{captured_of, pipe_of, log_count}
 use Rattle.captured_calls.specs.Rows.{requests_in, row_captures}

@@ -4,7 +4,7 @@ use mathlib.Core.Path.{sym, ap, ◌∙◌}
 use mathlib.Core.List.{◌∷◌}
 use borrow.Author.Rules.{rules}
 use borrow.Author.Tests.{not-true, not-false}
-use Rattle.log.specs.declared.Record.{Record}
+use Rattle.call_log.specs.declared.Record.{Record}
 use Rattle.captured_calls.specs.Submitted.{records_from}
 use Rattle.captured_calls.specs.Rows.{requests_in}
 use Rattle.captured_calls.proofs.RowLaws.{request_at-some, request_at-none, request-nowhere, puts_none, puts-started, puts-unstarted}

@@ -11,8 +11,8 @@ use Rattle.trb.specs.Answers.{number_of}
 use Rattle.trb.specs.Limits.{max_held, max_records, record_length}
 use Rattle.trb.specs.Questions.{first_no}
 use Rattle.trb.specs.declared.Answer.TheVariants.{Accepted}
-use Rattle.log.specs.declared.Record.{Record}
-use Rattle.log.specs.Calls.{Put}
+use Rattle.call_log.specs.declared.Record.{Record}
+use Rattle.call_log.specs.Calls.{Put}
 use Rattle.held.specs.Places.{past_end}
 use Rattle.held.specs.Sound.{sound_trb, held_sound}
 use Rattle.held.specs.declared.EndpointKind.TheVariants.{Control}

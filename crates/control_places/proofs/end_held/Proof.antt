@@ -6,7 +6,7 @@ use lib.ListN.{length, take}
 use Rattle.trb.specs.Limits.{record_length}
 use Rattle.trb.specs.declared.TransferTrb.{TransferTrb}
 use Rattle.held.specs.Places.{past_end}
-use Rattle.log.proofs.CallLaws.{meets}
+use Rattle.call_log.proofs.CallLaws.{meets}
 use Rattle.td_part.specs.Parts.{at_start}
 use Rattle.walks.proofs.WalkLaws.{Walked, walked_none, walked-turn, walked_end}
 use Rattle.control_chain.specs.Endings.{next_trb}

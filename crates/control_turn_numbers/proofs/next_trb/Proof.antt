@@ -1,7 +1,7 @@
 -- `control_turn_numbers::next_trb` meets its contract, by what the completion does. Assumes nothing.
 use mathlib.Core.Path.{refl, sym, ap}
 use Rattle.trb.specs.declared.TransferTrb.{TransferTrb}
-use Rattle.log.proofs.CallLaws.{meets, meets-silent}
+use Rattle.call_log.proofs.CallLaws.{meets, meets-silent}
 use Rattle.control_chain.specs.Dropped.{report_dropped}
 use borrow.Author.Rules.{rules}
 use Rattle.control_turn_numbers.proofs.next_trb.Statement.{statement}

@@ -6,7 +6,7 @@ use Rattle.trb.specs.declared.DataStageTrb.{DataStageTrb}
 use Rattle.trb.specs.declared.EventDataTrb.{EventDataTrb}
 use Rattle.trb.specs.declared.NormalTrb.{NormalTrb}
 use Rattle.trb.specs.declared.TransferTrbVariant.TheVariants.{SetupStage, DataStage, StatusStage, Normal, EventData}
-use Rattle.log.proofs.CallLaws.{meets, meets-silent}
+use Rattle.call_log.proofs.CallLaws.{meets, meets-silent}
 use Rattle.held_bytes.specs.Numbers.{normal_of, setup_stage_of, data_stage_of, status_stage_of, event_data_of, variant_of, trb_of}
 use Rattle.td_part.specs.Parts.{handle_event_data}
 use Rattle.control_chain.specs.Chain.{realize_stage, realize_data_stage, realize_normal}

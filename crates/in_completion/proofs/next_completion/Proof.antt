@@ -15,8 +15,8 @@ use Rattle.trb.specs.Answers.{number_of, completion_number, is_accepted}
 use Rattle.trb.specs.Limits.{max_held, record_length}
 use Rattle.trb.specs.Questions.{first_no}
 use Rattle.trb.proofs.AnswerLaws.{answered-yes, answered-no, answered-all}
-use Rattle.log.proofs.CallLaws.{meets}
-use Rattle.log.proofs.LogLaws.{logged_none}
+use Rattle.call_log.proofs.CallLaws.{meets}
+use Rattle.call_log.proofs.LogLaws.{logged_none}
 use Rattle.held.specs.Places.{past_end, cleared}
 use Rattle.held.proofs.PlaceLaws.{blanked, blanked-none, blanked-next, blanked-more, cleared-blanked}
 use Rattle.in_td.specs.Td.{normals}

@@ -13,7 +13,7 @@ use Rattle.trb.specs.declared.CompletionAnswer.{CompletionAnswer}
 use Rattle.trb.specs.declared.TdBasedNormalSubmissionState.{TdBasedNormalSubmissionState}
 use Rattle.trb.specs.declared.TrbProcessingResult.TheVariants as result
 use Rattle.trb.proofs.AnswerLaws.{answered-all}
-use Rattle.log.proofs.LogLaws.{logged_none}
+use Rattle.call_log.proofs.LogLaws.{logged_none}
 use Rattle.in_block.specs.Facts.{facts_of}
 use Rattle.in_block.specs.Outcomes.{ending_of}
 use Rattle.in_block.specs.declared.Ending.TheVariants.{KeepCollecting}

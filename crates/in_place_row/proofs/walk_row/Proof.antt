@@ -9,8 +9,8 @@ use lib.Dec.{eqb}
 use lib.ListN.{length, take, drop, get_or}
 use Rattle.trb.specs.Limits.{record_length, max_held}
 use Rattle.trb.specs.declared.TransferTrb.{TransferTrb}
-use Rattle.log.specs.Calls.{Meets, counted}
-use Rattle.log.specs.Records.{in_request, when}
+use Rattle.call_log.specs.Calls.{Meets, counted}
+use Rattle.call_log.specs.Records.{in_request, when}
 use Rattle.held.specs.Places.{past_end}
 use Rattle.held.specs.declared.EndpointKind.TheVariants.{In}
 use Rattle.walks.specs.Walk.{walk}

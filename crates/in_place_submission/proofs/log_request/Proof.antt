@@ -6,9 +6,9 @@ use native.Mathlib.Omega.{arith}
 use lib.ListN.{take}
 use Rattle.trb.specs.Limits.{max_held}
 use Rattle.trb.specs.declared.TransferTrb.{TransferTrb}
-use Rattle.log.specs.Calls.{Put}
-use Rattle.log.specs.Records.{in_request}
-use Rattle.log.specs.declared.Record.{Record}
+use Rattle.call_log.specs.Calls.{Put}
+use Rattle.call_log.specs.Records.{in_request}
+use Rattle.call_log.specs.declared.Record.{Record}
 use Rattle.in_bytes.specs.Layout.{places}
 use Rattle.in_bytes.proofs.HeldLaws.{placed}
 use Rattle.in_endpoint.specs.Submission.{first_address}

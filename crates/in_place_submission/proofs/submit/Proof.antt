@@ -11,7 +11,7 @@ use Rattle.trb.specs.Limits.{max_held, max_transfer_length}
 use Rattle.trb.specs.Trbs.{transfer_length}
 use Rattle.trb.specs.Questions.{first_no}
 use Rattle.trb.proofs.AnswerLaws.{answered-all}
-use Rattle.log.proofs.LogLaws.{logged_none}
+use Rattle.call_log.proofs.LogLaws.{logged_none}
 use Rattle.held.specs.Sound.{supported}
 use Rattle.held.specs.declared.EndpointKind.TheVariants.{In}
 use Rattle.in_block.specs.Blocks.{held_of}

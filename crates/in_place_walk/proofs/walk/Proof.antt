@@ -7,7 +7,7 @@ use native.Mathlib.Omega.{arith}
 use lib.ListN.{take}
 use Rattle.trb.specs.Limits.{record_length}
 use Rattle.trb.specs.declared.TransferTrb.{TransferTrb}
-use Rattle.log.specs.Calls.{Meets}
+use Rattle.call_log.specs.Calls.{Meets}
 use Rattle.walks.specs.Walk.{walk}
 use Rattle.td_part.specs.Parts.{Within}
 use Rattle.in_td.specs.Td.{normals, process_trb, process_td, ended, unprocessed}

@@ -11,8 +11,8 @@ use Rattle.trb.specs.Answers.{number_of, is_accepted}
 use Rattle.trb.specs.Limits.{max_held}
 use Rattle.trb.specs.Questions.{first_no}
 use Rattle.trb.proofs.AnswerLaws.{accepted-is, refused-is, answered-yes, answered-no, answered-all}
-use Rattle.log.proofs.CallLaws.{meets}
-use Rattle.log.proofs.LogLaws.{logged_none}
+use Rattle.call_log.proofs.CallLaws.{meets}
+use Rattle.call_log.proofs.LogLaws.{logged_none}
 use Rattle.guest_memory.specs.declared.Regions.{Regions}
 use Rattle.guest_memory.specs.Regions.{guest_regions}
 use Rattle.in_block.specs.Blocks.{held_of}

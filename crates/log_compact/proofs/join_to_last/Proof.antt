@@ -2,7 +2,7 @@
 use Prim.Native.Nat.{◌+◌, ◌-◌, ◌<◌}
 use mathlib.Core.Path.{sym, ◌∙◌}
 use native.Mathlib.Omega.{arith}
-use Rattle.log.specs.Records.{record_at}
+use Rattle.call_log.specs.Records.{record_at}
 use Rattle.kept_records.specs.Compact.{length_end}
 use Rattle.kept_records.proofs.TestLaws.{joins-below}
 use Rattle.log_compact.proofs.KeptLaws.{joins_last-some, joins_last-rows_in}

@@ -9,8 +9,8 @@ use borrow.Author.Tests.{not-false}
 use Rattle.trb.specs.Limits.{max_held, record_length}
 use Rattle.trb.specs.declared.TransferTrb.{TransferTrb}
 use Rattle.buffers.specs.LittleEndian.{le_number, le_field}
-use Rattle.log.specs.Records.{guest_write}
-use Rattle.log.proofs.CallLaws.{meets}
+use Rattle.call_log.specs.Records.{guest_write}
+use Rattle.call_log.proofs.CallLaws.{meets}
 use Rattle.held.specs.Places.{past_end}
 use Rattle.held.specs.declared.EndpointKind.TheVariants.{In}
 use Rattle.walks.proofs.WalkLaws.{Walked, walked_none, walked-turn}

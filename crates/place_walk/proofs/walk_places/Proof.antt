@@ -7,7 +7,7 @@ use native.Mathlib.Omega.{arith}
 use lib.ListN.{length, take, drop}
 use Rattle.trb.specs.Limits.{max_held, record_length}
 use Rattle.trb.specs.declared.TransferTrb.{TransferTrb}
-use Rattle.log.proofs.CallLaws.{meets}
+use Rattle.call_log.proofs.CallLaws.{meets}
 use Rattle.held.specs.Places.{past_end}
 use Rattle.held.specs.declared.EndpointKind.TheVariants.{In}
 use Rattle.walks.proofs.WalkLaws.{Walked, walked-turn, walked_end, walked_stop}

@@ -12,8 +12,8 @@ use lib.Seq.{length-take-le, get_or-take}
 use borrow.Author.Rules.{rules}
 use Rattle.trb.specs.declared.TransferTrb.{TransferTrb}
 use Rattle.trb.specs.Limits.{record_length}
-use Rattle.log.specs.Calls.{Meets, counted}
-use Rattle.log.specs.Records.{in_request, when}
+use Rattle.call_log.specs.Calls.{Meets, counted}
+use Rattle.call_log.specs.Records.{in_request, when}
 use Rattle.held.specs.Places.{past_end}
 use Rattle.walks.specs.Walk.{walk}
 use Rattle.in_td.specs.Td.{process_trb, ended, is_error}

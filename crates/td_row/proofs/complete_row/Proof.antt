@@ -40,7 +40,7 @@ use denote.Triple.Table.{cited}
 use denote.Triple.Walked.{says, Stays, stay_none, stay_none_slice, gave_slice, walk_of, AllGo, Goes-none, Goes-none_slice, Goes-gave_slice, Walks, ends_at, walked}
 use denote.Exit.{yes}
 use Rattle.lent_laws.proofs.LentLaws.{gives, returned, says_both, by-walk}
-use Rattle.log.specs.Calls.{Meets}
+use Rattle.call_log.specs.Calls.{Meets}
 use Rattle.in_td.specs.Td.{process_td}
 use Rattle.in_td.specs.declared.TdProcessed.{TdProcessed}
 use Rattle.in_block.specs.Facts.{held_test}

@@ -50,7 +50,7 @@ use denote.Triple.Walked.{says, needs, Stays, stay_none, stay_none_slice, stay_s
 use denote.Exit.{yes}
 use Rattle.lent_laws.proofs.LentLaws.{gives, reads-element, returned, by-walk}
 use Rattle.lent_laws.proofs.Lending.{lends-to-call, back-from-call}
-use Rattle.log.specs.Calls.{Meets}
+use Rattle.call_log.specs.Calls.{Meets}
 use Rattle.held.specs.Places.{past_end}
 use Rattle.in_td.specs.declared.TdProcessed.{TdProcessed}
 use Rattle.in_td.specs.Td.{next_trb}

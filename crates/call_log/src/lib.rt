@@ -1,0 +1,247 @@
+// The log: records of 32 bytes, little-endian, one for each effect, in the order of effect.
+#![tactic(auto)]
+
+ghost use Rattle.std.specs.Prelude.{◌≡◌, [], ◌∷◌, ◌+◌, ◌*◌, ◌≤◌, length};
+ghost use Rattle.trb.specs.Limits.{record_length};
+ghost use Rattle.call_log.specs.Records.{encode, record_at, transfer_event, guest_write, in_request, control_request, when};
+ghost use Rattle.call_log.specs.Calls.{Put, Meets, counted};
+
+use trb::{CompletionCode, EndpointId, SlotId, UsbRequest};
+
+pub const KIND_WRITE: u8 = 1;
+
+pub const KIND_EVENT: u8 = 2;
+
+pub const KIND_REQUEST: u8 = 3;
+
+// What a record's bytes say. Bytes 5 to 7, 30 and 31 are zero in every record that is made here.
+#[derive(Clone, Copy)]
+pub struct Record {
+    pub kind: u8,
+    pub code: u8,
+    pub flag: u8,
+    pub endpoint_id: EndpointId,
+    pub slot_id: SlotId,
+    pub address: u64,
+    pub length: u32,
+    pub start: u32,
+    pub request_type: u8,
+    pub request: u8,
+    pub value: u16,
+    pub index: u16,
+}
+
+// A transfer event; ports `EventTrb::new_transfer_event_trb`.
+pub fn transfer_event(
+    trb_pointer: u64,
+    trb_transfer_length: u32,
+    completion_code: CompletionCode,
+    event_data: bool,
+    endpoint_id: EndpointId,
+    slot_id: SlotId,
+) -> Record
+    ensures { result ≡ transfer_event trb_pointer trb_transfer_length completion_code event_data endpoint_id slot_id }
+{
+    Record {
+        kind: KIND_EVENT,
+        code: trb::code_number(completion_code),
+        flag: if event_data { 1 } else { 0 },
+        endpoint_id: endpoint_id,
+        slot_id: slot_id,
+        address: trb_pointer,
+        length: trb_transfer_length,
+        start: 0,
+        request_type: 0,
+        request: 0,
+        value: 0,
+        index: 0,
+    }
+}
+
+// A write of `length` of the device's bytes, from `start` on, to guest memory.
+pub fn guest_write(
+    address: u64,
+    length: u32,
+    start: u32,
+    endpoint_id: EndpointId,
+    slot_id: SlotId,
+) -> Record
+    ensures { result ≡ guest_write address «length» start endpoint_id slot_id }
+{
+    Record {
+        kind: KIND_WRITE,
+        code: 0,
+        flag: 0,
+        endpoint_id: endpoint_id,
+        slot_id: slot_id,
+        address: address,
+        length: length,
+        start: start,
+        request_type: 0,
+        request: 0,
+        value: 0,
+        index: 0,
+    }
+}
+
+// A request to the device for `length` bytes, for the TD whose first TRB is at `address`.
+pub fn in_request(address: u64, length: u32, endpoint_id: EndpointId, slot_id: SlotId) -> Record
+    ensures { result ≡ in_request address «length» endpoint_id slot_id }
+{
+    Record {
+        kind: KIND_REQUEST,
+        code: 0,
+        flag: 0,
+        endpoint_id: endpoint_id,
+        slot_id: slot_id,
+        address: address,
+        length: length,
+        start: 0,
+        request_type: 0,
+        request: 0,
+        value: 0,
+        index: 0,
+    }
+}
+
+// A control request to the device.
+pub fn control_request(usb_request: UsbRequest, endpoint_id: EndpointId, slot_id: SlotId) -> Record
+    ensures { result ≡ control_request usb_request endpoint_id slot_id }
+{
+    Record {
+        kind: KIND_REQUEST,
+        code: 0,
+        flag: 0,
+        endpoint_id: endpoint_id,
+        slot_id: slot_id,
+        address: usb_request.address,
+        length: usb_request.length,
+        start: 0,
+        request_type: usb_request.request_type,
+        request: usb_request.request,
+        value: usb_request.value,
+        index: usb_request.index,
+    }
+}
+
+// The bytes of a record.
+fn encoded(record: Record) -> [u8; 32]
+    ensures { result ≡ encode «record» }
+{
+    let endpoint_id = record.endpoint_id;
+    let slot_id = record.slot_id;
+    let a0 = record.address;
+    let a1 = a0 / 256;
+    let a2 = a1 / 256;
+    let a3 = a2 / 256;
+    let a4 = a3 / 256;
+    let a5 = a4 / 256;
+    let a6 = a5 / 256;
+    let a7 = a6 / 256;
+    let n0 = record.length;
+    let n1 = n0 / 256;
+    let n2 = n1 / 256;
+    let n3 = n2 / 256;
+    let s0 = record.start;
+    let s1 = s0 / 256;
+    let s2 = s1 / 256;
+    let s3 = s2 / 256;
+    let v0 = record.value;
+    let v1 = v0 / 256;
+    let i0 = record.index;
+    let i1 = i0 / 256;
+    [
+        record.kind,
+        record.code,
+        record.flag,
+        endpoint_id.0,
+        slot_id.0,
+        0,
+        0,
+        0,
+        (a0 % 256) as u8,
+        (a1 % 256) as u8,
+        (a2 % 256) as u8,
+        (a3 % 256) as u8,
+        (a4 % 256) as u8,
+        (a5 % 256) as u8,
+        (a6 % 256) as u8,
+        (a7 % 256) as u8,
+        (n0 % 256) as u8,
+        (n1 % 256) as u8,
+        (n2 % 256) as u8,
+        (n3 % 256) as u8,
+        (s0 % 256) as u8,
+        (s1 % 256) as u8,
+        (s2 % 256) as u8,
+        (s3 % 256) as u8,
+        record.request_type,
+        record.request,
+        (v0 % 256) as u8,
+        (v1 % 256) as u8,
+        (i0 % 256) as u8,
+        (i1 % 256) as u8,
+        0,
+        0,
+    ]
+}
+
+// Writes a record as the log's record number `index`.
+pub fn put_record(log: &mut [u8], index: usize, record: Record)
+    requires { record_length * (index + 1) ≤ length log.old }
+    ensures { Put log.old index («record» ∷ []) log.new }
+{
+    let cells = encoded(record);
+    buffers::copy_into(log, trb::RECORD_LENGTH * index, &cells);
+}
+
+// Writes a record where it is due, behind `count` records, and returns how many there are then.
+pub fn put_when(log: &mut [u8], count: usize, due: bool, record: Record) -> usize
+    requires { record_length * (count + 1) ≤ length log.old }
+    ensures { Meets (counted count (when due «record»)) count log.old result log.new }
+{
+    if due {
+        put_record(log, count, record);
+        count + 1
+    } else {
+        count
+    }
+}
+
+// Writes a record and, where it is due, a second one behind it, and returns how many there are then.
+pub fn put_then(log: &mut [u8], count: usize, first: Record, due: bool, second: Record) -> usize
+    requires { record_length * (count + 2) ≤ length log.old }
+    ensures { Meets (counted count (first ∷ when due second)) count log.old result log.new }
+{
+    put_record(log, count, first);
+    put_when(log, count + 1, due, second)
+}
+
+// What record number `index` of a log says.
+pub fn read_record(log: &[u8], index: usize) -> Record
+    requires { record_length * (index + 1) ≤ length log.now }
+    ensures { result ≡ record_at log.now index }
+{
+    let at = trb::RECORD_LENGTH * index;
+    let address = buffers::le64(log, at + 8);
+    let length = buffers::le32(log, at + 16);
+    let start = buffers::le32(log, at + 20);
+    let value = buffers::le16(log, at + 26);
+    let index_field = buffers::le16(log, at + 28);
+    let endpoint_id = EndpointId(log[at + 3]);
+    let slot_id = SlotId(log[at + 4]);
+    Record {
+        kind: log[at],
+        code: log[at + 1],
+        flag: log[at + 2],
+        endpoint_id: endpoint_id,
+        slot_id: slot_id,
+        address: address,
+        length: length,
+        start: start,
+        request_type: log[at + 24],
+        request: log[at + 25],
+        value: value,
+        index: index_field,
+    }
+}

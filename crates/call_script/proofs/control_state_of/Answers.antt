@@ -1,0 +1,14 @@
+-- `call_script::control_state_of` meets its contract: a row for each number. Assumes nothing.
+use borrow.Author.Tests.{ne_eqb}
+use Rattle.script_trb.specs.Tables.{row_of}
+use Rattle.call_script.specs.Calls.{control_state_of}
+use Rattle.call_script.proofs.control_state_of.Goals as goal
+
+pub returns-in-1 : goal.returns-in-1
+unfolding control_state_of row_of
+returns-in-1 c = rw c.in-1.is
+
+pub returns-in-2 : goal.returns-in-2
+unfolding control_state_of row_of
+returns-in-2 c = rw c.in-2.is
+

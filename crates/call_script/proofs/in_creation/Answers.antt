@@ -1,0 +1,12 @@
+-- `call_script::in_creation` meets its contract: the count of fields tells its two forms apart. Assumes nothing.
+use borrow.Author.Tests.{eq-eqb, ne_eqb}
+use Rattle.call_script.specs.Calls.{in_creation}
+use Rattle.call_script.proofs.in_creation.Goals as goal
+
+pub returns-then-fields-eq2 : goal.returns-then-fields-eq2
+unfolding in_creation
+returns-then-fields-eq2 c = rw (eq-eqb _ _ c.if-fields-eq2.true) c.ported_creation.ensures
+
+pub returns-else-fields-eq2 : goal.returns-else-fields-eq2
+unfolding in_creation
+returns-else-fields-eq2 c = rw (ne_eqb _ _ c.if-fields-eq2.false) c.mode_creation.ensures

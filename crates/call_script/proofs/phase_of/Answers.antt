@@ -1,0 +1,22 @@
+-- `call_script::phase_of` meets its contract: a row for each number. Assumes nothing.
+use borrow.Author.Tests.{ne_eqb}
+use Rattle.script_trb.specs.Tables.{row_of}
+use Rattle.call_script.specs.Calls.{phase_of}
+use Rattle.call_script.proofs.phase_of.Goals as goal
+
+pub returns-in-1 : goal.returns-in-1
+unfolding phase_of row_of
+returns-in-1 c = rw c.in-1.is
+
+pub returns-in-2 : goal.returns-in-2
+unfolding phase_of row_of
+returns-in-2 c = rw c.in-2.is
+
+pub returns-in-3 : goal.returns-in-3
+unfolding phase_of row_of
+returns-in-3 c = rw c.in-3.is
+
+pub returns-in-4 : goal.returns-in-4
+unfolding phase_of row_of
+returns-in-4 c = rw c.in-4.is
+

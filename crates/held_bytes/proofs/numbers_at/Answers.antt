@@ -1,0 +1,7 @@
+-- `held_bytes::numbers_at` meets its contract: each field is read where the place has it. Assumes nothing.
+use mathlib.Core.Path.{sym}
+use Rattle.held_bytes.proofs.NumberLaws.{numbers-drop}
+use Rattle.held_bytes.proofs.numbers_at.Goals as goal
+
+pub returns : goal.returns
+returns c = rw (c.le32.ensures, c.le64-value.ensures, c.le64-addr.ensures) (sym (numbers-drop c.args.block.now c.args.at))
