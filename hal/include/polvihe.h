@@ -1,4 +1,4 @@
-/* Polvihe for C: the functions of the static library that `rt staticlib polvihe` writes. A lent buffer is a pointer and a length; nothing of it is kept behind the call,
+/* Polvihe for C: the functions of the static library that `rt lib` makes in crates/polvihe. A lent buffer is a pointer and a length; nothing of it is kept behind the call,
  * and buffers that are written share no byte with another. Every call asks its numbered questions first and answers the number of the first no, or 0. After a no nothing has
  * changed, neither block nor log nor any other lent byte; a creation that is refused with 12 alone leaves a block, with which every call is refused with 2.
  * The numbers stand at each function in the order in which they are asked. docs/HAL.md says what a caller does about each. */

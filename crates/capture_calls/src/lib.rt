@@ -4,8 +4,8 @@
 ghost use Rattle.std.specs.Prelude.{◌≡◌};
 ghost use Rattle.capture_calls.specs.Events.{in_request_event, control_request_event, in_completion_event, request_completion_event, control_completion_event};
 
-use capture_record::{CaptureEvent, InPipe, TransferError};
 use call_log::Record;
+use capture_record::{CaptureEvent, InPipe, TransferError};
 use trb::{
     ControlRequestProcessingResult, ControlSubmissionState, InTrbProcessingResult,
     TdBasedNormalSubmissionState, UsbRequest,

@@ -11,9 +11,9 @@ ghost use Rattle.captured_calls.specs.Written.{Lays};
 ghost use Rattle.captured_calls.specs.Submitted.{captured_of, pipe_of, request_event, logged_records, records_from};
 ghost use Rattle.captured_calls.specs.Rows.{Spans, requests_in, request_at, td_capture, PutsTd, row_captures};
 
+use call_log::Record;
 use capture_calls::CallRecord;
 use capture_record::{InPipe, UsbDevice};
-use call_log::Record;
 use row_walk::TdResult;
 use trb::{
     ControlRequestProcessingResult, ControlSubmissionState, EndpointId, InTrbProcessingResult,

@@ -12,7 +12,7 @@ use Rattle.trb.specs.Refusals.{refusal_number}
 use Rattle.trb.specs.Questions.{first_no}
 use Rattle.trb.proofs.AnswerLaws.{answered-yes, answered-no, refusal_number-positive}
 use Rattle.trb.specs.declared.Answer.{Answer}
-use Rattle.trb.specs.declared.Answer.TheVariants.{Accepted, Refused}
+use Rattle.trb.specs.declared.Answer.TheVariants.{Accepted}
 use Rattle.trb.specs.declared.CompletionAnswer.{CompletionAnswer}
 use Rattle.trb.specs.declared.CompletionAnswer.TheVariants as completion-answer
 use Rattle.trb.specs.declared.InTrbProcessingResult.{InTrbProcessingResult}

@@ -3,7 +3,6 @@ use Prim.Native.Nat.{ℕ, ◌<◌, ◌≤◌}
 use mathlib.Core.Path.{◌≡◌, refl, sym, ap, ◌∙◌}
 use mathlib.Core.Bool.{true, false}
 use mathlib.Core.List.{List}
-use lib.ListN.{get_or}
 use borrow.Author.Tests.{le-leb}
 use Rattle.trb.specs.Limits.{max_held, max_transfer_length, min_log}
 use Rattle.trb.specs.Questions.{first_no}

@@ -1,3 +1,2 @@
 // Laws that the proofs by hand of the thin layers share; no code.
 #![tactic(auto)]
-

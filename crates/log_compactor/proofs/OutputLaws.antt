@@ -1,5 +1,5 @@
 -- Laws of what the program writes, by the length of the log and what compacting it answers. Assumes nothing.
-use Prim.Native.Nat.{ℕ, ◌*◌, ◌≤◌, ◌<◌}
+use Prim.Native.Nat.{ℕ, ◌+◌, ◌*◌, ◌≤◌, ◌<◌}
 use mathlib.Core.Bool.{Bool, true, false}
 use mathlib.Core.Path.{◌≡◌, refl}
 use mathlib.Core.List.{List, [], ◌∷◌, ◌++◌, append_assoc}
@@ -22,6 +22,13 @@ use Rattle.log_compactor.specs.Output.{max_log, is_taken, output_of, Leads}
 
 leads : (vs rest : List ℕ) (n : ℕ) → length vs ≡ n → Leads vs n (vs ++ rest)
 leads vs rest n e = record { bytes = take_at vs rest n e; within = omega (arith, length-append vs rest) }
+
+-- a log that is too long gives the same whatever stands behind it
+pub longer-same : (l rest : List ℕ) → max_log + 1 ≤ length l → output_of (l ++ rest) ≡ output_of l
+unfolding output_of is_taken
+longer-same l rest long =
+    let both : max_log < length (l ++ rest) = omega (arith, length-append l rest) in
+    simp (lt-leb (length l) max_log (omega (arith, long)), lt-leb (length (l ++ rest)) max_log both)
 
 module _ (log : List ℕ) where
   pub output-long : max_log < length log → output_of log ≡ refused_text

@@ -1,18 +1,22 @@
 // Compacts the log that it is given on standard input, and writes the records that are kept (R-9).
 #![tactic(auto)]
 
-ghost use Rattle.std.specs.Prelude.{◌<◌, ◌≤◌, length, take};
+ghost use Rattle.std.specs.Prelude.{◌≡◌, ◌+◌, ◌<◌, ◌≤◌, length, take, OnOk};
+ghost use Rattle.input_bytes.specs.Outputs.{WritesFor};
 ghost use Rattle.log_print.specs.LogText.{refused_text};
 ghost use Rattle.log_compactor.specs.Output.{max_log, output_of, Leads};
 
 use log_compact::CompactAnswer;
 use std::io;
+use std::io::{Read, Write};
 
 // Bytes of the longest log that is taken.
 const MAX_LOG: usize = 1048576;
 
 // Room for the longest log and one byte, by which a longer one is noticed.
-fn log_buffer() -> [u8; MAX_LOG + 1] {
+fn log_buffer() -> [u8; MAX_LOG + 1]
+    ensures { length result ≡ max_log + 1 }
+{
     [0u8; MAX_LOG + 1]
 }
 
@@ -42,9 +46,16 @@ fn put_output(buffer: &mut [u8], read: usize) -> usize
     }
 }
 
-fn main(rt: HostRuntime) -> io::Result<()> {
+// Reads a log and writes what compacting it leaves.
+fn compact_input<R: Read, W: Write>(reader: &mut R, writer: &mut W) -> io::Result<()>
+    ensures { OnOk result (WritesFor output_of (R.remaining reader.old) (W.contents writer.old) (W.contents writer.new)) }
+{
     let mut buffer = log_buffer();
-    let read = input_bytes::read_full(&mut rt.stdin(), &mut buffer)?;
+    let read = input_bytes::read_full(reader, &mut buffer)?;
     let end = put_output(&mut buffer, read);
-    rt.write_all(&buffer[..end])
+    writer.write_all(&buffer[..end])
+}
+
+fn main(rt: HostRuntime) -> io::Result<()> {
+    compact_input(&mut rt.stdin(), &mut rt.stdout())
 }

@@ -1,3 +1,2 @@
 // A stored log printed in pieces: theorems alone.
 #![tactic(auto)]
-

@@ -102,7 +102,7 @@ module _ (regions : Regions) (rs : List TdResult) where
   pub found-supported : (a : RowTest) (ts : List TransferTrb) → (found a ts).supported ≡ (a.supported && all in_supported ts)
   unfolding tested_row all
   found-supported a [] = sym (and-true a.supported)
-  found-supported a (t ∷ ts) = found-supported _ ts ∙ and_assoc a.supported (in_supported t) (all in_supported ts)
+  found-supported a (t ∷ ts) = found-supported (tested_trb regions a t (get_or rs a.tds past_results)) ts ∙ and_assoc a.supported (in_supported t) (all in_supported ts)
 
   -- the last TRB has its chain bit off
   ended_by : (b : Bool) (h : ℕ) → eqb (cond b (h + 1) 0) 0 ≡ not b

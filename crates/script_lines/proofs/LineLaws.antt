@@ -7,7 +7,8 @@ use native.Mathlib.Numerals.{add-one}
 use native.Mathlib.Omega.{arith}
 use lib.Dec.{ltb}
 use lib.ListN.{length, take, drop, set, get_or, length-drop}
-use lib.Seq.{drop-cons, drop-drop, drop-set-lt, drop-length, take-suc, take-suc-set, get_or-drop}
+use lib.Seq.{drop-cons, drop-drop, drop-set-lt, drop-length, take-suc, take-suc-set, get_or-drop, length-take-le, drop_at, take-append-add, take-append-le}
+use borrow.Rule.Slice.PartMut.{put_mid, post_of}
 use borrow.Author.Tests.{ltb-true, ltb-false, eq-eqb, ne_eqb}
 use Rattle.script_lines.specs.Lines.{line_feed, first_line}
 use Rattle.script_lines.specs.Steps.{PieceRead, at_end, step_of, Refills, NextLine}
@@ -48,6 +49,20 @@ module _ (l m : List ℕ) (from to at : ℕ) (count : to + from ≡ at) (room : 
 
   pub rest-kept : drop (at + 1) (set m to (get_or m at 0)) ≡ drop (at + 1) l
   rest-kept = rw (drop-set-lt (at + 1) m to (get_or m at 0) (omega arith)) (sym (drop-drop 1 at m) ∙ (ap (λ (x : List ℕ). drop 1 x) rest ∙ drop-drop 1 at l))
+
+-- ---- Bytes that are read behind those that are held
+
+-- of the part from index held on, into which n bytes were read
+pub read-part : (held k n : ℕ) (l part : List ℕ) → held ≤ length l → n ≤ length part → drop held (take (held + n) (put_mid held k l part)) ≡ take n part
+read-part held k n l part within fits =
+    let front : length (take held l) ≡ held = length-take-le held l within in
+    ap (λ (m : ℕ). drop held (take (m + n) (put_mid held k l part))) (sym front)
+    ∙ (ap (drop held) (take-append-add (take held l) (part ++ post_of held k l) n ∙ ap (λ (x : List ℕ). take held l ++ x) (take-append-le n part (post_of held k l) fits))
+    ∙ drop_at (take held l) (take n part) held front)
+
+-- there is one at least
+pub piece-read : (held n : ℕ) (l : List ℕ) → held < n → n ≤ length l → drop held (take n l) ≡ [] → ⊥
+piece-read held n l more room none = omega (arith, ap length none, length-drop held (take n l), length-take-le n l room)
 
 -- ---- Nothing was read
 

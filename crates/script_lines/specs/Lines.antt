@@ -1,5 +1,6 @@
 -- The lines of an input, and the bytes of an unfinished one. Assumes nothing.
-use Rattle.std.specs.Prelude.{ℕ, ◌+◌, ◌-◌, ◌^◌, ◌<◌, ◌≤◌, min, ◌≡◌, Bool, cond, List, [], ◌∷◌, eqb, leb, length, take, drop}
+use Rattle.std.specs.Prelude.{ℕ, ◌+◌, ◌-◌, ◌^◌, ◌<◌, ◌≤◌, min, ◌≡◌, Bool, cond, List, [], ◌∷◌, ◌++◌, eqb, leb, length, take, drop, codes, decimal, Option}
+use Rattle.std.specs.Io.KnownBytes.{Appends}
 use Rattle.numerals.specs.Widths.{hex_places}
 use Rattle.call_number.specs.RawBytes.{raw_places}
 
@@ -45,3 +46,13 @@ pub record TurnsLeft (turns : ℕ) (more : Bool) (r : ℕ) : Type 0 where
 pub record MakesRoom (size n most r : ℕ) : Type 0 where
   pub start : r ≡ cond (leb n (size - most)) n 0
   pub room : r + most ≤ size
+
+-- of a text whose first n characters were not yet written out, the first r are left: those before them were added to what was written
+pub record KeepsText (text : List ℕ) (n r : ℕ) (old new : Option (List ℕ)) : Type 0 where
+  pub written : List ℕ
+  pub appends : Appends old new written
+  pub left : written ++ take r text ≡ take n text
+
+-- what is written behind a run of so many lines: where the last one is bad, `bad line` and their number
+abbrev pub bad_line_text : ℕ → Bool → List ℕ
+bad_line_text lines good = cond good [] (codes "bad line " ++ decimal lines ++ (line_feed ∷ []))

@@ -1,5 +1,5 @@
 -- What a step over the lines of an input finds. Assumes nothing.
-use Rattle.std.specs.Prelude.{ℕ, ◌+◌, ◌-◌, ◌≤◌, ◌<◌, ◌≡◌, cond, List, ltb, length, take, drop}
+use Rattle.std.specs.Prelude.{ℕ, ◌+◌, ◌-◌, ◌≤◌, ◌<◌, ◌≡◌, cond, List, [], ltb, length, take, drop}
 use Rattle.script_lines.specs.Lines.{first_line}
 use Rattle.script_lines.specs.declared.Found.{Found}
 use Rattle.script_lines.specs.declared.Found.TheVariants.{Line, Piece, End, Unfinished}
@@ -48,6 +48,19 @@ abbrev pub Refills : Refilled → List ℕ → ℕ → ℕ → List ℕ → Type
 Refills (refilled.Piece n) l from filled l' = PieceRead l from filled n l'
 Refills refilled.End l from filled l' = from ≡ filled
 Refills refilled.Unfinished l from filled l' = from < filled
+
+-- the bytes that were read behind n bytes that were left, where the input is l' then
+abbrev pub refill_bytes : Refilled → ℕ → List ℕ → List ℕ
+refill_bytes (refilled.Piece m) n l' = drop n (take m l')
+refill_bytes refilled.End n l' = []
+refill_bytes refilled.Unfinished n l' = []
+
+-- the same of a step, with so many bytes in the buffer then
+abbrev pub step_bytes : Found → ℕ → ℕ → List ℕ → List ℕ
+step_bytes Line filled n l' = []
+step_bytes Piece filled n l' = drop n (take filled l')
+step_bytes End filled n l' = []
+step_bytes Unfinished filled n l' = []
 
 -- what a step found, from index from of the input l on, of which so many bytes were filled
 abbrev pub Finds : Found → List ℕ → ℕ → ℕ → Step → List ℕ → Type 0

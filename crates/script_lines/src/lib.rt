@@ -1,9 +1,10 @@
 // The lines of standard input, each ended by a line feed, and the text that answers them.
 #![tactic(auto)]
 
-ghost use Rattle.std.specs.Prelude.{◌≡◌, ◌+◌, ◌≤◌, ◌<◌, min, length, IfOk};
-ghost use Rattle.script_lines.specs.Lines.{LineEnd, MovedToFront, ReadBehind, MakesRoom, counted, TurnsLeft};
-ghost use Rattle.script_lines.specs.Steps.{no_line, at_end, Refills, step_of, NextLine};
+ghost use Rattle.std.specs.Prelude.{◌≡◌, ◌+◌, ◌-◌, ◌≤◌, ◌<◌, min, [], ◌++◌, length, take, drop, IfOk, OnOk};
+ghost use Rattle.std.specs.Io.KnownBytes.{Appends, Consumes, IsAtEnd};
+ghost use Rattle.script_lines.specs.Lines.{max_line, LineEnd, MovedToFront, ReadBehind, MakesRoom, KeepsText, bad_line_text, counted, TurnsLeft};
+ghost use Rattle.script_lines.specs.Steps.{no_line, at_end, Refills, refill_bytes, step_of, step_bytes, NextLine};
 
 use std::io;
 use std::io::{Read, Write};
@@ -68,7 +69,9 @@ pub fn line_end(input: &[u8], from: usize) -> usize
 // Reads behind the first `held` bytes of the input. Returns how many bytes there are then.
 fn read_behind<R: Read>(reader: &mut R, input: &mut [u8], held: usize) -> io::Result<usize>
     requires { held ≤ length input.old }
-    ensures { IfOk result (λ r. ReadBehind held r input.old input.new) }
+    ensures behind { IfOk result (λ r. ReadBehind held r input.old input.new) }
+    ensures bytes { IfOk result (λ r. Consumes (R.remaining reader.old) (R.remaining reader.new) (drop held (take r input.new))) }
+    ensures end { IfOk result (λ r. r ≡ held → held < length input.old → IsAtEnd (R.remaining reader.new)) }
 {
     let got = reader.read(&mut input[held..])?;
     Ok(held + got)
@@ -120,7 +123,9 @@ pub fn refill<R: Read>(
     filled: usize,
 ) -> io::Result<Refilled>
     requires { (from ≤ filled) × (filled ≤ length input.old) }
-    ensures { IfOk result (λ r. Refills r input.old from filled input.new) }
+    ensures refills { IfOk result (λ r. Refills r input.old from filled input.new) }
+    ensures bytes { IfOk result (λ r. Consumes (R.remaining reader.old) (R.remaining reader.new) (refill_bytes r (filled - from) input.new)) }
+    ensures end { IfOk result (λ r. refill_bytes r (filled - from) input.new ≡ [] → filled - from ≤ max_line → filled - from < length input.old → IsAtEnd (R.remaining reader.new)) }
 {
     let held = move_to_front(input, from, filled);
     if MAX_LINE < held {
@@ -152,7 +157,8 @@ pub fn next_line<R: Read>(
     filled: usize,
 ) -> io::Result<Step>
     requires { (from ≤ filled) × (filled ≤ length input.old) }
-    ensures { IfOk result (λ s. NextLine input.old from filled s input.new) }
+    ensures next { IfOk result (λ s. NextLine input.old from filled s input.new) }
+    ensures bytes { IfOk result (λ s. Consumes (R.remaining reader.old) (R.remaining reader.new) (step_bytes s.found s.filled (filled - from) input.new)) }
 {
     let end = line_end(&input[..filled], from);
     if end < filled {
@@ -212,7 +218,8 @@ pub fn make_room<W: Write>(
     most: usize,
 ) -> io::Result<usize>
     requires { most ≤ length text.now }
-    ensures { IfOk result (λ r. MakesRoom (length text.now) end most r) }
+    ensures room { IfOk result (λ r. MakesRoom (length text.now) end most r) }
+    ensures text { IfOk result (λ r. KeepsText text.now end r (W.contents writer.old) (W.contents writer.new)) }
 {
     if end <= text.len() - most {
         return Ok(end);
@@ -221,28 +228,34 @@ pub fn make_room<W: Write>(
     Ok(0)
 }
 
-// Writes out the number of the bad line at which a run ended, if it did. Its output is all that it does, and no contract can state that.
-pub fn print_bad_line<W: Write>(writer: &mut W, lines: u64, good: bool) -> io::Result<()> {
+// Writes out the number of the bad line at which a run ended, if it did.
+pub fn print_bad_line<W: Write>(writer: &mut W, lines: u64, good: bool) -> io::Result<()>
+    ensures { OnOk result (Appends (W.contents writer.old) (W.contents writer.new) (bad_line_text lines good)) }
+{
     if !good {
         writeln!(writer, "bad line {lines}")?;
     }
     Ok(())
 }
 
-// Writes out the first `end` characters of the text, or as many as it has, likewise.
-pub fn write_text<W: Write>(writer: &mut W, text: &[u8], end: usize) -> io::Result<()> {
+// Writes out the first `end` characters of the text, or as many as it has.
+pub fn write_text<W: Write>(writer: &mut W, text: &[u8], end: usize) -> io::Result<()>
+    ensures { OnOk result (Appends (W.contents writer.old) (W.contents writer.new) (take end text.now)) }
+{
     let written = least(end, text.len());
     writer.write_all(&text[..written])
 }
 
-// Writes out what is left of the text and, where the run ended at a bad line, its number, likewise.
+// Writes out what is left of the text and, where the run ended at a bad line, its number.
 pub fn finish<W: Write>(
     writer: &mut W,
     text: &[u8],
     end: usize,
     lines: u64,
     good: bool,
-) -> io::Result<()> {
+) -> io::Result<()>
+    ensures { OnOk result (Appends (W.contents writer.old) (W.contents writer.new) (take end text.now ++ bad_line_text lines good)) }
+{
     write_text(writer, text, end)?;
     print_bad_line(writer, lines, good)
 }

@@ -1,5 +1,5 @@
--- How the loops over a row keep to their definitions, and their numbers. Assumes nothing.
-use Prim.Native.Nat.{ℕ, ◌+◌, ◌*◌, ◌-◌, ◌<◌, ◌≤◌, ◌^◌}
+-- How the loop that tests a row keeps to its definition. Assumes nothing.
+use Prim.Native.Nat.{ℕ, ◌+◌, ◌<◌, ◌≤◌}
 use mathlib.Core.Path.{◌≡◌, ap, ◌∙◌}
 use mathlib.Core.List.{List}
 use native.Mathlib.Omega.{arith}
@@ -11,8 +11,6 @@ use Rattle.in_block.specs.Facts.{trb_test, held_test}
 use Rattle.in_block.specs.declared.HeldTest.{HeldTest}
 use Rattle.in_block.proofs.TestLaws.{Testing, testing-turn, testing-end}
 
--- ---- The test of every TRB
-
 module _ (ts : List TransferTrb) where
   -- after i TRBs of the row, with r found so far
   abbrev pub TestedRow : HeldTest → ℕ → Type 0
@@ -23,14 +21,3 @@ module _ (ts : List TransferTrb) where
 
   pub tested_row-end : (s : HeldTest) (i : ℕ) → TestedRow s i → length ts ≤ i → s ≡ held_test ts
   tested_row-end s i k h = testing-end ts (length ts) (omega arith) s i k h ∙ ap (λ (xs : List TransferTrb). held_test xs) (take-length ts)
-
--- ---- Numbers of both loops
-
-pub times-fits : (i n : ℕ) → i < n → n * 48 < 2 ^ 63 → i * 48 < 2 ^ 64
-times-fits i n h k = omega arith
-
-pub next_fits : (i n : ℕ) → i < n → n < 2 ^ 64 → i + 1 < 2 ^ 64
-next_fits i n h k = omega arith
-
-pub nearer : (i n : ℕ) → i < n → n - (i + 1) < n - i
-nearer i n h = omega arith

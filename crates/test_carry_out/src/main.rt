@@ -71,7 +71,14 @@ fn event(address: u64, residual: u32) -> Record {
 }
 
 // A log of one write.
-fn one(rt: &impl Print, name: &[u8], base: u64, address: u64, length: u32, start: u32) -> io::Result<()> {
+fn one(
+    rt: &impl Print,
+    name: &[u8],
+    base: u64,
+    address: u64,
+    length: u32,
+    start: u32,
+) -> io::Result<()> {
     let mut log = [0u8; 32];
     call_log::put_record(&mut log, 0, write(address, length, start));
     case(rt, name, base, &log)
@@ -129,7 +136,7 @@ fn questions(rt: &impl Print) -> io::Result<()> {
     one(rt, b"up to the data's end", BASE, BASE, 3, 5)?;
     one(rt, b"one byte past the data", BASE, BASE, 4, 5)?;
     one(
- rt,
+        rt,
         b"0 bytes outside the window and the data",
         BASE,
         0xffff_ffff_ffff_ffff,
@@ -137,7 +144,7 @@ fn questions(rt: &impl Print) -> io::Result<()> {
         0xffffffff,
     )?;
     one(
- rt,
+        rt,
         b"a start and a length that add up past 32 bits",
         BASE,
         BASE,
@@ -148,25 +155,25 @@ fn questions(rt: &impl Print) -> io::Result<()> {
 
 fn order(rt: &impl Print) -> io::Result<()> {
     two(
- rt,
+        rt,
         b"a write over another",
         write(BASE, 4, 0),
         write(0x8002, 4, 4),
     )?;
     two(
- rt,
+        rt,
         b"the same two, the other way round",
         write(0x8002, 4, 4),
         write(BASE, 4, 0),
     )?;
     two(
- rt,
+        rt,
         b"a write inside, then one outside",
         write(BASE, 4, 0),
         write(0x8010, 1, 0),
     )?;
     two(
- rt,
+        rt,
         b"an event outside the window, then a write",
         event(0xffff_ffff_ffff_ffff, 0xffffffff),
         write(0x8001, 2, 6),
@@ -177,7 +184,7 @@ fn order(rt: &impl Print) -> io::Result<()> {
 // The region's base is 2^64 - 16, then 2^64 - 8.
 fn windows(rt: &impl Print) -> io::Result<()> {
     one(
- rt,
+        rt,
         b"up to 2^64, where the window ends",
         0xffff_ffff_ffff_fff0,
         0xffff_ffff_ffff_fffc,
@@ -185,7 +192,7 @@ fn windows(rt: &impl Print) -> io::Result<()> {
         0,
     )?;
     one(
- rt,
+        rt,
         b"one byte past 2^64, where the window ends",
         0xffff_ffff_ffff_fff0,
         0xffff_ffff_ffff_fffc,
@@ -193,7 +200,7 @@ fn windows(rt: &impl Print) -> io::Result<()> {
         0,
     )?;
     one(
- rt,
+        rt,
         b"over 2^64, in a window that goes on",
         0xffff_ffff_ffff_fff8,
         0xffff_ffff_ffff_fffc,
@@ -201,7 +208,7 @@ fn windows(rt: &impl Print) -> io::Result<()> {
         0,
     )?;
     one(
- rt,
+        rt,
         b"address 0, in a window over 2^64",
         0xffff_ffff_ffff_fff8,
         0,
@@ -211,14 +218,27 @@ fn windows(rt: &impl Print) -> io::Result<()> {
 }
 
 // A log, carried out in two regions of 8 bytes.
-fn log_in_two(rt: &impl Print, name: &[u8], low_base: u64, high_base: u64, log: &[u8]) -> io::Result<()> {
+fn log_in_two(
+    rt: &impl Print,
+    name: &[u8],
+    low_base: u64,
+    high_base: u64,
+    log: &[u8],
+) -> io::Result<()> {
     let mut low = [b'.'; 8];
     let mut high = [b'.'; 8];
     case_in_two(rt, name, log, low_base, &mut low, high_base, &mut high)
 }
 
 // A log of one write, likewise.
-fn one_in_two(rt: &impl Print, name: &[u8], low_base: u64, high_base: u64, address: u64, length: u32) -> io::Result<()> {
+fn one_in_two(
+    rt: &impl Print,
+    name: &[u8],
+    low_base: u64,
+    high_base: u64,
+    address: u64,
+    length: u32,
+) -> io::Result<()> {
     let mut log = [0u8; 32];
     call_log::put_record(&mut log, 0, write(address, length, 0));
     log_in_two(rt, name, low_base, high_base, &log)
@@ -235,13 +255,27 @@ fn high_empty(rt: &impl Print, name: &[u8], low_base: u64, high_base: u64) -> io
 fn regions(rt: &impl Print) -> io::Result<()> {
     let none = [0u8; 33];
     one_in_two(rt, b"in the low region", BASE, 0x1_0000_0000, 0x8002, 4)?;
-    one_in_two(rt, b"in the high region", BASE, 0x1_0000_0000, 0x1_0000_0002, 4)?;
+    one_in_two(
+        rt,
+        b"in the high region",
+        BASE,
+        0x1_0000_0000,
+        0x1_0000_0002,
+        4,
+    )?;
     one_in_two(rt, b"in the hole", BASE, 0x1_0000_0000, 0x8008, 1)?;
     one_in_two(rt, b"across regions that touch", BASE, 0x8008, 0x8006, 4)?;
     one_in_two(rt, b"up to where they touch", BASE, 0x8008, 0x8004, 4)?;
     one_in_two(rt, b"from where they touch", BASE, 0x8008, 0x8008, 4)?;
     one_in_two(rt, b"the other one lower", 0x8008, BASE, 0x8001, 4)?;
-    one_in_two(rt, b"across them, the other one lower", 0x8008, BASE, 0x8006, 4)?;
+    one_in_two(
+        rt,
+        b"across them, the other one lower",
+        0x8008,
+        BASE,
+        0x8006,
+        4,
+    )?;
     one_in_two(rt, b"one address shared", BASE, 0x8007, 0x8000, 4)?;
     log_in_two(rt, b"an empty log, one address shared", BASE, 0x8007, b"")?;
     log_in_two(rt, b"33 bytes, one address shared", BASE, 0x8007, &none)?;

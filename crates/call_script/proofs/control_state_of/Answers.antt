@@ -12,3 +12,6 @@ pub returns-in-2 : goal.returns-in-2
 unfolding control_state_of row_of
 returns-in-2 c = rw c.in-2.is
 
+pub returns-in_default : goal.returns-in_default
+unfolding control_state_of row_of
+returns-in_default c = let r = c.in_default.in_default-own.rest in simp (ne_eqb _ _ r.1, ne_eqb _ _ r.0.1)

@@ -16,3 +16,6 @@ pub returns-in-3 : goal.returns-in-3
 unfolding in_state_of row_of
 returns-in-3 c = rw c.in-3.is
 
+pub returns-in_default : goal.returns-in_default
+unfolding in_state_of row_of
+returns-in_default c = let r = c.in_default.in_default-own.rest in simp (ne_eqb _ _ r.1, ne_eqb _ _ r.0.1, ne_eqb _ _ r.0.0.1)

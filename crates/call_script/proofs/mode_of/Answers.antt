@@ -8,3 +8,6 @@ pub returns-in-1 : goal.returns-in-1
 unfolding mode_of row_of
 returns-in-1 c = rw c.in-1.is
 
+pub returns-in_default : goal.returns-in_default
+unfolding mode_of row_of
+returns-in_default c = let r = c.in_default.in_default-own.rest in simp (ne_eqb _ _ r.1)

@@ -20,3 +20,6 @@ pub returns-in-4 : goal.returns-in-4
 unfolding phase_of row_of
 returns-in-4 c = rw c.in-4.is
 
+pub returns-in_default : goal.returns-in_default
+unfolding phase_of row_of
+returns-in_default c = let r = c.in_default.in_default-own.rest in simp (ne_eqb _ _ r.1, ne_eqb _ _ r.0.1, ne_eqb _ _ r.0.0.1, ne_eqb _ _ r.0.0.0.1)

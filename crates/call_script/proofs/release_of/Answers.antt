@@ -8,3 +8,6 @@ pub returns-in-5 : goal.returns-in-5
 unfolding release_of row_of
 returns-in-5 c = rw c.in-5.is
 
+pub returns-in_default : goal.returns-in_default
+unfolding release_of row_of
+returns-in_default c = let r = c.in_default.in_default-own.rest in simp (ne_eqb _ _ r.1)

@@ -1,6 +1,5 @@
 -- `numerals::leading_zeros` meets its contract. The loop's invariant: the digits from `skipped` on trim to what all of them trim to.
 -- The measure is how many these are. Assumes nothing.
-use Prim.Native.Nat.{◌-◌}
 use mathlib.Core.Path.{refl, sym, ◌∙◌}
 use native.Mathlib.Numerals.{add-one}
 use native.Mathlib.Omega.{arith}

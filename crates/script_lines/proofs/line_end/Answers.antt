@@ -1,6 +1,5 @@
 -- `script_lines::line_end` meets its contract. The loop's invariant: the line that is left from here on ends where the whole line does.
 -- The measure is what is left of the input. Assumes nothing.
-use Prim.Native.Nat.{◌-◌}
 use mathlib.Core.Path.{ap}
 use native.Mathlib.Omega.{arith}
 use lib.ListN.{length}

@@ -1,6 +1,6 @@
 -- `script_lines::move_to_front` meets its contract. The loop's invariant: the bytes passed stand at the front, and those not yet passed where they stood.
 -- The measure is the number of bytes left. Assumes nothing.
-use Prim.Native.Nat.{◌-◌, ◌<◌}
+use Prim.Native.Nat.{◌<◌}
 use mathlib.Core.Path.{refl}
 use native.Mathlib.Omega.{arith}
 use lib.ListN.{length, length-set}

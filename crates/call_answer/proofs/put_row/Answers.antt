@@ -1,0 +1,24 @@
+-- `call_answer::put_row` meets its contract: first line, records and carry-out's line stand one behind the other. Assumes nothing.
+use mathlib.Core.Path.{refl}
+use native.Mathlib.Omega.{arith}
+use lib.Dec.{lit≤}
+use Rattle.numerals.proofs.WrittenLaws.{written-append, written-within}
+use Rattle.call_answer.specs.Answers.{row_text, completion_memory}
+use Rattle.call_answer.proofs.put_row.Goals as goal
+
+pub returns-in-Completed : goal.returns-in-Completed
+unfolding row_text completion_memory
+returns-in-Completed c =
+    rw c.in-Completed.is
+    (record {
+      text = written-append c.args.at (omega (arith, c.requires.max_carried_out_in_bounds))
+          (written-append c.args.at (omega (arith, c.requires.max_carried_out_in_bounds)) (rw (c.count.ensures, c.count-in-Completed.ensures) at c.put_row_completed-next.ensures) c.put_first_records-end.ensures)
+          c.put_carry_out.ensures.text;
+      after = c.put_carry_out.ensures.after;
+    })
+
+pub returns-in-Refused : goal.returns-in-Refused
+unfolding row_text completion_memory
+returns-in-Refused c =
+    rw c.in-Refused.is
+    (record { text = written-within (lit≤ tt) (rw c.refusal_number.ensures at c.put_refused.ensures); after = refl })

@@ -1,0 +1,12 @@
+-- `capture_merge::larger` meets its contract: the branch is the definition's. Assumes nothing.
+use borrow.Author.Tests.{lt-ltb, le-ltb}
+use Rattle.capture_merge.specs.Merging.{larger}
+use Rattle.capture_merge.proofs.larger.Goals as goal
+
+pub returns-then-x-y : goal.returns-then-x-y
+unfolding larger
+returns-then-x-y c = simp (lt-ltb _ _ c.if-x-y.true)
+
+pub returns-else-x-y : goal.returns-else-x-y
+unfolding larger
+returns-else-x-y c = simp (le-ltb _ _ c.if-x-y.false)

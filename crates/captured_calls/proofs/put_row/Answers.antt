@@ -1,0 +1,67 @@
+-- `captured_calls::put_row` meets its contract. The invariant: what is laid, and then what the TDs left give, is what the row gives. The measure is the number
+-- of TDs left of the most that a row can have. Assumes nothing.
+use Prim.Native.Nat.{ℕ, ◌-◌}
+use mathlib.Core.Bool.{not}
+use mathlib.Core.Path.{◌≡◌, ap}
+use native.Mathlib.Nat.{sub-zero}
+use native.Mathlib.Omega.{arith}
+use lib.Dec.{eqb}
+use lib.ListN.{length, take}
+use Rattle.trb.specs.Limits.{max_row}
+use Rattle.captured_calls.proofs.WrittenLaws.{continues-start, continues-turn, continues-end}
+use Rattle.captured_calls.proofs.LeastLaws.{take-least}
+use Rattle.captured_calls.proofs.RowLaws.{row-turn, row-end}
+use Rattle.captured_calls.proofs.put_row.Goals.{Start}
+use Rattle.captured_calls.proofs.put_row.Goals as goal
+
+-- a row has so many places, and so have its results
+module _ (s : Start) where
+  places : length s.args.row ≡ max_row
+  places = omega arith
+
+  result-places : length s.args.results ≡ max_row
+  result-places = omega arith
+
+pub loop-td-init : goal.loop-td-init
+loop-td-init c = (c.least-trbs.ensures, (c.least-logged.ensures, (omega arith, rw sub-zero (continues-start _ c.args.output.now c.args.at c.requires))))
+
+pub td_at-found-requires : goal.td_at-found-requires
+td_at-found-requires c = omega (arith, c.loop-td.invariant.0)
+
+pub part_end-end-requires : goal.part_end-end-requires
+part_end-end-requires c = c.loop-td.invariant.1.1.0
+
+pub slice_bounds-put_td-count : goal.slice_bounds-put_td-count
+slice_bounds-put_td-count c = omega (arith, c.part_end-end.ensures)
+
+pub put_td-put-requires : goal.put_td-put-requires
+put_td-put-requires c =
+    let l = c.loop-td in
+    (l.invariant.1.1.1.inside, omega (arith, l.invariant.1.0))
+
+pub loop-td-preserved : goal.loop-td-preserved
+loop-td-preserved c =
+    let put = c.put_td-put in
+    let span = c.td_at-found.ensures in
+    let l = c.loop-td in (
+      l.invariant.0,
+      (
+        l.invariant.1.0,
+        (
+          omega (arith, c.part_end-end.ensures, l.invariant.1.1.0),
+          continues-turn _ _ _
+              (row-turn _ _ _ c.args.results c.least-logged.result c.args.log.now c.args.«data».now _ _ l.from _ (omega (arith, c.loop-td-test.true, result-places (goal.at.loop-td-preserved c).Start)) _ _ put.result.from _ (ap (λ (k : ℕ). not (eqb k 0)) span.count) span.end put.ensures.behind c.part_end-end.ensures)
+              l.invariant.1.1.1
+              put.ensures.lays,
+        ),
+      ),
+    )
+
+pub shape_of-output : goal.shape_of-output
+shape_of-output c = c.loop-td.invariant.1.1.1.size
+
+pub returns : goal.returns
+returns c =
+    let l = c.loop-td in
+    let row = take-least c.args.row c.args.count c.least-trbs.result (rw (places (goal.at.returns c).Start) l.invariant.0) in
+    rw (← l.invariant.1.0, ← row) (continues-end _ (row-end _ _ (take c.least-trbs.result c.args.row) c.args.results c.least-logged.result c.args.log.now c.args.«data».now l.first l.td l.from l.start (omega (arith, c.loop-td-test.false, result-places (goal.at.returns c).Start))) l.invariant.1.1.1)

@@ -1,0 +1,6 @@
+-- `control_calls::cancel` meets its contract: the endpoint's answer and its records, then the state line. Assumes nothing.
+use Rattle.control_calls.proofs.CallLaws.{says-cancelled}
+use Rattle.control_calls.proofs.cancel.Goals as goal
+
+pub returns : goal.returns
+returns c = says-cancelled c.args.at c.requires _ _ c.cancel-after.ensures c.put_answer-next.ensures c.answered.ensures

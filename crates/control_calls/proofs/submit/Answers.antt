@@ -1,0 +1,21 @@
+-- `control_calls::submit` meets its contract: the lent part of the collect buffer is what the endpoint makes of it; then answer and state line. Assumes nothing.
+use mathlib.Core.Path.{sym}
+use native.Mathlib.Omega.{arith}
+use lib.Seq.{length-take-le}
+use Rattle.control_calls.proofs.CallLaws.{runs-submitted, take-least, collected-behind}
+use Rattle.control_calls.proofs.submit.Goals as goal
+
+pub slice_bounds-submit_trb-end : goal.slice_bounds-submit_trb-end
+slice_bounds-submit_trb-end c = rw c.least-end.ensures (omega arith)
+
+pub slice_bounds-submit_trb-end-2 : goal.slice_bounds-submit_trb-end-2
+slice_bounds-submit_trb-end-2 c = rw c.least-end.ensures (sym (length-take-le _ _ (omega arith)))
+
+pub returns : goal.returns
+returns c =
+    let kept = collected-behind c.args.block c.args.t c.args.lent c.args.collect.now _ _ c.least-end.ensures c.submit_trb-submitted.ensures.collect in
+    record {
+      runs = runs-submitted c.args.at c.args.block _ c.requires.max_answer_in_bounds _ c.args.lent c.args.collect.now (take-least _ _ c.least-end.ensures)
+          c.submit_trb-submitted.ensures.met kept c.put_answer-next.ensures c.answered.ensures;
+      collected = kept;
+    }

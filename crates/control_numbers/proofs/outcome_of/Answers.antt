@@ -1,0 +1,11 @@
+-- `control_numbers::outcome_of` meets its contract: the table, by kind and chain bit. Assumes nothing.
+use Rattle.std.proofs.Common.{◌∙◌}
+use Rattle.phase_table.specs.Table.{outcome_of}
+use Rattle.control_numbers.proofs.KindLaws.{outcome-by}
+use Rattle.control_numbers.proofs.outcome_of.Goals as goal
+
+pub returns : goal.returns
+returns c =
+    λ value len.
+    let s = c.args in
+    c.outcome_of.ensures ∙ (λ j. outcome_of s.phase (c.kind_of.ensures s.flags value len j) (c.bit.ensures j)) ∙ outcome-by s.kind s.flags value len s.phase

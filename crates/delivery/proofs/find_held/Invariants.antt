@@ -1,0 +1,10 @@
+use Prim.Native.Nat.{◌≤◌, ◌-◌}
+use lib.ListN.{take}
+use Rattle.in_block.proofs.TestLaws.{Testing}
+use Rattle.delivery.proofs.find_held.Given as goal
+
+abbrev pub invariant-loop-i : goal.invariant-loop-i
+invariant-loop-i l = Testing (take l.places l.trbs) l.found l.i × (l.i ≤ l.places)
+
+abbrev pub decreases-loop-i : goal.decreases-loop-i
+decreases-loop-i l = l.places - l.i

@@ -1,0 +1,26 @@
+-- `in_place_submission::log_request` meets its contract: the first place has the address. Assumes nothing.
+use Prim.Native.Nat.{◌<◌}
+use mathlib.Core.Path.{◌≡◌, sym, ap, ◌∙◌, subst}
+use mathlib.Core.List.{[], ◌∷◌}
+use native.Mathlib.Omega.{arith}
+use lib.ListN.{take}
+use Rattle.trb.specs.Limits.{max_held}
+use Rattle.trb.specs.declared.TransferTrb.{TransferTrb}
+use Rattle.call_log.specs.Calls.{Put}
+use Rattle.call_log.specs.Records.{in_request}
+use Rattle.call_log.specs.declared.Record.{Record}
+use Rattle.in_bytes.specs.Layout.{places}
+use Rattle.in_bytes.proofs.HeldLaws.{placed}
+use Rattle.in_endpoint.specs.Submission.{first_address}
+use Rattle.in_endpoint.proofs.SubmissionLaws.{first_address-take}
+use Rattle.in_place_submission.proofs.log_request.Goals as goal
+
+pub returns : goal.returns
+returns c =
+    let b = c.args.block.now in
+    let few : 0 < max_held = omega (arith, c.requires.1.1.0, c.requires.1.1.1) in
+    let first : c.trb_at-first.result.addr ≡ first_address (take c.args.held (places b)) =
+    ap (λ (t : TransferTrb). t.addr) (c.trb_at-first.ensures ∙ sym (placed b 0 few)) ∙ first_address-take (places b) c.args.held c.requires.1.1.0 in
+    subst (λ (x : Record). Put c.args.log.now 0 (x ∷ []) c.put_record.new.log)
+    (c.in_request-request.ensures ∙ (λ j. in_request (first j) (c.requested_length-length.ensures j) (c.endpoint_id-endpoint_id.ensures j) (c.slot_id-slot_id.ensures j)))
+    c.put_record.ensures

@@ -1,0 +1,138 @@
+-- `place_walk::walk_full` meets its contract. The loop keeps to the TD's walk, of any TD with this data: a full Normal's turn is its write. Assumes nothing.
+use Prim.Native.Nat.{ℕ, ◌+◌, ◌-◌, ◌*◌, ◌<◌, ◌≤◌}
+use mathlib.Core.Path.{◌≡◌, refl, sym, ap, ◌∙◌, subst}
+use mathlib.Core.List.{List}
+use native.Mathlib.Omega.{arith}
+use lib.ListN.{length, take, drop}
+use lib.Seq.{drop-drop}
+use Rattle.trb.specs.Limits.{max_held, record_length}
+use Rattle.trb.specs.declared.TransferTrb.{TransferTrb}
+use Rattle.buffers.specs.LittleEndian.{le_number, le_field}
+use Rattle.call_log.specs.Records.{guest_write}
+use Rattle.call_log.proofs.CallLaws.{meets}
+use Rattle.held.specs.Places.{past_end}
+use Rattle.held.specs.declared.EndpointKind.TheVariants.{In}
+use Rattle.walks.proofs.WalkLaws.{Walked, walked_none, walked-turn}
+use Rattle.td_part.specs.Parts.{edtla_after}
+use Rattle.in_td.specs.Td.{going_on, process_trb}
+use Rattle.in_td.proofs.TdLaws.{td_walker}
+use Rattle.held_bytes.specs.Places.{place_length}
+use Rattle.held_bytes.proofs.PlaceLaws.{length-places_of, place_at}
+use Rattle.place_walk.specs.Full.{SilentNormal, Reached}
+use Rattle.place_walk.specs.declared.FullWalked.{FullWalked}
+use Rattle.place_walk.proofs.FullLaws.{state-at, full-met, reached, reached-from}
+use borrow.Author.Rules.{rules}
+use Rattle.place_walk.proofs.walk_full.Invariants.{trbs}
+use Rattle.place_walk.proofs.walk_full.Goals.{After-length_at-length, At-loop-j, In-loop-j, Start}
+use Rattle.place_walk.proofs.walk_full.Goals as goal
+
+-- the call
+module _ (s : Start) where
+
+  few : s.args.count ≤ length (trbs s.args.places.now s.args.at)
+  few = omega (arith, s.requires.1.0, length-places_of In max_held (drop s.args.at s.args.places.now))
+
+pub returns-then-not-is_default : goal.returns-then-not-is_default
+returns-then-not-is_default c = (omega arith, reached (walked_none (td_walker c.args.td) c.args.from (take c.args.count (trbs c.args.places.now c.args.at)) c.args.log.now c.requires.1.1.1.0) c.requires.1.1.1.1)
+
+pub loop-j-init : goal.loop-j-init
+loop-j-init c =
+    let p = c.args.from in
+    ((λ td e. walked_none (td_walker td) (going_on p.normals_left p.progress) (take c.args.count (trbs c.args.places.now c.args.at)) c.args.log.now (rw e c.requires.1.1.1.0)), omega arith)
+
+-- in the loop, and where it is left
+module _ (c : At-loop-j) where
+  walked : Walked (td_walker c.args.td) (going_on c.args.from.normals_left c.args.from.progress) (take c.args.count (trbs c.args.places.now c.args.at)) c.args.log.now c.loop-j.log (state-at c.loop-j.normals_left c.loop-j.start c.loop-j.edtla c.args.from.progress.state c.loop-j.records) c.loop-j.j
+  walked = c.loop-j.invariant.0 c.args.td refl
+
+  left_here : {r : FullWalked} → r ≡ record { processed = (state-at c.loop-j.normals_left c.loop-j.start c.loop-j.edtla c.args.from.progress.state c.loop-j.records); count = c.loop-j.j }
+      → (r.count ≤ c.args.count) × Reached c.args.td c.args.from (take c.args.count (trbs c.args.places.now c.args.at)) c.args.log.now c.loop-j.log r.processed r.count
+  left_here e =
+      subst (λ (x : FullWalked). (x.count ≤ c.args.count) × Reached c.args.td c.args.from (take c.args.count (trbs c.args.places.now c.args.at)) c.args.log.now c.loop-j.log x.processed x.count) (sym e)
+      (c.loop-j.invariant.1, reached-from c.requires.1.1.1.1 walked refl)
+
+-- a turn's place
+module _ (c : In-loop-j) where
+  place-fits : (c.args.at + place_length * c.loop-j.j) + place_length ≤ length c.args.places.now
+  place-fits = omega (arith, c.loop-j-test.true, c.requires.0)
+
+pub overflow_mul-place : goal.overflow_mul-place
+overflow_mul-place c = omega (arith, place-fits (goal.at.overflow_mul-place c).In-loop-j)
+
+pub overflow_add-place : goal.overflow_add-place
+overflow_add-place c = omega (arith, place-fits (goal.at.overflow_add-place c).In-loop-j)
+
+pub shape_of-log-then-normals_left-eq1 : goal.shape_of-log-then-normals_left-eq1
+shape_of-log-then-normals_left-eq1 c = (walked (goal.at.shape_of-log-then-normals_left-eq1 c).At-loop-j).long
+
+pub returns-then-normals_left-eq1 : goal.returns-then-normals_left-eq1
+returns-then-normals_left-eq1 c = left_here (goal.at.returns-then-normals_left-eq1 c).At-loop-j c.full_walked.ensures
+
+pub overflow_sub-info : goal.overflow_sub-info
+overflow_sub-info c = (walked (goal.at.overflow_sub-info c).At-loop-j).good.within
+
+pub is_silent_normal-requires : goal.is_silent_normal-requires
+is_silent_normal-requires c = place-fits (goal.at.is_silent_normal-requires c).In-loop-j
+
+pub shape_of-log-then-not-is_silent_normal : goal.shape_of-log-then-not-is_silent_normal
+shape_of-log-then-not-is_silent_normal c = (walked (goal.at.shape_of-log-then-not-is_silent_normal c).At-loop-j).long
+
+pub returns-then-not-is_silent_normal : goal.returns-then-not-is_silent_normal
+returns-then-not-is_silent_normal c = left_here (goal.at.returns-then-not-is_silent_normal c).At-loop-j c.full_walked-then-not-is_silent_normal.ensures
+
+pub length_at-length-requires : goal.length_at-length-requires
+length_at-length-requires c = place-fits (goal.at.length_at-length-requires c).In-loop-j
+
+pub overflow_add-place-in-loop-j : goal.overflow_add-place-in-loop-j
+overflow_add-place-in-loop-j c = omega (arith, place-fits (goal.at.overflow_add-place-in-loop-j c).In-loop-j)
+
+pub le64-pointer-requires : goal.le64-pointer-requires
+le64-pointer-requires c = omega (arith, place-fits (goal.at.le64-pointer-requires c).In-loop-j)
+
+pub put_record-requires : goal.put_record-requires
+put_record-requires c = omega (arith, (walked (goal.at.put_record-requires c).At-loop-j).room, (walked (goal.at.put_record-requires c).At-loop-j).long, c.requires.1.1.0, c.loop-j-test.true)
+
+-- behind its length
+module _ (c : After-length_at-length) where
+  silent : SilentNormal (drop (c.args.at + place_length * c.loop-j.j) c.args.places.now) (c.args.td.info.data_length - c.loop-j.start)
+  silent = c.is_silent_normal.ensures c.if-not-is_silent_normal.false
+
+pub overflow_add-start : goal.overflow_add-start
+overflow_add-start c = omega (arith, (silent (goal.at.overflow_add-start c).After-length_at-length).full, c.length_at-length.ensures, (walked (goal.at.overflow_add-start c).At-loop-j).good.within, c.struct_known-1.given)
+
+pub overflow_add-records : goal.overflow_add-records
+overflow_add-records c =
+    let room : record_length * (c.loop-j.records + 1) ≤ length c.args.log.now = omega (arith, (walked (goal.at.overflow_add-records c).At-loop-j).room, c.requires.1.1.0, c.loop-j-test.true) in
+    search rules
+
+pub overflow_add-j : goal.overflow_add-j
+overflow_add-j c = omega (arith, c.loop-j-test.true, c.requires.1.0)
+
+pub loop-j-smaller : goal.loop-j-smaller
+loop-j-smaller c = omega (arith, c.loop-j-test.true)
+
+pub loop-j-preserved : goal.loop-j-preserved
+loop-j-preserved c =
+    let b = c.args.places.now in
+    let l = drop (c.args.at + place_length * c.loop-j.j) b in
+    let p = c.loop-j in
+    let few-held : p.j < max_held = omega (arith, c.loop-j-test.true, c.requires.1.0) in
+    let len = c.length_at-length.ensures in
+    let pointer : c.le64-pointer.result ≡ le_field 8 8 l =
+    c.le64-pointer.ensures ∙ sym (ap (λ (x : List ℕ). le_number (take 8 x)) (drop-drop 8 (c.args.at + place_length * c.loop-j.j) b)) in (
+      (λ td same.
+          walked-turn (td_walker td) (trbs c.args.places.now c.args.at) c.args.count (few (goal.at.loop-j-preserved c).Start) (going_on c.args.from.normals_left c.args.from.progress) c.args.log.now p.log c.put_record.new.log (state-at c.loop-j.normals_left c.loop-j.start c.loop-j.edtla c.args.from.progress.state c.loop-j.records) _ p.j past_end (p.invariant.0 td same) refl c.loop-j-test.true c.requires.1.1.0
+          (meets (ap (λ (t : TransferTrb). process_trb td (state-at c.loop-j.normals_left c.loop-j.start c.loop-j.edtla c.args.from.progress.state c.loop-j.records) t) (place_at In c.args.at b max_held p.j past_end few-held))
+          (full-met td same p.normals_left p.start p.edtla p.records c.args.from.progress.state l (c.is_default.ensures c.if-not-is_default.false) c.if-normals_left-eq1.false (silent (goal.at.loop-j-preserved c).After-length_at-length)
+          c.guest_write-write.result
+          (c.guest_write-write.ensures ∙ (λ k. guest_write (pointer k) (len k) p.start c.args.td.info.endpoint_id c.args.td.info.slot_id))
+          c.put_record.ensures
+          (λ k. state-at (c.one_less-normals_left.ensures k) (p.start + len k) ((c.edtla_after-edtla.ensures ∙ ap (edtla_after p.edtla) len) k) c.args.from.progress.state (p.records + 1))))),
+      omega (arith, c.loop-j-test.true),
+    )
+
+pub shape_of-log : goal.shape_of-log
+shape_of-log c = (walked (goal.at.shape_of-log c).At-loop-j).long
+
+pub returns : goal.returns
+returns c = left_here (goal.at.returns c).At-loop-j c.full_walked-2.ensures
