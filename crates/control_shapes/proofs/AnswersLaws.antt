@@ -2,11 +2,13 @@
 use Prim.Native.Nat.{ℕ, ◌+◌, ◌-◌, ◌*◌, ◌≤◌}
 use mathlib.Core.Path.{◌≡◌, refl}
 use mathlib.Core.Bool.{Bool, true, false, cond}
-use mathlib.Core.List.{List, [], ◌∷◌}
+use mathlib.Core.List.{List, [], ◌∷◌, ◌++◌}
 use native.Mathlib.Omega.{arith}
 use borrow.Author.Tests.{ltb-false, eq-eqb, ne_eqb}
 use lib.Dec.{eqb, ltb}
-use lib.ListN.{length, get_or}
+use lib.ListN.{length, take, drop, get_or}
+use lib.Seq.{take_at}
+use Rattle.buffers.specs.Patch.{patch}
 use Rattle.numerals.specs.Written.{Written}
 use Rattle.log_text.specs.Lines.{line_feed}
 use Rattle.shapes.specs.Lists.{min_shape, max_shape}
@@ -39,6 +41,26 @@ asked-other (b ∷ []) f g h = absurd (f refl)
 asked-other (b ∷ c ∷ []) f g h = absurd (g refl)
 asked-other (b ∷ c ∷ x ∷ []) f g h = absurd (h refl)
 asked-other (b ∷ c ∷ x ∷ y ∷ l) f g h = refl
+
+-- ---- An input of four bytes, or more
+
+asked-longer : (l rest : List ℕ) → 4 ≤ length l → asked (l ++ rest) ≡ asked l
+asked-longer [] rest h = absurd (omega arith)
+asked-longer (b ∷ []) rest h = absurd (omega arith)
+asked-longer (b ∷ c ∷ []) rest h = absurd (omega arith)
+asked-longer (b ∷ c ∷ f ∷ []) rest h = absurd (omega arith)
+asked-longer (b ∷ c ∷ f ∷ x ∷ l) rest h = refl
+
+-- whatever stands behind it does not matter
+pub longer-same : (l rest : List ℕ) → 4 ≤ length l → answer_text (l ++ rest) ≡ answer_text l
+unfolding answer_text
+longer-same l rest h = rw (asked-longer l rest h)
+
+-- ---- A text that was written first in its buffer
+
+pub text-first : {most : ℕ} {t vs : List ℕ} {r : ℕ} {t' : List ℕ} → Written most t 0 vs r t' → take r t' ≡ vs
+unfolding patch
+text-first {most} {t} {vs} {r} {t'} w = rw (w.text, w.next) (take_at vs (drop (0 + length vs) t) (0 + length vs) (omega arith))
 
 -- ---- At most max_shape
 

@@ -1,12 +1,14 @@
 // Prints the shapes of control chains up to the length that it is given on standard input (R-10).
 #![tactic(auto)]
 
-ghost use Rattle.std.specs.Prelude.{◌≡◌, ◌∷◌, [], ◌≤◌, length};
+ghost use Rattle.std.specs.Prelude.{◌≡◌, ◌∷◌, [], ◌≤◌, length, OnOk};
+ghost use Rattle.input_bytes.specs.Outputs.{WritesFor};
 ghost use Rattle.numerals.specs.Written.{Written};
 ghost use Rattle.shape_lines.specs.Lines.{max_text};
 ghost use Rattle.control_shapes.specs.Answers.{in_range, one_digit, two_digits, asked as asked_of, refused_text, answer_text};
 
 use std::io;
+use std::io::{Read, Write};
 
 // ---- What is read
 
@@ -125,14 +127,23 @@ fn put_answer(text: &mut [u8], input: &[u8]) -> usize
     shape_text::shapes_up_to(text, longest)
 }
 
-fn text_buffer() -> [u8; shape_lines::MAX_TEXT] {
+fn text_buffer() -> [u8; shape_lines::MAX_TEXT]
+    ensures { length result ≡ max_text }
+{
     [0u8; shape_lines::MAX_TEXT]
 }
 
-fn main(rt: HostRuntime) -> io::Result<()> {
+// Reads an input and writes the text for it.
+fn answer_input<R: Read, W: Write>(reader: &mut R, writer: &mut W) -> io::Result<()>
+    ensures { OnOk result (WritesFor answer_text (R.remaining reader.old) (W.contents writer.old) (W.contents writer.new)) }
+{
     let mut input = [0u8; INPUT];
-    let read = input_bytes::read_full(&mut rt.stdin(), &mut input)?;
+    let read = input_bytes::read_full(reader, &mut input)?;
     let mut text = text_buffer();
     let end = put_answer(&mut text, &input[..read]);
-    rt.write_all(&text[..end])
+    writer.write_all(&text[..end])
+}
+
+fn main(rt: HostRuntime) -> io::Result<()> {
+    answer_input(&mut rt.stdin(), &mut rt.stdout())
 }

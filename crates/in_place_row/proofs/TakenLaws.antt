@@ -1,6 +1,6 @@
 -- A chained Normal that is taken: what the questions find with it. Assumes nothing.
 use Prim.Native.Nat.{ℕ, ◌+◌, ◌<◌}
-use mathlib.Core.Path.{◌≡◌, refl, sym, ap, ◌∙◌}
+use mathlib.Core.Path.{◌≡◌, refl, ap, ◌∙◌}
 use mathlib.Core.Bool.{Bool, true, false, ◌&&◌, ◌||◌}
 use mathlib.Core.List.{List}
 use native.Mathlib.Omega.{arith}
@@ -9,9 +9,7 @@ use borrow.Author.Tests.{le-leb}
 use Rattle.trb.specs.Answers.{is_accepted}
 use Rattle.trb.specs.Limits.{max_held, max_transfer_length}
 use Rattle.trb.specs.Questions.{first_no}
-use Rattle.trb.specs.declared.Answer.{Answer}
 use Rattle.trb.specs.declared.Answer.TheVariants.{Accepted}
-use Rattle.trb.specs.declared.TransferTrb.{TransferTrb}
 use Rattle.trb.specs.declared.TransferTrbVariant.{TransferTrbVariant}
 use Rattle.trb.specs.declared.TransferTrbVariant.TheVariants.{Normal}
 use Rattle.buffers.specs.LittleEndian.{le_field}

@@ -1,1 +1,1 @@
--- No definitions: the laws stand in proofs/. Assumes nothing.
+pub mod Layers

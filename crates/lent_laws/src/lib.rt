@@ -1,2 +1,106 @@
-// Laws that the proofs by hand of the thin layers share; no code.
+// Layers over any function: a lent block is passed on by value, and the block of the answer is stored where it was lent.
 #![tactic(auto)]
+
+ghost use Rattle.std.specs.Prelude.{◌≡◌};
+ghost use Rattle.std.specs.Fn.{FnOnceTakesAtMut, FnOnceReturnsAtMut};
+ghost use Rattle.lent_laws.specs.Layers.{TakesCompletion, CompletesBy, TakesSubmission, SubmitsBy, TakesCollecting, CollectsBy};
+
+// What a function by value returns: its answer, the number of records that it logged, and the block.
+#[derive(Clone, Copy)]
+pub struct Returned<A, B> {
+    pub answer: A,
+    pub records: usize,
+    pub block: B,
+}
+
+// What a layer returns: the same, but for the block.
+#[derive(Clone, Copy)]
+pub struct Outcome<A> {
+    pub answer: A,
+    pub records: usize,
+}
+
+// The layer of a cancel: it ensures whatever the callee ensures of the block that was lent and the one that is stored over it.
+pub fn cancel_layer<B: Copy, F: FnOnce(B) -> B>(block: &mut B, callee: F)
+    requires { F.pre callee block.old }
+    ensures { F.post callee block.old block.new }
+{
+    *block = callee(*block);
+}
+
+// A slice is lent again, for the time of a call, and comes back as the call left it.
+pub fn lent_again<T, R, F: FnOnce(&mut [T]) -> R>(row: &mut [T], callee: F) -> R
+    requires { FnOnceTakesAtMut F.FnOnce callee row.old }
+    ensures { FnOnceReturnsAtMut F.FnOnce callee row.old result row.new }
+{
+    callee(row)
+}
+
+// The layer of a completion: it ensures whatever the callee ensures, with the block of the answer left in the place of the one that was lent.
+pub fn completion_layer<A, B: Copy, X, F: FnOnce(&mut [u8], B, X, &[u8]) -> Returned<A, B>>(
+    log: &mut [u8],
+    block: &mut B,
+    x: X,
+    bytes: &[u8],
+    callee: F,
+) -> Outcome<A>
+    requires { TakesCompletion F.FnOnce callee log.old block.old x bytes.now }
+    ensures { CompletesBy F.FnOnce callee log.old block.old x bytes.now result block.new log.new }
+{
+    let r = callee(log, *block, x, bytes);
+    *block = r.block;
+    Outcome {
+        answer: r.answer,
+        records: r.records,
+    }
+}
+
+// The layer of a submission, likewise.
+pub fn submission_layer<
+    A,
+    B: Copy,
+    X,
+    Y,
+    Z,
+    F: FnOnce(&mut [u8], B, X, Y, &[u8], Z, &[u8]) -> Returned<A, B>,
+>(log: &mut [u8], block: &mut B, x: X, y: Y, low: &[u8], z: Z, high: &[u8], callee: F) -> Outcome<A>
+    requires { TakesSubmission F.FnOnce callee log.old block.old x y low.now z high.now }
+    ensures { SubmitsBy F.FnOnce callee log.old block.old x y low.now z high.now result block.new log.new }
+{
+    let r = callee(log, *block, x, y, low, z, high);
+    *block = r.block;
+    Outcome {
+        answer: r.answer,
+        records: r.records,
+    }
+}
+
+// The layer of a submission with a collect buffer, likewise.
+pub fn collecting_layer<
+    A,
+    B: Copy,
+    X,
+    Y,
+    Z,
+    F: FnOnce(&mut [u8], &mut [u8], B, X, Y, &[u8], Z, &[u8]) -> Returned<A, B>,
+>(
+    log: &mut [u8],
+    collect: &mut [u8],
+    block: &mut B,
+    x: X,
+    y: Y,
+    low: &[u8],
+    z: Z,
+    high: &[u8],
+    callee: F,
+) -> Outcome<A>
+    requires { TakesCollecting F.FnOnce callee log.old collect.old block.old x y low.now z high.now }
+    ensures { CollectsBy F.FnOnce callee log.old collect.old block.old x y low.now z high.now result block.new log.new collect.new }
+{
+    let r = callee(log, collect, *block, x, y, low, z, high);
+    *block = r.block;
+    Outcome {
+        answer: r.answer,
+        records: r.records,
+    }
+}

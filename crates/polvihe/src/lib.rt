@@ -3,7 +3,7 @@
 #![tactic(auto)]
 
 mod control;
-mod delivery;
+mod in_delivery;
 mod row;
 
 ghost use Rattle.std.specs.Prelude.{◌≡◌, ℕ, length, []};

@@ -122,7 +122,10 @@ fn print_result(rt: &impl Print, res: TrbProcessingResult) -> io::Result<()> {
         TrbProcessingResult::StallAt(_, _) => print(rt, b"Stall at an address"),
         TrbProcessingResult::TrbError => print(rt, b"TrbError"),
         TrbProcessingResult::TransactionError => print(rt, b"TransactionError"),
-        TrbProcessingResult::TransactionErrorAt(_, _) => print(rt, b"TransactionError at an address"),
+        TrbProcessingResult::TransactionErrorAt(_, _) => print(
+            rt,
+            b"TransactionError at an address",
+        ),
         TrbProcessingResult::Disconnect => print(rt, b"Disconnect"),
     }
 }
@@ -154,10 +157,8 @@ fn print_record(rt: &impl Print, log: &[u8], index: usize) -> io::Result<()> {
 }
 
 fn print_records(rt: &impl Print, log: &[u8], records: usize) -> io::Result<()> {
-    let mut index = 0;
-    while index < records {
+    for index in 0..records {
         print_record(rt, log, index)?;
-        index += 1;
     }
     Ok(())
 }
@@ -203,7 +204,12 @@ fn complete(rt: &impl Print, block: ControlBlock) -> io::Result<ControlBlock> {
 }
 
 // Submits a TRB, and prints what comes of it.
-fn submit(rt: &impl Print, window: &[u8], block: ControlBlock, t: TransferTrb) -> io::Result<ControlBlock> {
+fn submit(
+    rt: &impl Print,
+    window: &[u8],
+    block: ControlBlock,
+    t: TransferTrb,
+) -> io::Result<ControlBlock> {
     let mut log = log_buffer();
     let mut collect = collect_buffer();
     let submitted = control_submission::submit_trb(
@@ -224,15 +230,19 @@ fn submit(rt: &impl Print, window: &[u8], block: ControlBlock, t: TransferTrb) -
 }
 
 // Submits and completes the first `count` TRBs of a row.
-fn run(rt: &impl Print, window: &[u8], block: ControlBlock, trbs: [TransferTrb; ROW], count: usize) -> io::Result<()> {
+fn run(
+    rt: &impl Print,
+    window: &[u8],
+    block: ControlBlock,
+    trbs: [TransferTrb; ROW],
+    count: usize,
+) -> io::Result<()> {
     let mut next = block;
-    let mut i = 0;
-    while i < count {
+    for i in 0..count {
         if i < ROW {
             let t = trbs[i];
             next = complete(rt, submit(rt, window, next, t)?)?;
         }
-        i += 1;
     }
     Ok(())
 }
@@ -265,10 +275,8 @@ fn pass(window: &[u8], block: ControlBlock, t: TransferTrb) -> ControlBlock {
 // The same for so many equal TRBs.
 fn pass_often(window: &[u8], block: ControlBlock, t: TransferTrb, count: usize) -> ControlBlock {
     let mut next = block;
-    let mut i = 0;
-    while i < count {
+    for _ in 0..count {
         next = pass(window, next, t);
-        i += 1;
     }
     next
 }
@@ -334,11 +342,9 @@ fn started(window: &[u8], length: u32) -> ControlBlock {
 // So many rounds of an Unrecognized TRB and as many Normals of 131,071 bytes as can be held.
 fn lengthened(window: &[u8], block: ControlBlock, rounds: usize) -> ControlBlock {
     let mut next = block;
-    let mut i = 0;
-    while i < rounds {
+    for _ in 0..rounds {
         let cleared = pass(window, next, unrecognized(4128));
         next = pass_often(window, cleared, normal(4144, 131071, true), trb::MAX_HELD);
-        i += 1;
     }
     next
 }

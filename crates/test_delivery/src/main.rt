@@ -109,9 +109,15 @@ fn frame(mode: InMode) -> InBlock {
     awaiting(mode, 0x8002, HIGH, 0x1_0000_0005)
 }
 
-fn given(rt: &impl Print, name: &[u8], block: InBlock, status: InTrbProcessingStatus, data: &[u8]) -> io::Result<()> {
+fn given(
+    rt: &impl Print,
+    name: &[u8],
+    block: InBlock,
+    status: InTrbProcessingStatus,
+    data: &[u8],
+) -> io::Result<()> {
     case(
- rt,
+        rt,
         name,
         block,
         InTrbProcessingResult::Given(status),
@@ -125,21 +131,21 @@ fn frames(rt: &impl Print) -> io::Result<()> {
     let ported = frame(InMode::AsPorted);
     let strict = frame(InMode::Strict);
     given(
- rt,
+        rt,
         b"all ten bytes",
         ported,
         InTrbProcessingStatus::Success,
         b"abcdefghij",
     )?;
     given(
- rt,
+        rt,
         b"more than were asked for",
         ported,
         InTrbProcessingStatus::Success,
         b"abcdefghijkl",
     )?;
     given(
- rt,
+        rt,
         b"six of ten",
         ported,
         InTrbProcessingStatus::Success,
@@ -147,21 +153,21 @@ fn frames(rt: &impl Print) -> io::Result<()> {
     )?;
     given(rt, b"none", ported, InTrbProcessingStatus::Success, b"")?;
     given(
- rt,
+        rt,
         b"a stall behind six",
         ported,
         InTrbProcessingStatus::Stall,
         b"abcdef",
     )?;
     given(
- rt,
+        rt,
         b"a stall behind all ten",
         ported,
         InTrbProcessingStatus::Stall,
         b"abcdefghij",
     )?;
     given(
- rt,
+        rt,
         b"a stall behind all ten, strict",
         strict,
         InTrbProcessingStatus::Stall,
@@ -176,7 +182,7 @@ fn questions(rt: &impl Print) -> io::Result<()> {
     let unsound = in_block::fresh(EndpointId(0), SlotId(0), InMode::AsPorted);
     let mut short = [0u8; SHORT_LOG];
     case_with_log(
- rt,
+        rt,
         b"a log one byte short",
         &mut short,
         ported,
@@ -186,7 +192,7 @@ fn questions(rt: &impl Print) -> io::Result<()> {
         0x8007,
     )?;
     case(
- rt,
+        rt,
         b"regions that share an address",
         unsound,
         success,
@@ -194,10 +200,18 @@ fn questions(rt: &impl Print) -> io::Result<()> {
         LOW,
         0x8007,
     )?;
-    case(rt, b"an unsound block", unsound, success, b"abcdef", LOW, HIGH)?;
+    case(
+        rt,
+        b"an unsound block",
+        unsound,
+        success,
+        b"abcdef",
+        LOW,
+        HIGH,
+    )?;
     case(rt, b"out of turn", fresh, success, b"abcdef", LOW, HIGH)?;
     case(
- rt,
+        rt,
         b"no device result",
         ported,
         InTrbProcessingResult::NoneGiven,
@@ -214,21 +228,21 @@ fn ranges(rt: &impl Print) -> io::Result<()> {
     let twice = awaiting(InMode::AsPorted, 0x8000, 0x8002, HIGH);
     let success = InTrbProcessingResult::Given(InTrbProcessingStatus::Success);
     given(
- rt,
+        rt,
         b"a Normal outside, reached",
         outside,
         InTrbProcessingStatus::Success,
         b"abcde",
     )?;
     given(
- rt,
+        rt,
         b"a Normal outside, not reached",
         outside,
         InTrbProcessingStatus::Success,
         b"abcd",
     )?;
     case(
- rt,
+        rt,
         b"a Normal across regions that touch",
         across,
         success,
@@ -237,7 +251,7 @@ fn ranges(rt: &impl Print) -> io::Result<()> {
         0x8008,
     )?;
     case(
- rt,
+        rt,
         b"up to and from where they touch",
         beside,
         success,
@@ -246,7 +260,7 @@ fn ranges(rt: &impl Print) -> io::Result<()> {
         0x8008,
     )?;
     given(
- rt,
+        rt,
         b"an address named twice",
         twice,
         InTrbProcessingStatus::Success,

@@ -87,7 +87,14 @@ fn case_with_log(
     print(rt, b"\n")
 }
 
-fn case(rt: &impl Print, name: &[u8], block: InBlock, row: Row, data: &[u8], high_base: u64) -> io::Result<()> {
+fn case(
+    rt: &impl Print,
+    name: &[u8],
+    block: InBlock,
+    row: Row,
+    data: &[u8],
+    high_base: u64,
+) -> io::Result<()> {
     let mut log = [0u8; trb::MIN_ROW_LOG];
     case_with_log(rt, name, &mut log, block, row, data, high_base)
 }
@@ -164,56 +171,56 @@ fn rows(rt: &impl Print) -> io::Result<()> {
     let success = InTrbProcessingStatus::Success;
     let stall = InTrbProcessingStatus::Stall;
     given(
- rt,
+        rt,
         b"four bytes and four",
         InMode::AsPorted,
         frames(0x8003, gave(success, 4), gave(success, 4)),
         b"abcdefgh",
     )?;
     given(
- rt,
+        rt,
         b"three bytes and two",
         InMode::AsPorted,
         frames(0x8003, gave(success, 3), gave(success, 2)),
         b"abcde",
     )?;
     given(
- rt,
+        rt,
         b"more than were asked for, and four",
         InMode::AsPorted,
         frames(0x8003, gave(success, 6), gave(success, 4)),
         b"abcdefghij",
     )?;
     given(
- rt,
+        rt,
         b"none and four",
         InMode::AsPorted,
         frames(0x8003, gave(success, 0), gave(success, 4)),
         b"abcd",
     )?;
     given(
- rt,
+        rt,
         b"a stall behind three, the second not started",
         InMode::AsPorted,
         frames(0x8003, gave(stall, 3), gave(success, 4)),
         b"abcdefg",
     )?;
     given(
- rt,
+        rt,
         b"a stall behind all four",
         InMode::AsPorted,
         frames(0x8003, gave(stall, 4), gave(success, 4)),
         b"abcdefgh",
     )?;
     given(
- rt,
+        rt,
         b"a stall behind all four, strict",
         InMode::Strict,
         frames(0x8003, gave(stall, 4), gave(success, 4)),
         b"abcdefgh",
     )?;
     given(
- rt,
+        rt,
         b"an address named twice",
         InMode::AsPorted,
         frames(0x8002, gave(success, 4), gave(success, 4)),
@@ -241,7 +248,7 @@ fn questions(rt: &impl Print) -> io::Result<()> {
     let block = fresh(InMode::AsPorted);
     let mut short = [0u8; SHORT_LOG];
     case_with_log(
- rt,
+        rt,
         b"a log one byte short",
         &mut short,
         unsound,
@@ -250,7 +257,7 @@ fn questions(rt: &impl Print) -> io::Result<()> {
         0x8007,
     )?;
     case(
- rt,
+        rt,
         b"regions that share an address",
         unsound,
         right,
@@ -283,7 +290,7 @@ fn questions(rt: &impl Print) -> io::Result<()> {
     };
     case(rt, b"immediate data", block, immediate, b"ab", HIGH)?;
     case(
- rt,
+        rt,
         b"a Normal outside, not reached",
         block,
         outside,

@@ -1,0 +1,6 @@
+-- `in_calls::cancel` meets its contract: the endpoint's answer and its records, then the state line. Assumes nothing.
+use Rattle.in_calls.proofs.CallLaws.{says-cancelled}
+use Rattle.in_calls.proofs.cancel.Goals as goal
+
+pub returns : goal.returns
+returns c = says-cancelled c.args.at c.requires _ c.cancel-after.ensures c.put_answer-next.ensures c.answered.ensures

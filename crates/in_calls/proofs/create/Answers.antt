@@ -1,0 +1,6 @@
+-- `in_calls::create` meets its contract: the endpoint's answer and its records, then the state line. Assumes nothing.
+use Rattle.in_calls.proofs.CallLaws.{says-created}
+use Rattle.in_calls.proofs.create.Goals as goal
+
+pub returns : goal.returns
+returns c = says-created c.args.at c.requires _ _ _ c.create-created.ensures.met c.put_answer-next.ensures c.answered.ensures

@@ -1,0 +1,63 @@
+-- What a layer asks of the function by value that it calls, and what it leaves and returns, of a call of it. Assumes nothing.
+use Rattle.std.specs.Prelude.{ℕ, ◌≡◌, List}
+use Rattle.std.specs.Borrow.{Bor, MutBor}
+use Rattle.std.specs.Fn.{Once}
+use Rattle.lent_laws.specs.declared.Returned.{Returned}
+use Rattle.lent_laws.specs.declared.Outcome.{Outcome}
+
+-- what the function by value returned, of what the layer returned and the block that it left
+abbrev pub returned_with : {A B : Type 0} → Outcome A → B → Returned A B
+returned_with r b = record { answer = r.answer; records = r.records; block = b }
+
+module _ {F A B X : Type 0} (g : Once F (MutBor (List ℕ) × (B × (X × (Bor (List ℕ) × Unit {0})))) (Returned A B × (MutBor (List ℕ) × Unit {0}))) (f : F)
+    (log : List ℕ) (block : B) (x : X) (bytes : List ℕ) where
+  -- it may be called once at references to the log and the bytes
+  abbrev pub TakesCompletion : Type 0
+  TakesCompletion = (p : MutBor (List ℕ)) (q : Bor (List ℕ)) → p.now ≡ log → q.now ≡ bytes → g.pre f (p, (block, (x, (q, tt))))
+
+  -- such a call may give the answer r with the block, and leave the log
+  pub record CompletesBy (r : Outcome A) (block' : B) (log' : List ℕ) : Type 0 where
+    pub log_shown : MutBor (List ℕ)
+    pub bytes_shown : Bor (List ℕ)
+    pub shows : (log_shown.now ≡ log) × (bytes_shown.now ≡ bytes)
+    pub log_left : MutBor (List ℕ)
+    pub met : g.post f (log_shown, (block, (x, (bytes_shown, tt)))) (returned_with r block', (log_left, tt))
+    pub leaves : log_left.now ≡ log'
+
+module _ {F A B X Y Z : Type 0} (g : Once F (MutBor (List ℕ) × (B × (X × (Y × (Bor (List ℕ) × (Z × (Bor (List ℕ) × Unit {0}))))))) (Returned A B × (MutBor (List ℕ) × Unit {0}))) (f : F)
+    (log : List ℕ) (block : B) (x : X) (y : Y) (low : List ℕ) (z : Z) (high : List ℕ) where
+  -- it may be called once at references to the log and the regions' bytes
+  abbrev pub TakesSubmission : Type 0
+  TakesSubmission =
+      (p : MutBor (List ℕ)) (q u : Bor (List ℕ)) → p.now ≡ log → q.now ≡ low → u.now ≡ high
+      → g.pre f (p, (block, (x, (y, (q, (z, (u, tt)))))))
+
+  -- such a call may give the answer r with the block, and leave the log
+  pub record SubmitsBy (r : Outcome A) (block' : B) (log' : List ℕ) : Type 0 where
+    pub log_shown : MutBor (List ℕ)
+    pub low_shown : Bor (List ℕ)
+    pub high_shown : Bor (List ℕ)
+    pub shows : (log_shown.now ≡ log) × ((low_shown.now ≡ low) × (high_shown.now ≡ high))
+    pub log_left : MutBor (List ℕ)
+    pub met : g.post f (log_shown, (block, (x, (y, (low_shown, (z, (high_shown, tt))))))) (returned_with r block', (log_left, tt))
+    pub leaves : log_left.now ≡ log'
+
+module _ {F A B X Y Z : Type 0} (g : Once F (MutBor (List ℕ) × (MutBor (List ℕ) × (B × (X × (Y × (Bor (List ℕ) × (Z × (Bor (List ℕ) × Unit {0})))))))) (Returned A B × (MutBor (List ℕ) × (MutBor (List ℕ) × Unit {0})))) (f : F)
+    (log collect : List ℕ) (block : B) (x : X) (y : Y) (low : List ℕ) (z : Z) (high : List ℕ) where
+  -- it may be called once at references to the log, the collect buffer and the regions' bytes
+  abbrev pub TakesCollecting : Type 0
+  TakesCollecting =
+      (p c : MutBor (List ℕ)) (q u : Bor (List ℕ)) → p.now ≡ log → c.now ≡ collect → q.now ≡ low → u.now ≡ high
+      → g.pre f (p, (c, (block, (x, (y, (q, (z, (u, tt))))))))
+
+  -- such a call may give the answer r with the block, and leave the log and the collect buffer
+  pub record CollectsBy (r : Outcome A) (block' : B) (log' collect' : List ℕ) : Type 0 where
+    pub log_shown : MutBor (List ℕ)
+    pub collect_shown : MutBor (List ℕ)
+    pub low_shown : Bor (List ℕ)
+    pub high_shown : Bor (List ℕ)
+    pub shows : (log_shown.now ≡ log) × ((collect_shown.now ≡ collect) × ((low_shown.now ≡ low) × (high_shown.now ≡ high)))
+    pub log_left : MutBor (List ℕ)
+    pub collect_left : MutBor (List ℕ)
+    pub met : g.post f (log_shown, (collect_shown, (block, (x, (y, (low_shown, (z, (high_shown, tt)))))))) (returned_with r block', (log_left, (collect_left, tt)))
+    pub leaves : (log_left.now ≡ log') × (collect_left.now ≡ collect')
