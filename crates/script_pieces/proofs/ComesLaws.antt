@@ -1,13 +1,13 @@
 -- What a run comes to by pieces. Assumes nothing.
-use Prim.Native.Nat.{ℕ, ◌+◌, ◌-◌, ◌≤◌, ◌<◌}
+use Prim.Native.Nat.{ℕ, ◌+◌, ◌<◌}
 use mathlib.Core.Path.{◌≡◌, refl, sym, ap, ◌∙◌}
 use mathlib.Core.Bool.{Bool, true, false, cond, true≢false}
-use mathlib.Core.List.{List, [], ◌∷◌, ◌++◌, append_assoc, append-nil}
+use mathlib.Core.List.{List, [], ◌∷◌, ◌++◌, append_assoc}
 use native.Mathlib.Omega.{arith}
-use lib.ListN.{length, take, drop}
+use lib.ListN.{length, take}
 use Rattle.session_calls.specs.Answers.{State, Answer, answer_of}
-use Rattle.script_run.specs.Runs.{Lines, lines_of, Unfed, Run, run_with, line_call, going_on, take_line, take_lines, bad_line, end_of, run_of, Reading, take_piece}
-use Rattle.script_run.proofs.PieceLaws.{lines_of-none, rest-unfed, piece-none, piece-append}
+use Rattle.script_run.specs.Runs.{lines_of, Unfed, Run, run_with, line_call, going_on, take_line, take_lines, end_of, run_of, Reading, take_piece}
+use Rattle.script_run.proofs.PieceLaws.{rest-unfed, piece-none, piece-append}
 use Rattle.script_pieces.specs.declared.Taken.{Taken}
 use Rattle.script_pieces.specs.Pieces.{run_anew, lines_from, TakesLines, waiting, read_with, ending, behind_text, lines_more, Comes}
 

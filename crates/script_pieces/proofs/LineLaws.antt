@@ -1,15 +1,14 @@
 -- The first line of an input, and the lines behind it. Assumes nothing.
 use Prim.Native.Nat.{ℕ, suc, ◌+◌, ◌-◌, ◌≤◌, ◌<◌}
-use mathlib.Core.Path.{◌≡◌, refl, sym, ap, ◌∙◌}
+use mathlib.Core.Path.{◌≡◌, refl, ◌∙◌}
 use mathlib.Core.Bool.{Bool, true, false, cond}
 use mathlib.Core.List.{List, [], ◌∷◌}
-use native.Mathlib.Numerals.{add-one}
 use native.Mathlib.Omega.{arith}
 use lib.Dec.{eqb}
 use lib.ListN.{length, take, drop, length-drop}
 use lib.Seq.{drop-drop}
 use Rattle.script_lines.specs.Lines.{line_feed, first_line, LineEnd}
-use Rattle.script_run.specs.Runs.{Lines, in_front, lines_of, Unfed}
+use Rattle.script_run.specs.Runs.{Lines, lines_of, Unfed}
 use Rattle.script_run.proofs.PieceLaws.{with_byte, lines_of-cons, lines_of-none}
 use Rattle.script_pieces.specs.Pieces.{lines_from}
 

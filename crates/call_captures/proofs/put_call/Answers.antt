@@ -30,3 +30,8 @@ pub returns-in-CompleteRow : goal.returns-in-CompleteRow
 unfolding call_captures
 returns-in-CompleteRow c = rw (c.in-CompleteRow.is, ← take-least c.args.«data».now c.in-CompleteRow.bytes c.least-joined.result c.least-joined.ensures) c.put_row.ensures
 
+pub returns-in_default : goal.returns-in_default
+returns-in_default c =
+    let a = c.args in
+    let d = c.in_default in
+    rw (call_captures-other a.setting a.before a.after a.log.now a.records a.collect.now a.«data».now a.call d.not-Submit d.not-CompleteWithResult d.not-CompleteWithout d.not-CompleteRow) (lays-none a.output.now 0 (omega arith))

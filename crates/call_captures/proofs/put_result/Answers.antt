@@ -1,8 +1,5 @@
 -- `call_captures::put_result` meets its contract, endpoint by endpoint: each completes the block before the call. Assumes nothing.
 use native.Mathlib.Omega.{arith}
-use mathlib.Core.Path.{◌≡◌, sym}
-use Rattle.in_block.specs.Facts.{submission_due}
-use Rattle.capture_calls.specs.Captures.{first_address}
 use Rattle.captured_calls.proofs.WrittenLaws.{lays-none}
 use Rattle.call_captures.proofs.put_result.Goals as goal
 
