@@ -80,12 +80,15 @@ module _ (e : EndpointId) (s : SlotId) (release : GuestRelease) (cs : List Contr
   pub realized-asked : (made e s release cs).direction ≡ true → asked e s release cs < 2 ^ 32 → (n : ℕ)
       → write_lengths (realize_chain (input_td (made e s release cs).endpoint_id (made e s release cs).slot_id n) (held_of (made e s release cs))).records ≤ (made e s release cs).request.length
   realized-asked input below n =
-      omega (arith, held-asked input below, writes-chain (input_td (made e s release cs).endpoint_id (made e s release cs).slot_id n) at_start (held_of (made e s release cs)))
+      let k : Asked (held_of (made e s release cs)) (made e s release cs).request.length (asked e s release cs) = kept-made.input input in
+      omega (arith, writes-chain (input_td (made e s release cs).endpoint_id (made e s release cs).slot_id n) at_start (held_of (made e s release cs)))
 
   -- the same of a call
   pub completed-asked : (made e s release cs).direction ≡ true → asked e s release cs < 2 ^ 32
       → (l n : ℕ) → write_lengths (completion l (made e s release cs) SuccessfulControlIn n).records ≤ (made e s release cs).request.length
-  completed-asked input below l n = omega (arith, held-asked input below, writes-held l (made e s release cs) n)
+  completed-asked input below l n =
+      let k : Asked (held_of (made e s release cs)) (made e s release cs).request.length (asked e s release cs) = kept-made.input input in
+      omega (arith, writes-held l (made e s release cs) n)
 
   -- which 32,768 calls do not reach
   pub asked-below : length cs ≤ 2 ^ 15 → asked e s release cs < 2 ^ 32

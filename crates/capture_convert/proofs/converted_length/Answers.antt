@@ -48,7 +48,6 @@ counted : (c : Else-not-survey)
     → c.survey_file-survey.result.records ≡ length (file_in c.args.src.now).records
 counted c = ap (λ (s : Survey). s.records) c.survey_file-survey.ensures ∙ survey-count added_length _ (whole c)
 
-
 -- what the second question found, of a file that is a capture
 plain : (c : Else-not-survey-2) → every convertible (file_in c.args.src.now).records ≡ true
 plain c =

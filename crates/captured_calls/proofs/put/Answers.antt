@@ -9,7 +9,6 @@ overflow_add-result c = omega (arith, part-inside c.args.output.now c.args.at c.
 pub returns-in-NoRecord : goal.returns-in-NoRecord
 returns-in-NoRecord c = rw c.in-NoRecord.is (lays-none c.args.output.now c.args.at c.requires)
 
-
 pub returns-in-Event : goal.returns-in-Event
 returns-in-Event c =
     rw c.in-Event.is (lays_one c.args.output.now c.args.at c.requires _ c.write_record-written.result c.write_record-written.new.output c.write_record-written.ensures)

@@ -4,4 +4,3 @@ use Rattle.control_questions.proofs.is_immediate_allowed.Goals as goal
 
 pub returns-then-not-is_held : goal.returns-then-not-is_held
 returns-then-not-is_held c = rw (← c.is_held.ensures, c.if-not-is_held.true)
-

@@ -13,4 +13,3 @@ use Rattle.in_request.proofs.requested_length.Goals as goal
 
 pub loop-i-init : goal.loop-i-init
 loop-i-init c = (omega arith, search rules)
-

@@ -23,7 +23,6 @@ use Rattle.place_walk.proofs.walk_places.Goals as goal
 
 -- the call
 module _ (s : Start) where
-
   few : s.args.count ≤ length (trbs s.args.places.now s.args.at)
   few = omega (arith, s.requires.1.0, length-places_of In max_held (drop s.args.at s.args.places.now))
 

@@ -38,7 +38,6 @@ pub returns-in-8 : goal.returns-in-8
 unfolding row_of
 returns-in-8 c = c.no_op.ensures ∙ sym (trb_of-kind _ 8 c.in-8.is)
 
-
 pub returns-in_default : goal.returns-in_default
 unfolding trb_of row_of
 returns-in_default c = let r = c.in_default.in_default-own.rest in

@@ -8,4 +8,3 @@ returns-then-text-length c = laws.laid-no-room _ c.args.text.now c.args.at (omeg
 
 pub returns-then-text-length-2 : goal.returns-then-text-length-2
 returns-then-text-length-2 c = laws.laid-no-room _ c.args.text.now c.args.at (omega (arith, laws.length-line c.args.word c.args.size (omega arith)))
-
