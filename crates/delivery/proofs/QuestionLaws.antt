@@ -30,15 +30,15 @@ module _ (l : ℕ) (b : InBlock) (r : InTrbProcessingResult) (n : ℕ) (regions 
   abbrev inside : Bool
   inside = writes_in_range n regions (completed b r n).records
 
-  behind-both : (sound due agreed short inside : Bool)
-      → first_no ((sound, 2) ∷ (due, 3) ∷ (agreed, 8) ∷ (short, 9) ∷ (inside, 11) ∷ [])
-      ≡ after_questions ((sound, 2) ∷ (due, 3) ∷ (agreed, 8) ∷ (short, 9) ∷ []) (λ k. k) (cond inside 0 11)
+  behind-both : (sound due agreed short told : Bool)
+      → first_no ((sound, 2) ∷ (due, 3) ∷ (agreed, 8) ∷ (short, 9) ∷ (told, 11) ∷ [])
+      ≡ after_questions ((sound, 2) ∷ (due, 3) ∷ (agreed, 8) ∷ (short, 9) ∷ []) (λ k. k) (cond told 0 11)
   unfolding first_no
-  behind-both true true true true inside = refl
-  behind-both true true true false inside = refl
-  behind-both true true false short inside = refl
-  behind-both true false agreed short inside = refl
-  behind-both false due agreed short inside = refl
+  behind-both true true true true told = refl
+  behind-both true true true false told = refl
+  behind-both true true false short told = refl
+  behind-both true false agreed short told = refl
+  behind-both false due agreed short told = refl
 
   module _ (long : leb min_log l ≡ true) (apart : share_an_address regions ≡ false) where
     delivery-number : first_no (delivery_questions l b r n regions) ≡ after_questions (completion_questions l (facts_of b) r n) (λ k. k) (cond inside 0 11)

@@ -11,7 +11,7 @@ use Rattle.in_td.specs.declared.InMode.{InMode}
 use Rattle.in_block.specs.declared.InBlock.{InBlock}
 use Rattle.control_block.specs.declared.ControlBlock.{ControlBlock}
 use Rattle.control_block.specs.declared.GuestRelease.{GuestRelease}
-use Rattle.call_answer.specs.Called.{Said, Called}
+use Rattle.call_answer.specs.Called.{Called}
 use Rattle.call_script.specs.declared.Call.{Call}
 use Rattle.in_calls.specs.Calls.{in_call, row_call, create_call, Says}
 use Rattle.in_calls.specs.declared.InRan.{InRan}

@@ -1,25 +1,37 @@
 -- Every call that is no line of the session itself is one on the endpoint. Assumes nothing.
 use Prim.Native.Nat.{ℕ}
 use mathlib.Core.Path.{◌≡◌, refl}
-use mathlib.Core.List.{List, [], ◌∷◌}
-use types.Run.{OneOf, miss}
-use denote.Enum.Declared.{tag_of}
-use Rattle.call_script.specs.contracts.Call as call
+use mathlib.Core.List.{List}
+use Rattle.trb.specs.declared.EndpointId.{EndpointId}
+use Rattle.trb.specs.declared.InTrbProcessingStatus.{InTrbProcessingStatus}
+use Rattle.trb.specs.declared.SlotId.{SlotId}
+use Rattle.trb.specs.declared.TransferTrb.{TransferTrb}
+use Rattle.control_block.specs.declared.GuestRelease.{GuestRelease}
+use Rattle.in_td.specs.declared.InMode.{InMode}
 use Rattle.call_script.specs.declared.Call.{Call}
 use Rattle.call_script.specs.declared.Call.TheVariants.{Window, Buffers, CreateIn, CreateControl, Submit, CompleteWithResult, CompleteWithout, Cancel, Hold, MakeUpIn, MakeUpControl, AppendTrb, AppendResult, CompleteRow, Time, Captured, Bad}
+use Rattle.call_script.specs.declared.InTransferType.{InTransferType}
 use Rattle.session_calls.specs.Answers.{State, endpoint_answer, answer_of}
 
--- the numbers of these calls' variants
-abbrev others : List ℕ
-others = 4 ∷ 5 ∷ 6 ∷ 7 ∷ 8 ∷ 9 ∷ 10 ∷ 16 ∷ []
+-- a call that is none of the session's lines, and no row
+pub record OnEndpoint (c : Call) : Type 0 where
+  pub window : (low low_length high high_length : ℕ) → c ≡ Window low low_length high high_length → ⊥
+  pub buffers : (log collect : ℕ) → c ≡ Buffers log collect → ⊥
+  pub create_in : (e : EndpointId) (i : SlotId) (mode : InMode) → c ≡ CreateIn e i mode → ⊥
+  pub create_control : (e : EndpointId) (i : SlotId) (release : GuestRelease) → c ≡ CreateControl e i release → ⊥
+  pub append_trb : (t : TransferTrb) → c ≡ AppendTrb t → ⊥
+  pub append_result : (status : InTrbProcessingStatus) (n : ℕ) → c ≡ AppendResult status n → ⊥
+  pub complete_row : (n : ℕ) → c ≡ CompleteRow n → ⊥
+  pub time : (seconds microseconds : ℕ) → c ≡ Time seconds microseconds → ⊥
+  pub captured : (bus address : ℕ) (transfer_type : InTransferType) → c ≡ Captured bus address transfer_type → ⊥
 
 module _ (bytes : List ℕ) (s : State) where
-  pub answer_of-other : (c : Call) → OneOf others (tag_of call.the_type c) → answer_of bytes s c ≡ endpoint_answer s.session.endpoint bytes s c
+  pub answer_of-other : (c : Call) → OnEndpoint c → answer_of bytes s c ≡ endpoint_answer s.session.endpoint bytes s c
   unfolding answer_of
-  answer_of-other (Window a n b k) h = absurd (miss others 0 tt h)
-  answer_of-other (Buffers l n) h = absurd (miss others 1 tt h)
-  answer_of-other (CreateIn e i mode) h = absurd (miss others 2 tt h)
-  answer_of-other (CreateControl e i release) h = absurd (miss others 3 tt h)
+  answer_of-other (Window low n high k) h = absurd (h.window low n high k refl)
+  answer_of-other (Buffers l n) h = absurd (h.buffers l n refl)
+  answer_of-other (CreateIn e i mode) h = absurd (h.create_in e i mode refl)
+  answer_of-other (CreateControl e i release) h = absurd (h.create_control e i release refl)
   answer_of-other (Submit t) h = refl
   answer_of-other (CompleteWithResult status n) h = refl
   answer_of-other (CompleteWithout n) h = refl
@@ -27,9 +39,9 @@ module _ (bytes : List ℕ) (s : State) where
   answer_of-other (Hold t) h = refl
   answer_of-other (MakeUpIn state) h = refl
   answer_of-other (MakeUpControl phase state direction n) h = refl
-  answer_of-other (AppendTrb t) h = absurd (miss others 11 tt h)
-  answer_of-other (AppendResult status n) h = absurd (miss others 12 tt h)
-  answer_of-other (CompleteRow n) h = absurd (miss others 13 tt h)
-  answer_of-other (Time seconds microseconds) h = absurd (miss others 14 tt h)
-  answer_of-other (Captured bus address transfer_type) h = absurd (miss others 15 tt h)
+  answer_of-other (AppendTrb t) h = absurd (h.append_trb t refl)
+  answer_of-other (AppendResult status n) h = absurd (h.append_result status n refl)
+  answer_of-other (CompleteRow n) h = absurd (h.complete_row n refl)
+  answer_of-other (Time seconds microseconds) h = absurd (h.time seconds microseconds refl)
+  answer_of-other (Captured bus address transfer_type) h = absurd (h.captured bus address transfer_type refl)
   answer_of-other Bad h = refl

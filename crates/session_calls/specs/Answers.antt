@@ -1,13 +1,11 @@
 -- What a call makes of a script's state, and what it prints. Assumes nothing.
-use Rattle.std.specs.Prelude.{ℕ, ◌≡◌, Bool, true, false, List, [], take}
+use Rattle.std.specs.Prelude.{ℕ, ◌≡◌, Bool, true, List, [], take}
 use Rattle.trb.specs.declared.EndpointId.{EndpointId}
 use Rattle.trb.specs.declared.SlotId.{SlotId}
 use Rattle.guest_memory.specs.Places.{Memory}
 use Rattle.numerals.specs.Written.{Written}
 use Rattle.state_text.specs.Widths.{max_answer}
 use Rattle.in_td.specs.declared.InMode.{InMode}
-use Rattle.in_block.specs.declared.InBlock.{InBlock}
-use Rattle.control_block.specs.declared.ControlBlock.{ControlBlock}
 use Rattle.control_block.specs.declared.GuestRelease.{GuestRelease}
 use Rattle.call_answer.specs.Called.{Said, Called}
 use Rattle.call_script.specs.declared.Call.{Call}

@@ -3,7 +3,7 @@ use Rattle.session.specs.Sessions.{good_quiet, with_lengths}
 use Rattle.session_lines.specs.Lines.{append_trb, append_result}
 use Rattle.session_calls.specs.Answers.{state_of, answer_of}
 use Rattle.session_calls.proofs.AnswerLaws.{answers-quiet, answers-window}
-use Rattle.session_calls.proofs.OtherCalls.{answer_of-other}
+use Rattle.session_calls.proofs.OtherCalls.{OnEndpoint, answer_of-other}
 use Rattle.session_calls.proofs.run_call.Goals as goal
 
 pub returns-in-Window : goal.returns-in-Window
@@ -64,4 +64,17 @@ pub returns-in_default : goal.returns-in_default
 returns-in_default c =
     let a = c.args in
     let s = state_of a.session a.log.now a.collect.now a.low.now a.high.now in
-    rw (answer_of-other a.«data».now s a.call c.in_default.in_default-own.keys10) c.run_on_endpoint.ensures
+    let d = c.in_default in
+    let on_endpoint : OnEndpoint a.call =
+    record {
+      window = d.not-Window;
+      buffers = d.not-Buffers;
+      create_in = d.not-CreateIn;
+      create_control = d.not-CreateControl;
+      append_trb = d.not-AppendTrb;
+      append_result = d.not-AppendResult;
+      complete_row = d.not-CompleteRow;
+      time = d.not-Time;
+      captured = d.not-Captured;
+    } in
+    rw (answer_of-other a.«data».now s a.call on_endpoint) c.run_on_endpoint.ensures

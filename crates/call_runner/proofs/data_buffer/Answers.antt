@@ -2,11 +2,7 @@
 use Prim.Native.Nat.{ℕ}
 use lib.ListN.{length-replicate}
 use Rattle.call_script.specs.Limits.{max_script_data}
-use Rattle.call_runner.proofs.data_buffer.Statement.{statement}
-use Rattle.call_runner.proofs.data_buffer.Tie as tie
+use Rattle.call_runner.proofs.data_buffer.Goals as goal
 
-returns : tie.Need-returns
+pub returns : goal.returns
 returns c = length-replicate {0} {A = ℕ} max_script_data 0
-
-pub data-buffer-spec : {M : Type 1} → statement M
-data-buffer-spec = tie.close (tie.spec returns)

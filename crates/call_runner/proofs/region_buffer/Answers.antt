@@ -2,11 +2,7 @@
 use Prim.Native.Nat.{ℕ}
 use lib.ListN.{length-replicate}
 use Rattle.call_script.specs.Limits.{max_window}
-use Rattle.call_runner.proofs.region_buffer.Statement.{statement}
-use Rattle.call_runner.proofs.region_buffer.Tie as tie
+use Rattle.call_runner.proofs.region_buffer.Goals as goal
 
-returns : tie.Need-returns
+pub returns : goal.returns
 returns c = length-replicate {0} {A = ℕ} max_window 0
-
-pub region-buffer-spec : {M : Type 1} → statement M
-region-buffer-spec = tie.close (tie.spec returns)

@@ -2,11 +2,7 @@
 use Prim.Native.Nat.{ℕ, ◌*◌}
 use lib.ListN.{length-replicate}
 use Rattle.state_text.specs.Widths.{max_answer}
-use Rattle.call_runner.proofs.text_buffer.Statement.{statement}
-use Rattle.call_runner.proofs.text_buffer.Tie as tie
+use Rattle.call_runner.proofs.text_buffer.Goals as goal
 
-returns : tie.Need-returns
+pub returns : goal.returns
 returns c = length-replicate {0} {A = ℕ} (2 * max_answer) 0
-
-pub text-buffer-spec : {M : Type 1} → statement M
-text-buffer-spec = tie.close (tie.spec returns)
