@@ -1,19 +1,22 @@
 -- Turns of a run, one behind the other. Assumes nothing.
-use Prim.Native.Nat.{ℕ, ◌+◌, ◌-◌, ◌≤◌, ◌<◌, min}
+use Prim.Native.Nat.{ℕ, ◌+◌, ◌-◌, ◌≤◌, ◌<◌}
 use mathlib.Core.Path.{◌≡◌, refl, sym, ap, ◌∙◌, subst}
 use mathlib.Core.Bool.{Bool, true, false, cond, true≢false}
-use mathlib.Core.List.{List, [], ◌∷◌, ◌++◌, append-nil}
+use mathlib.Core.List.{List, [], ◌++◌, append-nil}
 use native.Mathlib.Omega.{arith}
-use lib.ListN.{length, take, drop, length-drop, length-take}
+use lib.ListN.{length, take, drop, length-drop}
 use lib.ListN.{take-append-drop}
 use lib.Seq.{length-take-le, take-take, take-add, drop_at}
 use Rattle.state_text.specs.Widths.{max_answer}
 use Rattle.session_calls.specs.Answers.{State}
 use Rattle.script_lines.specs.Lines.{counted}
-use Rattle.script_lines.specs.Steps.{PieceRead, Refills}
+use Rattle.script_lines.specs.Steps.{PieceRead, Refills, refill_bytes}
+use Rattle.std.specs.Prelude.{Option}
+use Rattle.std.specs.Io.KnownBytes.{Appends, Consumes}
+use Rattle.std.proofs.KnownBytes.{Appends-nil, Appends-trans, Consumes-nil, Consumes-trans}
 use Rattle.script_lines.specs.declared.Refilled.{Refilled}
 use Rattle.script_lines.specs.declared.Refilled.TheVariants.{Piece, End, Unfinished}
-use Rattle.script_run.specs.Runs.{Run, run_with, run_of}
+use Rattle.script_run.specs.Runs.{run_with}
 use Rattle.script_pieces.specs.declared.Taken.{Taken}
 use Rattle.script_pieces.specs.Pieces.{running, run_anew, TakesLines, waiting, behind_text, lines_more, Comes}
 use Rattle.script_pieces.proofs.ComesLaws.{taken-reads, comes-start, comes-on, comes-to, comes-behind, comes-bad, comes-full, comes-piece, comes-end, comes-unfinished}
@@ -44,20 +47,29 @@ module _ (l : List ℕ) (next filled : ℕ) (h : next ≤ filled) (k : filled �
       ∙ ap (λ (front : List ℕ). front ++ drop size (take n l')) (take-take size n l' (omega (arith, r.more)) ∙ (r.front ∙ sym waiting-part))
 
   module _ {good room : Bool} (g : good ≡ true) (m : room ≡ true) where
-    pub reads_on : (e : Refilled) {l' : List ℕ} → Refills e l next filled l' → ReadsOn good room l next filled (ahead_of e) l'
-    reads_on (Piece n) {l'} r = record {
-      comes = λ bytes p same unfed. rw (waiting-read r) (comes-piece bytes p (waiting l next filled) (same ∙ g) (unfed g m) (drop (filled - next) (take n l')));
+    pub reads_on : (e : Refilled) {l' : List ℕ} {had has : Option (List ℕ)} → Refills e l next filled l' → Consumes had has (refill_bytes e (filled - next) l')
+        → ReadsOn good room l next filled (ahead_of e) l' had has
+    reads_on (Piece n) {l'} r read = record {
+      piece = drop (filled - next) (take n l');
+      read = read;
+      comes = λ bytes p same unfed.
+          subst (λ (x : List ℕ). Comes bytes p (waiting l next filled) (drop (filled - next) (take n l')) true (lines_more p 0 true) x) (sym (waiting-read r))
+          (comes-piece bytes p (waiting l next filled) (same ∙ g) (unfed g m) (drop (filled - next) (take n l')));
       going = λ e. refl;
       left = omega arith;
       inside = r.room;
     }
-    reads_on End {l'} r = record {
+    reads_on End {l'} r read = record {
+      piece = [];
+      read = read;
       comes = λ bytes p same unfed. comes-end bytes p (waiting l next filled) (same ∙ g) (unfed g m) [] (waiting_none r);
       going = λ e. refl;
       left = omega arith;
       inside = omega arith;
     }
-    reads_on Unfinished {l'} r = record {
+    reads_on Unfinished {l'} r read = record {
+      piece = [];
+      read = read;
       comes = λ bytes p same unfed. comes-unfinished bytes p (waiting l next filled) (same ∙ g) (unfed g m) [] (waiting-some r);
       going = λ e. absurd (true≢false (sym e));
       left = omega arith;
@@ -66,8 +78,10 @@ module _ (l : List ℕ) (next filled : ℕ) (h : next ≤ filled) (k : filled �
 
   module _ (good room : Bool) where
     -- the run is not good any more
-    pub reads_nothing : good ≡ false → ReadsOn good room l next filled (record { from = next; filled = filled; lines = 0; good = false; more = false }) l
-    reads_nothing g = record {
+    pub reads_nothing : (had : Option (List ℕ)) → good ≡ false → ReadsOn good room l next filled (record { from = next; filled = filled; lines = 0; good = false; more = false }) l had had
+    reads_nothing had g = record {
+      piece = [];
+      read = Consumes-nil had;
       comes = λ bytes p same unfed. comes-bad bytes p (waiting l next filled) (waiting l next filled) (same ∙ g);
       going = λ e. absurd (true≢false (sym e));
       left = h;
@@ -75,8 +89,10 @@ module _ (l : List ℕ) (next filled : ℕ) (h : next ≤ filled) (k : filled �
     }
 
     -- the text had no room for all whole lines
-    pub reads-later : good ≡ true → ReadsOn good room l next filled (record { from = next; filled = filled; lines = 0; good = true; more = true }) l
-    reads-later g = record {
+    pub reads-later : (had : Option (List ℕ)) → good ≡ true → ReadsOn good room l next filled (record { from = next; filled = filled; lines = 0; good = true; more = true }) l had had
+    reads-later had g = record {
+      piece = [];
+      read = Consumes-nil had;
       comes = λ bytes p same unfed. comes-full bytes p (waiting l next filled) (same ∙ g);
       going = λ e. refl;
       left = h;
@@ -85,9 +101,9 @@ module _ (l : List ℕ) (next filled : ℕ) (h : next ≤ filled) (k : filled �
 
 -- ---- A turn
 
-module _ {bytes : List ℕ} {s : State} {l : List ℕ} {from filled : ℕ} {r : Taken} {t : List ℕ} {s' : State} {a : Ahead} {room : Bool} {l' : List ℕ} where
-  pub turn-comes : TakesLines bytes (take filled l) from s r t s' → ReadsOn r.good room l r.next filled a l' → (room ≡ true → r.end + max_answer ≤ length t) → (n : ℕ) (w : List ℕ)
-      → Comes bytes (running s n w) (waiting l from filled) a.more (record { state = s'; lines = n + (r.lines + a.lines); text = w ++ take r.end t; good = a.good })
+module _ {bytes : List ℕ} {s : State} {l : List ℕ} {from filled : ℕ} {r : Taken} {t : List ℕ} {s' : State} {a : Ahead} {room : Bool} {l' : List ℕ} {had has : Option (List ℕ)} where
+  pub turn-comes : TakesLines bytes (take filled l) from s r t s' → (on : ReadsOn r.good room l r.next filled a l' had has) → (room ≡ true → r.end + max_answer ≤ length t) → (n : ℕ) (w : List ℕ)
+      → Comes bytes (running s n w) (waiting l from filled) on.piece a.more (record { state = s'; lines = n + (r.lines + a.lines); text = w ++ take r.end t; good = a.good })
       (waiting l' a.from a.filled)
   turn-comes k on roomy n w =
       let q = behind_text w (run_with s' (n + r.lines) t r.end r.good) in
@@ -95,7 +111,7 @@ module _ {bytes : List ℕ} {s : State} {l : List ℕ} {from filled : ℕ} {r : 
       let reached = comes-behind (taken-reads l filled k n w) (on.comes bytes q refl (λ g m. k.stopped g (roomy m))) in
       rw sum
       (subst
-      (λ (v : List ℕ). Comes bytes (running s n v) (waiting l from filled) a.more (lines_more q a.lines a.good) (waiting l' a.from a.filled))
+      (λ (v : List ℕ). Comes bytes (running s n v) (waiting l from filled) on.piece a.more (lines_more q a.lines a.good) (waiting l' a.from a.filled))
       (append-nil w)
       reached)
 
@@ -106,21 +122,27 @@ pub left-more : (more : Bool) (turns n : ℕ) → n ≡ cond more (turns - 1) 0 
 left-more true turns n e h = refl
 left-more false turns n e h = absurd (omega arith)
 
--- a run in the state s that has come to r, with the input l: of its lines and its text, those that were taken and printed
-pub record Reaches (bytes : List ℕ) (s : State) (r : Progress) (l : List ℕ) (s' : State) : Type 0 where
+-- a run in the state s that has come to r, with the input l: of its lines and its text, those that were taken and printed, and the bytes that were read
+pub record Reaches (bytes : List ℕ) (s : State) (r : Progress) (l : List ℕ) (s' : State) (had has old new : Option (List ℕ)) : Type 0 where
   pub lines : ℕ
   pub text : List ℕ
-  pub comes : Comes bytes (run_anew s 0) [] r.more (record { state = s'; lines = lines; text = text; good = r.good }) (waiting l r.from r.filled)
+  pub input : List ℕ
+  pub read : Consumes had has input
+  pub printed : Appends old new text
+  pub comes : Comes bytes (run_anew s 0) [] input r.more (record { state = s'; lines = lines; text = text; good = r.good }) (waiting l r.from r.filled)
   pub count : r.lines ≡ counted lines
   pub going : r.more ≡ true → r.good ≡ true
   pub left : r.from ≤ r.filled
   pub inside : r.filled ≤ length l
 
 module _ {bytes : List ℕ} {s : State} where
-  pub reaches-start : (l : List ℕ) → Reaches bytes s started l s
-  reaches-start l = record {
+  pub reaches-start : (l : List ℕ) (had old : Option (List ℕ)) → Reaches bytes s started l s had had old old
+  reaches-start l had old = record {
     lines = 0;
     text = [];
+    input = [];
+    read = Consumes-nil had;
+    printed = Appends-nil old;
     comes = comes-start (run_anew s 0);
     count = refl;
     going = λ e. refl;
@@ -128,13 +150,17 @@ module _ {bytes : List ℕ} {s : State} where
     inside = omega arith;
   }
 
-  pub reaches-turn : {p r : Progress} {l t l' : List ℕ} {s' s'' : State} → Reaches bytes s p l s' → p.more ≡ true → Turns bytes s' l p r t l' s'' → Reaches bytes s r l' s''
-  reaches-turn {p} {r} {l} {t} {l'} {s'} {s''} k m turn =
+  pub reaches-turn : {p r : Progress} {l t l' : List ℕ} {s' s'' : State} {had has has' old new new' : Option (List ℕ)} → Reaches bytes s p l s' had has old new → p.more ≡ true
+      → Turns bytes s' l p r t l' s'' has has' new new' → Reaches bytes s r l' s'' had has' old new'
+  reaches-turn {p} {r} {l} {t} {l'} {s'} {s''} {had} {has} {has'} {old} {new} {new'} k m turn =
       let n = k.lines in
       let w = k.text in
       record {
         lines = n + turn.taken;
         text = w ++ take r.printed t;
+        input = k.input ++ turn.piece;
+        read = Consumes-trans had has has' k.input turn.piece k.read turn.read;
+        printed = Appends-trans old new new' w (take r.printed t) k.printed turn.printed;
         comes = comes-on k.comes m (ap (λ (g : Bool). record { state = s'; lines = n; text = w; good = g }) (k.going m)) (turn.comes n w);
         count = omega (arith, k.count, turn.lines);
         going = turn.going;
@@ -142,10 +168,12 @@ module _ {bytes : List ℕ} {s : State} where
         inside = turn.inside;
       }
 
-  pub reaches_end : {r : Progress} {l : List ℕ} {s' : State} → Reaches bytes s r l s' → RunsInput bytes s r s'
+  pub reaches_end : {r : Progress} {l : List ℕ} {s' : State} {had has old new : Option (List ℕ)} → Reaches bytes s r l s' had has old new → RunsInput bytes s r s' had has old new
   reaches_end {r} {l} {s'} k = record {
-    input = k.comes.piece;
+    input = k.input;
+    read = k.read;
     run = record { state = s'; lines = k.lines; text = k.text; good = r.good };
+    printed = k.printed;
     ran = λ e. comes-to k.comes e;
     state = refl;
     lines = k.count;

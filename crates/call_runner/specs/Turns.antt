@@ -1,5 +1,7 @@
--- docs/CALLS.md: the run of a script that is read piece by piece. What is read and written no contract can state: a piece is any list of bytes here. Assumes nothing.
-use Rattle.std.specs.Prelude.{ℕ, ◌+◌, ◌≤◌, ◌≡◌, Bool, true, false, List, [], ◌++◌, length, take}
+-- docs/CALLS.md: the run of a script that is read piece by piece, from a reader and to a writer. Where a reader's bytes are not known, a piece is any list of bytes.
+-- Assumes nothing.
+use Rattle.std.specs.Prelude.{ℕ, ◌+◌, ◌≤◌, ◌≡◌, Bool, true, false, List, ◌++◌, length, take, Option}
+use Rattle.std.specs.Io.KnownBytes.{Appends, Consumes}
 use Rattle.session.specs.Sessions.{new_session}
 use Rattle.session_calls.specs.Answers.{State}
 use Rattle.script_lines.specs.Lines.{counted}
@@ -20,29 +22,37 @@ ahead_of End = record { from = 0; filled = 0; lines = 0; good = true; more = fal
 ahead_of Unfinished = record { from = 0; filled = 0; lines = 1; good = false; more = false }
 
 -- of the input l, of which so many bytes are filled and those before next are taken, and which became l': any run that has come so far, good or not, comes on,
--- where without a whole line left whenever it is good and had room
-pub record ReadsOn (good room : Bool) (l : List ℕ) (next filled : ℕ) (a : Ahead) (l' : List ℕ) : Type 0 where
+-- where without a whole line left whenever it is good and had room. The piece that was read is what the reader lost of the bytes that it had
+pub record ReadsOn (good room : Bool) (l : List ℕ) (next filled : ℕ) (a : Ahead) (l' : List ℕ) (had has : Option (List ℕ)) : Type 0 where
+  pub piece : List ℕ
+  pub read : Consumes had has piece
   pub comes : (bytes : List ℕ) (p : Run) → p.good ≡ good → (good ≡ true → room ≡ true → Unfed (waiting l next filled))
-      → Comes bytes p (waiting l next filled) a.more (lines_more p a.lines a.good) (waiting l' a.from a.filled)
+      → Comes bytes p (waiting l next filled) piece a.more (lines_more p a.lines a.good) (waiting l' a.from a.filled)
   pub going : a.more ≡ true → a.good ≡ true
   pub left : a.from ≤ a.filled
   pub inside : a.filled ≤ length l'
 
 -- a turn in the state s with the input l, from p to r: so many lines were taken, and the text printed is the start of t. Whatever lines n and text w were
--- before, the run comes on
-pub record Turns (bytes : List ℕ) (s : State) (l : List ℕ) (p r : Progress) (t l' : List ℕ) (s' : State) : Type 0 where
+-- before, the run comes on. The reader lost the piece that was read, and the writer has the text that was printed
+pub record Turns (bytes : List ℕ) (s : State) (l : List ℕ) (p r : Progress) (t l' : List ℕ) (s' : State) (had has old new : Option (List ℕ)) : Type 0 where
   pub taken : ℕ
-  pub comes : (n : ℕ) (w : List ℕ) → Comes bytes (running s n w) (waiting l p.from p.filled) r.more
+  pub piece : List ℕ
+  pub read : Consumes had has piece
+  pub printed : Appends old new (take r.printed t)
+  pub comes : (n : ℕ) (w : List ℕ) → Comes bytes (running s n w) (waiting l p.from p.filled) piece r.more
       (record { state = s'; lines = n + taken; text = w ++ take r.printed t; good = r.good }) (waiting l' r.from r.filled)
   pub lines : r.lines ≡ counted (p.lines + taken)
   pub going : r.more ≡ true → r.good ≡ true
   pub left : r.from ≤ r.filled
   pub inside : r.filled ≤ length l'
 
--- of the bytes `input` that were read: the run over them, its lines and whether it is good; its text is what was printed
-pub record RunsInput (bytes : List ℕ) (s : State) (r : Progress) (s' : State) : Type 0 where
+-- of the bytes `input` that were read, which the reader lost: the run over them, its lines and whether it is good; its text is what was printed, which the
+-- writer has
+pub record RunsInput (bytes : List ℕ) (s : State) (r : Progress) (s' : State) (had has old new : Option (List ℕ)) : Type 0 where
   pub input : List ℕ
+  pub read : Consumes had has input
   pub run : Run
+  pub printed : Appends old new run.text
   pub ran : r.more ≡ false → run ≡ run_of bytes (run_anew s 0) input
   pub state : run.state ≡ s'
   pub lines : r.lines ≡ counted run.lines

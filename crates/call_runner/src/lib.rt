@@ -92,7 +92,7 @@ fn read_on<R: Read>(
     room: bool,
 ) -> io::Result<Ahead>
     requires { (next ≤ filled) × (filled ≤ length input.old) }
-    ensures { IfOk result (λ ahead. ReadsOn good room input.old next filled ahead input.new) }
+    ensures { IfOk result (λ ahead. ReadsOn good room input.old next filled ahead input.new (R.remaining reader.old) (R.remaining reader.new)) }
 {
     if !good {
         return Ok(Ahead {
@@ -132,7 +132,7 @@ fn take_turn<R: Read, W: Write>(
     requires max_answer_in_bounds { max_answer ≤ length text.old }
     requires log_len_bound { length log.old ≤ min_row_log }
     requires from_le_filled { (progress.from ≤ progress.filled) × (progress.filled ≤ length input.old) }
-    ensures { IfOk result (λ after. Turns «data».now (state_of progress.session log.old collect.old low.old high.old) input.old progress after text.new input.new (state_of after.session log.new collect.new low.new high.new)) }
+    ensures { IfOk result (λ after. Turns «data».now (state_of progress.session log.old collect.old low.old high.old) input.old progress after text.new input.new (state_of after.session log.new collect.new low.new high.new) (R.remaining reader.old) (R.remaining reader.new) (W.contents writer.old) (W.contents writer.new)) }
 {
     let before = progress.session;
     let from = progress.from;
@@ -179,7 +179,7 @@ fn run_input<R: Read, W: Write>(
 ) -> io::Result<Progress>
     requires max_answer_in_bounds { max_answer ≤ length text.old }
     requires log_len_bound { length log.old ≤ min_row_log }
-    ensures { IfOk result (λ ended. RunsInput «data».now (state_of started.session log.old collect.old low.old high.old) ended (state_of ended.session log.new collect.new low.new high.new)) }
+    ensures { IfOk result (λ ended. RunsInput «data».now (state_of started.session log.old collect.old low.old high.old) ended (state_of ended.session log.new collect.new low.new high.new) (R.remaining reader.old) (R.remaining reader.new) (W.contents writer.old) (W.contents writer.new)) }
 {
     let mut progress = started();
     let mut turns = u64::MAX;

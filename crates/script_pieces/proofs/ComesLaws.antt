@@ -73,29 +73,28 @@ module _ {bytes : List ℕ} where
       rw (lines, k.rest)
 
   -- nothing has happened yet
-  pub comes-start : (p : Run) → Comes bytes p [] true p []
-  comes-start p = record { piece = []; goes_on = λ _. sym (piece-none bytes (read_with bytes p []) (read_with-rest bytes p [])); ended = λ e. absurd (true≢false e) }
+  pub comes-start : (p : Run) → Comes bytes p [] [] true p []
+  comes-start p = record { goes_on = λ _. sym (piece-none bytes (read_with bytes p []) (read_with-rest bytes p [])); ended = λ e. absurd (true≢false e) }
 
   -- two turns one behind the other
-  pub comes-on : {p q q' r : Run} {input between left : List ℕ} {going more : Bool} → Comes bytes p input going q between → going ≡ true → q ≡ q'
-      → Comes bytes q' between more r left → Comes bytes p input more r left
-  comes-on {p} {q} {q'} {r} {input} {between} {left} {going} {more} first g same second =
-      let x = first.piece in
-      let y = second.piece in
+  pub comes-on : {p q q' r : Run} {input x between y left : List ℕ} {going more : Bool} → Comes bytes p input x going q between → going ≡ true → q ≡ q'
+      → Comes bytes q' between y more r left → Comes bytes p input (x ++ y) more r left
+  comes-on {p} {q} {q'} {r} {input} {x} {between} {y} {left} {going} {more} first g same second =
       let reached : read_with bytes q' between ≡ take_piece bytes (read_with bytes p input) x =
       ap (λ (z : Run). read_with bytes z between) (sym same) ∙ first.goes_on g in
       let both : take_piece bytes (read_with bytes q' between) y ≡ take_piece bytes (read_with bytes p input) (x ++ y) =
       ap (λ (z : Reading). take_piece bytes z y) reached ∙ piece-append bytes (read_with bytes p input) x y in
-      record { piece = x ++ y; goes_on = λ e. second.goes_on e ∙ both; ended = λ e. second.ended e ∙ ap ending both }
+      record { goes_on = λ e. second.goes_on e ∙ both; ended = λ e. second.ended e ∙ ap ending both }
 
   -- from the start of a run on: what it comes to at its end is the run over all that was read
-  pub comes-to : {p r : Run} {left : List ℕ} {more : Bool} → (k : Comes bytes p [] more r left) → more ≡ false → r ≡ run_of bytes p k.piece
+  pub comes-to : {p r : Run} {piece left : List ℕ} {more : Bool} → Comes bytes p [] piece more r left → more ≡ false → r ≡ run_of bytes p piece
   unfolding run_of take_piece lines_of
-  comes-to {p} k e = k.ended e ∙ ap ending (piece-append bytes (record { run = p; held = [] }) [] k.piece)
+  comes-to {p} {r} {piece} k e = k.ended e ∙ ap ending (piece-append bytes (record { run = p; held = [] }) [] piece)
 
   -- lines were taken in between
-  pub comes-behind : {p q r : Run} {input between left : List ℕ} {more : Bool} → read_with bytes q between ≡ read_with bytes p input → Comes bytes q between more r left → Comes bytes p input more r left
-  comes-behind e k = record { piece = k.piece; goes_on = λ m. k.goes_on m ∙ rw e; ended = λ m. k.ended m ∙ rw e }
+  pub comes-behind : {p q r : Run} {input between piece left : List ℕ} {more : Bool} → read_with bytes q between ≡ read_with bytes p input → Comes bytes q between piece more r left
+      → Comes bytes p input piece more r left
+  comes-behind e k = record { goes_on = λ m. k.goes_on m ∙ rw e; ended = λ m. k.ended m ∙ rw e }
 
 -- ---- What is read
 
@@ -107,17 +106,15 @@ module _ (bytes : List ℕ) (p : Run) (input : List ℕ) where
   no-line-more = omega arith
 
   -- behind a bad line nothing is read
-  pub comes-bad : (left : List ℕ) → p.good ≡ false → Comes bytes p input false (lines_more p 0 false) left
+  pub comes-bad : (left : List ℕ) → p.good ≡ false → Comes bytes p input [] false (lines_more p 0 false) left
   comes-bad left bad = record {
-    piece = [];
     goes_on = λ e. absurd (true≢false (sym e));
     ended = λ _. rw (none_read, read_with-bad bytes p input bad, end_of-bad p (read_with bytes p input).held bad, no-line-more) (ap (λ (g : Bool). record { state = p.state; lines = p.lines; text = p.text; good = g }) (sym bad));
   }
 
   -- no room for a further answer: the lines that are left are taken in the next turn
-  pub comes-full : p.good ≡ true → Comes bytes p input true (lines_more p 0 true) input
+  pub comes-full : p.good ≡ true → Comes bytes p input [] true (lines_more p 0 true) input
   comes-full good = record {
-    piece = [];
     goes_on = λ _. rw (none_read, no-line-more) (ap (λ (g : Bool). read_with bytes (record { state = p.state; lines = p.lines; text = p.text; good = g }) input) (sym good));
     ended = λ e. absurd (true≢false e);
   }
@@ -126,25 +123,23 @@ module _ (bytes : List ℕ) (p : Run) (input : List ℕ) where
     whole : read_with bytes p input ≡ record { run = p; held = input }
     whole = read_with-unfed bytes p input unfed
 
-    pub comes-piece : (piece : List ℕ) → Comes bytes p input true (lines_more p 0 true) (input ++ piece)
+    pub comes-piece : (piece : List ℕ) → Comes bytes p input piece true (lines_more p 0 true) (input ++ piece)
     comes-piece more = record {
-      piece = more;
       goes_on = λ _. rw (no-line-more, piece-append bytes (record { run = p; held = [] }) input more) (ap (λ (g : Bool). read_with bytes (record { state = p.state; lines = p.lines; text = p.text; good = g }) (input ++ more)) (sym good));
       ended = λ e. absurd (true≢false e);
     }
 
-    pub comes-end : (left : List ℕ) → input ≡ [] → Comes bytes p input false (lines_more p 0 true) left
+    pub comes-end : (left : List ℕ) → input ≡ [] → Comes bytes p input [] false (lines_more p 0 true) left
     unfolding end_of
     comes-end left e = record {
-      piece = [];
       goes_on = λ e. absurd (true≢false (sym e));
       ended = λ _. rw (none_read, whole, e, no-line-more) (ap (λ (g : Bool). record { state = p.state; lines = p.lines; text = p.text; good = g }) (sym good));
     }
 
     -- a line that is too long, or that no line feed ends
-    pub comes-unfinished : (left : List ℕ) → 0 < length input → Comes bytes p input false (lines_more p 1 false) left
+    pub comes-unfinished : (left : List ℕ) → 0 < length input → Comes bytes p input [] false (lines_more p 1 false) left
     unfolding end_of
-    comes-unfinished left h = record { piece = []; goes_on = λ e. absurd (true≢false (sym e)); ended = λ _. rw (none_read, whole) (sym (unfinished input h)) }
+    comes-unfinished left h = record { goes_on = λ e. absurd (true≢false (sym e)); ended = λ _. rw (none_read, whole) (sym (unfinished input h)) }
       where
         unfinished : (l : List ℕ) → 0 < length l → end_of p l ≡ lines_more p 1 false
         unfinished [] h = absurd (omega (arith, h))

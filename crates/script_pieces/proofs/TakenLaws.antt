@@ -1,5 +1,5 @@
 -- Lines taken one after the other: the lines taken, and behind them those that are left, come to what all of them come to. Assumes nothing.
-use Prim.Native.Nat.{ℕ, ◌+◌, ◌-◌, ◌^◌, ◌≤◌, ◌<◌}
+use Prim.Native.Nat.{ℕ, ◌+◌, ◌-◌, ◌*◌, ◌^◌, ◌≤◌, ◌<◌}
 use mathlib.Core.Path.{◌≡◌, refl, sym, ap, ◌∙◌}
 use mathlib.Core.Bool.{Bool, true}
 use mathlib.Core.List.{List, ◌∷◌}
@@ -20,6 +20,7 @@ pub record Taking (bytes input : List ℕ) (from : ℕ) (s : State) (next lines 
   pub rest : (lines_from input next).rest ≡ (lines_from input from).rest
   pub inside : next ≤ length input
   pub few : lines ≤ next
+  pub most : end ≤ lines * max_answer
 
 take_lines-cons : (bytes : List ℕ) (p : Run) (l : List ℕ) (ls : List (List ℕ)) → take_lines bytes p (l ∷ ls) ≡ take_lines bytes (take_line bytes p l) ls
 unfolding take_lines
@@ -27,7 +28,7 @@ take_lines-cons bytes p l ls = refl
 
 module _ {bytes input : List ℕ} {from : ℕ} {s : State} where
   pub taking-start : (t : List ℕ) → from ≤ length input → Taking bytes input from s from 0 0 true t s
-  taking-start t h = record { run = λ n. let none : n + 0 ≡ n = omega arith in rw none; rest = refl; inside = h; few = omega arith }
+  taking-start t h = record { run = λ n. let none : n + 0 ≡ n = omega arith in rw none; rest = refl; inside = h; few = omega arith; most = omega arith }
 
   -- one line more
   pub taking-turn : {next lines end stop : ℕ} {good : Bool} {t t' : List ℕ} {s' s'' : State} {r : Ran} → Taking bytes input from s next lines end good t s' → good ≡ true
@@ -46,12 +47,13 @@ module _ {bytes input : List ℕ} {from : ℕ} {s : State} where
         rest = ap (λ (l : Lines). l.rest) (sym split) ∙ k.rest;
         inside = omega (arith, h);
         few = omega (arith, k.few, e.start);
+        most = omega (arith, k.most, one.within);
       }
 
   -- no further line is taken
   pub taken-all : {t : List ℕ} {s' : State} {r : Taken} → Taking bytes input from s r.next r.lines r.end r.good t s' → r.end ≤ length t
       → (r.good ≡ true → r.end + max_answer ≤ length t → Unfed (drop r.next input)) → TakesLines bytes input from s r t s'
-  taken-all k within stopped = record { run = k.run; rest = k.rest; stopped = stopped; inside = k.inside; within = within }
+  taken-all k within stopped = record { run = k.run; rest = k.rest; stopped = stopped; inside = k.inside; within = within; most = k.most }
 
 -- the input's length is a number of 64 bits, there is room for an answer, and the text printed lies in its buffer
 pub record Bounds (t₀ input₀ t : List ℕ) (n : ℕ) : Type 0 where

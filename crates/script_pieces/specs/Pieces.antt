@@ -1,5 +1,5 @@
 -- docs/CALLS.md: a script's run, of which a part of the input is at hand: its whole lines are taken one after the other, as far as there is room for the text. Assumes nothing.
-use Rattle.std.specs.Prelude.{ℕ, ◌+◌, ◌≤◌, ◌≡◌, Bool, true, false, List, [], ◌++◌, length, take, drop}
+use Rattle.std.specs.Prelude.{ℕ, ◌+◌, ◌*◌, ◌≤◌, ◌≡◌, Bool, true, false, List, [], ◌++◌, length, take, drop}
 use Rattle.state_text.specs.Widths.{max_answer}
 use Rattle.session_calls.specs.Answers.{State}
 use Rattle.script_run.specs.Runs.{Lines, lines_of, Unfed, Run, run_with, take_lines, end_of, Reading, take_piece}
@@ -26,6 +26,8 @@ pub record TakesLines (bytes input : List ℕ) (from : ℕ) (s : State) (r : Tak
   pub stopped : r.good ≡ true → r.end + max_answer ≤ length t → Unfed (drop r.next input)
   pub inside : r.next ≤ length input
   pub within : r.end ≤ length t
+  -- a line's answer has at most so many characters
+  pub most : r.end ≤ r.lines * max_answer
 
 -- ---- By pieces
 
@@ -49,8 +51,7 @@ behind_text w p = record { state = p.state; lines = p.lines; text = w ++ p.text;
 abbrev pub lines_more : Run → ℕ → Bool → Run
 lines_more p n good = record { state = p.state; lines = p.lines + n; text = p.text; good = good }
 
--- from a run p, with the bytes input behind it, a further piece of input was read, or nothing: the run came to p', which goes on with the bytes input', or has ended
-pub record Comes (bytes : List ℕ) (p : Run) (input : List ℕ) (more : Bool) (p' : Run) (input' : List ℕ) : Type 0 where
-  pub piece : List ℕ
+-- from a run p, with the bytes input behind it, a further piece of input was read, of no byte or some: the run came to p', which goes on with the bytes input', or has ended
+pub record Comes (bytes : List ℕ) (p : Run) (input piece : List ℕ) (more : Bool) (p' : Run) (input' : List ℕ) : Type 0 where
   pub goes_on : more ≡ true → read_with bytes p' input' ≡ take_piece bytes (read_with bytes p input) piece
   pub ended : more ≡ false → p' ≡ ending (take_piece bytes (read_with bytes p input) piece)

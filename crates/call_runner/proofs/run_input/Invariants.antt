@@ -1,7 +1,4 @@
-use Prim.Native.Nat.{◌<◌}
-use mathlib.Core.Path.{◌≡◌}
-use mathlib.Core.Bool.{true}
-use lib.ListN.{length}
+use Rattle.std.proofs.Common.{◌<◌, ◌≡◌, true, length}
 use Rattle.session_calls.specs.Answers.{state_of}
 use Rattle.script_pieces.proofs.TakenLaws.{Lengths}
 use Rattle.call_runner.specs.Turns.{started}
@@ -9,10 +6,13 @@ use Rattle.call_runner.proofs.TurnLaws.{Reaches}
 use Rattle.call_runner.proofs.run_input.Given as goal
 
 abbrev pub invariant-loop-turns : goal.invariant-loop-turns
-invariant-loop-turns l = Lengths l.initial.reader l.initial.text l.initial.input l.initial.collect l.data l.initial.progress l.reader l.writer l.text l.input
-    × ((length l.initial.turns ≡ length l.initial.writer)
-    × ((0 < l.collect → l.log.more ≡ true)
-    × Reaches l.initial.log (state_of started.session l.initial.text l.initial.input l.initial.collect l.data) l.log l.initial.turns (state_of l.log.session l.reader l.writer l.text l.input)))
+invariant-loop-turns g l = record {
+  lengths : Lengths l.initial.text l.initial.log l.initial.collect l.initial.low l.initial.high l.text l.log l.collect l.low l.high;
+  input : length l.input ≡ length l.initial.input;
+  more : 0 < l.turns → l.progress.more ≡ true;
+  reached : Reaches l.data (state_of started.session l.initial.log l.initial.collect l.initial.low l.initial.high) l.progress l.input (state_of l.progress.session l.log l.collect l.low l.high)
+      (g.R.Read.remaining l.initial.reader) (g.R.Read.remaining l.reader) (g.W.Write.contents l.initial.writer) (g.W.Write.contents l.writer);
+}
 
 abbrev pub decreases-loop-turns : goal.decreases-loop-turns
-decreases-loop-turns l = l.collect
+decreases-loop-turns g l = l.turns
