@@ -1,4 +1,4 @@
-// Runs a call script and writes the capture of its requests and completions: takes its lines from standard input, makes the calls as `replay` does, and
+// Runs a call script and writes the capture of its requests and completions: takes its lines from a reader, makes the calls as `replay` does, and
 // writes the records of each.
 #![tactic(auto)]
 

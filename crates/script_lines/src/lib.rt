@@ -1,4 +1,4 @@
-// The lines of standard input, each ended by a line feed, and the text that answers them.
+// The lines of an input, each ended by a line feed, and the text that answers them.
 #![tactic(auto)]
 
 ghost use Rattle.std.specs.Prelude.{◌≡◌, ◌+◌, ◌-◌, ◌≤◌, ◌<◌, min, [], ◌++◌, length, take, drop, IfOk, OnOk};
