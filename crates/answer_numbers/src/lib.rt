@@ -3,7 +3,7 @@
 
 ghost use Rattle.std.specs.Prelude.{◌≡◌};
 ghost use Rattle.trb.specs.Answers.{number_of};
-ghost use Rattle.answer_numbers.specs.Numbers.{answered_as, flag_number, plain, located, completed_with, completion_answered};
+ghost use Rattle.answer_numbers.specs.Numbers.{answered_as, plain, located, completed_with, completion_answered};
 
 use trb::{Answer, CompletionAnswer, CompletionCode, TrbProcessingResult};
 
@@ -50,12 +50,6 @@ pub fn answered_as(answer: Answer, records: usize) -> Answered
     }
 }
 
-fn flag_number(on: bool) -> u8
-    ensures { result ≡ flag_number on }
-{
-    if on { 1 } else { 0 }
-}
-
 // A result that carries nothing.
 fn plain(res: u8, code: u8, records: usize) -> CompletionAnswered
     ensures { result ≡ plain res code records }
@@ -63,10 +57,10 @@ fn plain(res: u8, code: u8, records: usize) -> CompletionAnswered
     CompletionAnswered {
         number: 0,
         result: res,
-        code: code,
+        code,
         located: 0,
         cycle_bit: 0,
-        records: records,
+        records,
         address: 0,
     }
 }
@@ -76,13 +70,10 @@ fn located(res: u8, code: u8, address: u64, cycle_bit: bool, records: usize) -> 
     ensures { result ≡ located res code address cycle_bit records }
 {
     CompletionAnswered {
-        number: 0,
-        result: res,
-        code: code,
         located: 1,
-        cycle_bit: flag_number(cycle_bit),
-        records: records,
-        address: address,
+        cycle_bit: cycle_bit as u8,
+        address,
+        ..plain(res, code, records)
     }
 }
 
@@ -115,12 +106,7 @@ pub fn completed_as(answer: CompletionAnswer, records: usize) -> CompletionAnswe
         CompletionAnswer::Completed(result) => completed_with(result, records),
         CompletionAnswer::Refused(refusal) => CompletionAnswered {
             number: trb::refusal_number(refusal) as u32,
-            result: 0,
-            code: 0,
-            located: 0,
-            cycle_bit: 0,
-            records: records,
-            address: 0,
+            ..plain(0, 0, records)
         },
     }
 }

@@ -25,14 +25,13 @@ use trb::{
 pub fn first_setting() -> Setting
     ensures { result ≡ first_setting }
 {
-    let device = UsbDevice {
-        bus_number: 1,
-        device_address: 1,
-    };
     Setting {
         seconds: 0,
         microseconds: 0,
-        device: device,
+        device: UsbDevice {
+            bus_number: 1,
+            device_address: 1,
+        },
         interrupt: false,
     }
 }
@@ -40,10 +39,7 @@ pub fn first_setting() -> Setting
 fn is_interrupt(transfer_type: InTransferType) -> bool
     ensures { result ≡ is_interrupt transfer_type }
 {
-    match transfer_type {
-        InTransferType::Interrupt => true,
-        InTransferType::Bulk => false,
-    }
+    matches!(transfer_type, InTransferType::Interrupt)
 }
 
 // Behind a call.
@@ -51,27 +47,19 @@ pub fn setting_after(setting: Setting, call: Call) -> Setting
     ensures { result ≡ setting_after setting call }
 {
     match call {
-        Call::Time(seconds, microseconds) => {
-            let device = setting.device;
-            Setting {
-                seconds: seconds,
-                microseconds: microseconds,
-                device: device,
-                interrupt: setting.interrupt,
-            }
-        }
-        Call::Captured(bus_number, device_address, transfer_type) => {
-            let device = UsbDevice {
-                bus_number: bus_number,
-                device_address: device_address,
-            };
-            Setting {
-                seconds: setting.seconds,
-                microseconds: setting.microseconds,
-                device: device,
-                interrupt: is_interrupt(transfer_type),
-            }
-        }
+        Call::Time(seconds, microseconds) => Setting {
+            seconds,
+            microseconds,
+            ..setting
+        },
+        Call::Captured(bus_number, device_address, transfer_type) => Setting {
+            device: UsbDevice {
+                bus_number,
+                device_address,
+            },
+            interrupt: is_interrupt(transfer_type),
+            ..setting
+        },
         _ => setting,
     }
 }
@@ -90,17 +78,18 @@ fn put_submission(
 ) -> usize
     ensures { Lays (submission_captures after.endpoint setting before after log.now records collect.now) output.old 0 result output.new }
 {
-    let endpoint = after.endpoint;
-    match endpoint {
+    match after.endpoint {
         Endpoint::Nothing => 0,
-        Endpoint::In => {
-            let block = before.in_block;
-            let endpoint_id = block.endpoint_id;
-            captured_calls::put_in_submission(output, 0, setting, endpoint_id, log, records)
-        }
+        Endpoint::In => captured_calls::put_in_submission(
+            output,
+            0,
+            setting,
+            before.in_block.endpoint_id,
+            log,
+            records,
+        ),
         Endpoint::Control => {
-            let block = after.control_block;
-            let collected = call_script::least(block.collected, collect.len());
+            let collected = after.control_block.collected.min(collect.len());
             captured_calls::put_control_submission(
                 output,
                 0,
@@ -117,8 +106,7 @@ fn put_submission(
 fn first_address(trbs: [TransferTrb; trb::MAX_HELD]) -> u64
     ensures { result ≡ first_address trbs }
 {
-    let first = trbs[0];
-    first.addr
+    trbs[0].addr
 }
 
 // A completion of an IN block, `due` whether a submission is due behind it: it was accepted.
@@ -134,19 +122,10 @@ fn put_in_completion(
 ) -> usize
     ensures { Lays (cond due (writer_call (captured_of setting) (in_completion_event (pipe_of setting endpoint_id) state first res) «data».now) []) output.old 0 result output.new }
 {
-    if due {
-        return captured_calls::put_in_completion(
-            output,
-            0,
-            setting,
-            endpoint_id,
-            state,
-            first,
-            res,
-            data,
-        );
+    if !due {
+        return 0;
     }
-    0
+    captured_calls::put_in_completion(output, 0, setting, endpoint_id, state, first, res, data)
 }
 
 // The same of a control block.
@@ -163,13 +142,13 @@ fn put_control_completion(
 ) -> usize
     ensures { Lays (cond due (writer_call (captured_of setting) (control_completion_event state direction request (count_of collected) res) «data».now) []) output.old 0 result output.new }
 {
-    if due {
-        let count = call_text::count(collected);
-        return captured_calls::put_control_completion(
-            output, 0, setting, state, direction, request, count, res, data,
-        );
+    if !due {
+        return 0;
     }
-    0
+    let count = call_text::count(collected);
+    captured_calls::put_control_completion(
+        output, 0, setting, state, direction, request, count, res, data,
+    )
 }
 
 // A completion with a device result and these data.
@@ -183,47 +162,29 @@ fn put_result(
 ) -> usize
     ensures { Lays (result_captures after.endpoint setting before after status «data».now) output.old 0 result output.new }
 {
-    let endpoint = after.endpoint;
-    match endpoint {
+    match after.endpoint {
         Endpoint::Nothing => 0,
-        Endpoint::In => {
-            let block = before.in_block;
-            let block_after = after.in_block;
-            let endpoint_id = block.endpoint_id;
-            let state = block.state;
-            let trbs = block.trbs;
-            let first = first_address(trbs);
-            let state_after = block_after.state;
-            let due = in_block::submission_due(state_after);
-            let result = in_calls::result_of(status);
-            put_in_completion(
-                output,
-                setting,
-                endpoint_id,
-                state,
-                first,
-                due,
-                result,
-                data,
-            )
-        }
+        Endpoint::In => put_in_completion(
+            output,
+            setting,
+            before.in_block.endpoint_id,
+            before.in_block.state,
+            first_address(before.in_block.trbs),
+            in_block::submission_due(after.in_block.state),
+            in_calls::result_of(status),
+            data,
+        ),
         Endpoint::Control => {
             let block = before.control_block;
-            let state = block.state;
-            let request = block.request;
-            let block_after = after.control_block;
-            let state_after = block_after.state;
-            let due = control_block::submission_due(state_after);
-            let result = control_calls::result_of(status);
             put_control_completion(
                 output,
                 setting,
-                state,
+                block.state,
                 block.direction,
-                request,
+                block.request,
                 block.collected,
-                due,
-                result,
+                control_block::submission_due(after.control_block.state),
+                control_calls::result_of(status),
                 data,
             )
         }
@@ -234,25 +195,18 @@ fn put_result(
 fn put_no_result(output: &mut [u8], setting: Setting, before: Session, after: Session) -> usize
     ensures { Lays (no_result_captures after.endpoint setting before after) output.old 0 result output.new }
 {
-    let endpoint = after.endpoint;
-    match endpoint {
-        Endpoint::Nothing => 0,
-        Endpoint::In => 0,
+    match after.endpoint {
+        Endpoint::Nothing | Endpoint::In => 0,
         Endpoint::Control => {
             let block = before.control_block;
-            let state = block.state;
-            let request = block.request;
-            let block_after = after.control_block;
-            let state_after = block_after.state;
-            let due = control_block::submission_due(state_after);
             put_control_completion(
                 output,
                 setting,
-                state,
+                block.state,
                 block.direction,
-                request,
+                block.request,
                 block.collected,
-                due,
+                control_block::submission_due(after.control_block.state),
                 ControlRequestProcessingResult::NoneGiven,
                 &[],
             )
@@ -271,18 +225,14 @@ fn put_row(
 ) -> usize
     ensures { Lays (row_call_captures setting before log.now records «data».now) output.old 0 result output.new }
 {
-    let block = before.in_block;
-    let endpoint_id = block.endpoint_id;
-    let row = before.row;
-    let results = before.results;
     captured_calls::put_row(
         output,
         0,
         setting,
-        endpoint_id,
-        row,
+        before.in_block.endpoint_id,
+        before.row,
         before.row_count,
-        results,
+        before.results,
         log,
         records,
         data,
@@ -306,12 +256,12 @@ pub fn put_call(
     match call {
         Call::Submit(_) => put_submission(output, setting, before, after, log, records, collect),
         Call::CompleteWithResult(status, bytes) => {
-            let given = call_script::least(bytes, data.len());
+            let given = bytes.min(data.len());
             put_result(output, setting, before, after, status, &data[..given])
         }
         Call::CompleteWithout(_) => put_no_result(output, setting, before, after),
         Call::CompleteRow(bytes) => {
-            let joined = call_script::least(bytes, data.len());
+            let joined = bytes.min(data.len());
             put_row(output, setting, before, log, records, &data[..joined])
         }
         _ => 0,

@@ -55,6 +55,23 @@ pub record Fits (r : Record) : Type 0 where
   pub value : r.value < 256 ^ 2
   pub index : r.index < 256 ^ 2
 
+-- a record of this kind in which all but the ids is zero
+abbrev pub blank : ℕ → EndpointId → SlotId → Record
+blank kind e s = record {
+  kind = kind;
+  code = 0;
+  flag = 0;
+  endpoint_id = e;
+  slot_id = s;
+  address = 0;
+  length = 0;
+  start = 0;
+  request_type = 0;
+  request = 0;
+  value = 0;
+  index = 0;
+}
+
 -- kind 2: TRB address or Event Data value, residual or EDTLA, completion code, event-data flag
 abbrev pub transfer_event : ℕ → ℕ → CompletionCode → Bool → EndpointId → SlotId → Record
 transfer_event address residual code flag e s = record {

@@ -3,11 +3,12 @@
 
 ghost use Rattle.std.specs.Prelude.{◌≡◌, [], ◌∷◌, ◌+◌, ◌*◌, ◌≤◌, length};
 ghost use Rattle.trb.specs.Limits.{record_length};
-ghost use Rattle.call_log.specs.Records.{encode, record_at, transfer_event, guest_write, in_request, control_request, when};
+ghost use Rattle.call_log.specs.Records.{encode, record_at, blank, transfer_event, guest_write, in_request, control_request, when};
 ghost use Rattle.call_log.specs.Calls.{Put, Meets, counted};
 
 use trb::{CompletionCode, EndpointId, SlotId, UsbRequest};
 
+// The kinds are numbers and no enum: a log that is read can have any byte there.
 pub const KIND_WRITE: u8 = 1;
 
 pub const KIND_EVENT: u8 = 2;
@@ -31,6 +32,26 @@ pub struct Record {
     pub index: u16,
 }
 
+// A record of this kind for these ids, in which all else is zero.
+fn blank(kind: u8, endpoint_id: EndpointId, slot_id: SlotId) -> Record
+    ensures { result ≡ blank kind endpoint_id slot_id }
+{
+    Record {
+        kind,
+        code: 0,
+        flag: 0,
+        endpoint_id,
+        slot_id,
+        address: 0,
+        length: 0,
+        start: 0,
+        request_type: 0,
+        request: 0,
+        value: 0,
+        index: 0,
+    }
+}
+
 // A transfer event; ports `EventTrb::new_transfer_event_trb`.
 pub fn transfer_event(
     trb_pointer: u64,
@@ -43,18 +64,11 @@ pub fn transfer_event(
     ensures { result ≡ transfer_event trb_pointer trb_transfer_length completion_code event_data endpoint_id slot_id }
 {
     Record {
-        kind: KIND_EVENT,
         code: trb::code_number(completion_code),
-        flag: if event_data { 1 } else { 0 },
-        endpoint_id: endpoint_id,
-        slot_id: slot_id,
+        flag: event_data as u8,
         address: trb_pointer,
         length: trb_transfer_length,
-        start: 0,
-        request_type: 0,
-        request: 0,
-        value: 0,
-        index: 0,
+        ..blank(KIND_EVENT, endpoint_id, slot_id)
     }
 }
 
@@ -69,18 +83,10 @@ pub fn guest_write(
     ensures { result ≡ guest_write address «length» start endpoint_id slot_id }
 {
     Record {
-        kind: KIND_WRITE,
-        code: 0,
-        flag: 0,
-        endpoint_id: endpoint_id,
-        slot_id: slot_id,
-        address: address,
-        length: length,
-        start: start,
-        request_type: 0,
-        request: 0,
-        value: 0,
-        index: 0,
+        address,
+        length,
+        start,
+        ..blank(KIND_WRITE, endpoint_id, slot_id)
     }
 }
 
@@ -89,18 +95,9 @@ pub fn in_request(address: u64, length: u32, endpoint_id: EndpointId, slot_id: S
     ensures { result ≡ in_request address «length» endpoint_id slot_id }
 {
     Record {
-        kind: KIND_REQUEST,
-        code: 0,
-        flag: 0,
-        endpoint_id: endpoint_id,
-        slot_id: slot_id,
-        address: address,
-        length: length,
-        start: 0,
-        request_type: 0,
-        request: 0,
-        value: 0,
-        index: 0,
+        address,
+        length,
+        ..blank(KIND_REQUEST, endpoint_id, slot_id)
     }
 }
 
@@ -109,81 +106,34 @@ pub fn control_request(usb_request: UsbRequest, endpoint_id: EndpointId, slot_id
     ensures { result ≡ control_request usb_request endpoint_id slot_id }
 {
     Record {
-        kind: KIND_REQUEST,
-        code: 0,
-        flag: 0,
-        endpoint_id: endpoint_id,
-        slot_id: slot_id,
         address: usb_request.address,
         length: usb_request.length,
-        start: 0,
         request_type: usb_request.request_type,
         request: usb_request.request,
         value: usb_request.value,
         index: usb_request.index,
+        ..blank(KIND_REQUEST, endpoint_id, slot_id)
     }
 }
 
 // The bytes of a record.
-fn encoded(record: Record) -> [u8; 32]
+fn encoded(record: Record) -> [u8; trb::RECORD_LENGTH]
     ensures { result ≡ encode «record» }
 {
-    let endpoint_id = record.endpoint_id;
-    let slot_id = record.slot_id;
-    let a0 = record.address;
-    let a1 = a0 / 256;
-    let a2 = a1 / 256;
-    let a3 = a2 / 256;
-    let a4 = a3 / 256;
-    let a5 = a4 / 256;
-    let a6 = a5 / 256;
-    let a7 = a6 / 256;
-    let n0 = record.length;
-    let n1 = n0 / 256;
-    let n2 = n1 / 256;
-    let n3 = n2 / 256;
-    let s0 = record.start;
-    let s1 = s0 / 256;
-    let s2 = s1 / 256;
-    let s3 = s2 / 256;
-    let v0 = record.value;
-    let v1 = v0 / 256;
-    let i0 = record.index;
-    let i1 = i0 / 256;
-    [
-        record.kind,
-        record.code,
-        record.flag,
-        endpoint_id.0,
-        slot_id.0,
-        0,
-        0,
-        0,
-        (a0 % 256) as u8,
-        (a1 % 256) as u8,
-        (a2 % 256) as u8,
-        (a3 % 256) as u8,
-        (a4 % 256) as u8,
-        (a5 % 256) as u8,
-        (a6 % 256) as u8,
-        (a7 % 256) as u8,
-        (n0 % 256) as u8,
-        (n1 % 256) as u8,
-        (n2 % 256) as u8,
-        (n3 % 256) as u8,
-        (s0 % 256) as u8,
-        (s1 % 256) as u8,
-        (s2 % 256) as u8,
-        (s3 % 256) as u8,
-        record.request_type,
-        record.request,
-        (v0 % 256) as u8,
-        (v1 % 256) as u8,
-        (i0 % 256) as u8,
-        (i1 % 256) as u8,
-        0,
-        0,
-    ]
+    let mut cells = [0; trb::RECORD_LENGTH];
+    cells[0] = record.kind;
+    cells[1] = record.code;
+    cells[2] = record.flag;
+    cells[3] = record.endpoint_id.0;
+    cells[4] = record.slot_id.0;
+    cells[8..16].copy_from_slice(&record.address.to_le_bytes());
+    cells[16..20].copy_from_slice(&record.length.to_le_bytes());
+    cells[20..24].copy_from_slice(&record.start.to_le_bytes());
+    cells[24] = record.request_type;
+    cells[25] = record.request;
+    cells[26..28].copy_from_slice(&record.value.to_le_bytes());
+    cells[28..30].copy_from_slice(&record.index.to_le_bytes());
+    cells
 }
 
 // Writes a record as the log's record number `index`.
@@ -223,25 +173,18 @@ pub fn read_record(log: &[u8], index: usize) -> Record
     ensures { result ≡ record_at log.now index }
 {
     let at = trb::RECORD_LENGTH * index;
-    let address = buffers::le64(log, at + 8);
-    let length = buffers::le32(log, at + 16);
-    let start = buffers::le32(log, at + 20);
-    let value = buffers::le16(log, at + 26);
-    let index_field = buffers::le16(log, at + 28);
-    let endpoint_id = EndpointId(log[at + 3]);
-    let slot_id = SlotId(log[at + 4]);
     Record {
         kind: log[at],
         code: log[at + 1],
         flag: log[at + 2],
-        endpoint_id: endpoint_id,
-        slot_id: slot_id,
-        address: address,
-        length: length,
-        start: start,
+        endpoint_id: EndpointId(log[at + 3]),
+        slot_id: SlotId(log[at + 4]),
+        address: buffers::le64(log, at + 8),
+        length: buffers::le32(log, at + 16),
+        start: buffers::le32(log, at + 20),
         request_type: log[at + 24],
         request: log[at + 25],
-        value: value,
-        index: index_field,
+        value: buffers::le16(log, at + 26),
+        index: buffers::le16(log, at + 28),
     }
 }

@@ -4,74 +4,48 @@
 ghost use Rattle.std.specs.Prelude.{◌≡◌, ◌++◌, ◌≤◌, length};
 ghost use Rattle.numerals.specs.Digits.{digits};
 ghost use Rattle.numerals.specs.Widths.{hex_places};
-ghost use Rattle.call_number.specs.Numbers.{digit_value, digits_from, has_leading_zero, number_of};
-ghost use Rattle.call_number.specs.RawBytes.{raw_places, no_raw_bytes, joined, halves_of, raw_of};
+ghost use Rattle.call_number.specs.Numbers.{digit, digits_from, has_leading_zero, number_of};
+ghost use Rattle.call_number.specs.RawBytes.{raw_places, halves_of, raw_of};
 
-#[derive(Clone, Copy)]
-pub enum Number {
-    Is(u64),
-    Bad,
-}
-
-// What a character is worth as a digit; 16 where it is none.
-fn digit_value(character: u8) -> u64
-    ensures { result ≡ digit_value character }
+// What a character is worth as a digit, if it is one.
+#[tactic(auto, unfolding(crate::specs::Numbers::digit_value))]
+fn digit(character: u8) -> Option<u64>
+    ensures { result ≡ digit character }
 {
-    if character < b'0' {
-        return 16;
+    match character {
+        b'0'..=b'9' => Some((character - b'0') as u64),
+        b'a'..=b'f' => Some((character - b'a') as u64 + 10),
+        _ => None,
     }
-    if character <= b'9' {
-        return (character - b'0') as u64;
-    }
-    if character < b'a' {
-        return 16;
-    }
-    if character <= b'f' {
-        return (character - b'a') as u64 + 10;
-    }
-    16
 }
 
 // The number whose digits the characters are.
-fn read_digits(field: &[u8]) -> Number
+fn read_digits(field: &[u8]) -> Option<u64>
     requires { length field.now ≤ hex_places }
     ensures { result ≡ digits_from 0 field.now }
 {
-    let mut value: u64 = 0;
-    let mut i = 0;
-    while i < field.len() {
-        let digit = digit_value(field[i]);
-        if 16 <= digit {
-            return Number::Bad;
-        }
-        value = value * 16 + digit;
-        i += 1;
+    let mut value = 0;
+    for character in field {
+        value = value * 16 + digit(*character)?;
     }
-    Number::Is(value)
+    Some(value)
 }
 
 // Does the field start with a zero that is not all of it?
+#[tactic(auto, unfolding(crate::specs::Numbers::has_leading_zero))]
 fn has_leading_zero(field: &[u8]) -> bool
     ensures { result ≡ has_leading_zero field.now }
 {
-    if field.len() < 2 {
-        return false;
-    }
-    field[0] == b'0'
+    2 <= field.len() && field[0] == b'0'
 }
 
 // The number whose numeral the field is.
-pub fn read_number(field: &[u8]) -> Number
+#[tactic(auto, unfolding(crate::specs::Numbers::number_of))]
+pub fn read_number(field: &[u8]) -> Option<u64>
     ensures { result ≡ number_of field.now }
 {
-    if field.len() == 0 {
-        return Number::Bad;
-    }
-    if numerals::HEX_PLACES < field.len() {
-        return Number::Bad;
-    }
-    if has_leading_zero(field) {
-        return Number::Bad;
+    if field.is_empty() || numerals::HEX_PLACES < field.len() || has_leading_zero(field) {
+        return None;
     }
     read_digits(field)
 }
@@ -81,78 +55,34 @@ pub fn read_number(field: &[u8]) -> Number
 // Digits of a raw TRB: sixteen bytes of two digits each.
 pub const RAW_PLACES: usize = 32;
 
-// The bytes of a raw TRB; zeros where the field is none.
-#[derive(Clone, Copy)]
-pub struct RawBytes {
-    pub good: bool,
-    pub bytes: [u8; 16],
-}
-
-fn no_raw_bytes() -> RawBytes
-    ensures { result ≡ no_raw_bytes }
-{
-    RawBytes {
-        good: false,
-        bytes: [0; 16],
-    }
-}
-
 // The bytes of two numbers, of each the highest place first.
+#[tactic(auto, unfolding(numerals::specs::Digits::digits))]
 fn bytes_of(first: u64, second: u64) -> [u8; 16]
     ensures { result ≡ digits 256 8 first ++ digits 256 8 second }
 {
-    [
-        (first / 0x100000000000000 % 256) as u8,
-        (first / 0x1000000000000 % 256) as u8,
-        (first / 0x10000000000 % 256) as u8,
-        (first / 0x100000000 % 256) as u8,
-        (first / 0x1000000 % 256) as u8,
-        (first / 0x10000 % 256) as u8,
-        (first / 0x100 % 256) as u8,
-        (first % 256) as u8,
-        (second / 0x100000000000000 % 256) as u8,
-        (second / 0x1000000000000 % 256) as u8,
-        (second / 0x10000000000 % 256) as u8,
-        (second / 0x100000000 % 256) as u8,
-        (second / 0x1000000 % 256) as u8,
-        (second / 0x10000 % 256) as u8,
-        (second / 0x100 % 256) as u8,
-        (second % 256) as u8,
-    ]
+    let mut bytes = [0; 16];
+    bytes[..8].copy_from_slice(&first.to_be_bytes());
+    bytes[8..].copy_from_slice(&second.to_be_bytes());
+    bytes
 }
 
-fn joined(first: Number, second: Number) -> RawBytes
-    ensures { result ≡ joined first second }
-{
-    match first {
-        Number::Is(high) => match second {
-            Number::Is(low) => RawBytes {
-                good: true,
-                bytes: bytes_of(high, low),
-            },
-            Number::Bad => no_raw_bytes(),
-        },
-        Number::Bad => no_raw_bytes(),
-    }
-}
-
-fn read_halves(field: &[u8]) -> RawBytes
+fn read_halves(field: &[u8]) -> Option<[u8; 16]>
     requires { length field.now ≡ raw_places }
     ensures { result ≡ halves_of field.now }
 {
-    let half = numerals::HEX_PLACES;
-    let first = read_digits(&field[..half]);
-    let second = read_digits(&field[half..]);
-    joined(first, second)
+    let first = read_digits(&field[..numerals::HEX_PLACES])?;
+    let second = read_digits(&field[numerals::HEX_PLACES..])?;
+    Some(bytes_of(first, second))
 }
 
 // The bytes whose digits the field is, in the order of the bytes.
-pub fn read_raw(field: &[u8]) -> RawBytes
+#[tactic(auto, unfolding(crate::specs::RawBytes::raw_of))]
+pub fn read_raw(field: &[u8]) -> Option<[u8; 16]>
     ensures { result ≡ raw_of field.now }
 {
     if field.len() == RAW_PLACES {
         read_halves(field)
     } else {
-        no_raw_bytes()
+        None
     }
 }

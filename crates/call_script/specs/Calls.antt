@@ -1,6 +1,6 @@
 -- The calls of a script, a row for each letter: how many fields it has, what each is at most, and the call. A line that has no such form is bad. The
 -- fields are numbered from 0. Assumes nothing.
-use Rattle.std.specs.Prelude.{ℕ, ◌+◌, Bool, cond, ◌&&◌, ◌||◌, List, [], ◌∷◌, eqb, leb}
+use Rattle.std.specs.Prelude.{ℕ, ◌+◌, Bool, cond, ◌&&◌, ◌||◌, List, [], ◌∷◌, eqb, leb, Option, Some, None}
 use Rattle.trb.specs.declared.ControlSubmissionState.{ControlSubmissionState}
 use Rattle.trb.specs.declared.ControlSubmissionState.TheVariants as control_state
 use Rattle.trb.specs.declared.ControlTransferState.{ControlTransferState}
@@ -22,8 +22,6 @@ use Rattle.script_fields.specs.declared.Fields.{Fields}
 use Rattle.script_fields.specs.declared.RawFields.{RawFields}
 use Rattle.script_trb.specs.Tables.{row_of}
 use Rattle.script_trb.specs.Trbs.{any_number, any_word, trb_of}
-use Rattle.script_trb.specs.declared.ScriptTrb.{ScriptTrb}
-use Rattle.script_trb.specs.declared.ScriptTrb.TheVariants as script_trb
 use Rattle.script_trb.specs.declared.TrbFields.{TrbFields}
 use Rattle.call_script.specs.declared.Call.{Call}
 use Rattle.call_script.specs.declared.Call.TheVariants.{Window, Buffers, CreateIn, CreateControl, Submit, CompleteWithResult, CompleteWithout, Cancel, Hold, MakeUpIn, MakeUpControl, AppendTrb, AppendResult, CompleteRow, Time, Captured, Bad}
@@ -135,12 +133,15 @@ control_creation f = cond (eqb f.count 2) (four_creation f) (release_creation f)
 abbrev pub trb_fields : Fields → TrbFields
 trb_fields f = record { kind = field f 0; addr = field f 1; flags = field f 2; a = field f 3; b = field f 4 }
 
-abbrev pub with_trb : (TransferTrb → Call) → ScriptTrb → Call
-with_trb call (script_trb.Is t) = call t
-with_trb call script_trb.Bad = Bad
+abbrev pub line_trb : Fields → Option TransferTrb
+line_trb f = cond (eqb f.count max_numbers) (trb_of (trb_fields f)) None
+
+abbrev pub with_trb : (TransferTrb → Call) → Option TransferTrb → Call
+with_trb call (Some t) = call t
+with_trb call None = Bad
 
 abbrev pub trb_call : (TransferTrb → Call) → Fields → Call
-trb_call call f = call_if (eqb f.count max_numbers) (with_trb call (trb_of (trb_fields f)))
+trb_call call f = with_trb call (line_trb f)
 
 -- `s`: submit
 unfoldable pub submit_call : Fields → Call
@@ -223,9 +224,15 @@ numbered_call f = row_of letters no_call f.letter f
 -- `u ADDR RAW`: a raw TRB, decoded, then as `s`; u is the character 117
 unfoldable pub raw_call : RawFields → Call
 raw_call f =
-    call_if (f.good && (eqb f.letter 117 && eqb f.count 1))
+    call_if (eqb f.letter 117 && eqb f.count 1)
     (Submit (record { variant = (decode_trb f.bytes).variant; addr = f.first; cycle_bit = (decode_trb f.bytes).cycle_bit }))
+
+-- numbers go before a raw TRB
+abbrev pub call_by : Option Fields → Option RawFields → Call
+call_by (Some f) raw = numbered_call f
+call_by None (Some f) = raw_call f
+call_by None None = Bad
 
 -- the call of a line, which comes without its line feed: a letter and numbers, or one whose last field is a raw TRB. (No number has so many digits.)
 unfoldable pub call_of : List ℕ → Call
-call_of l = cond (fields_of l).good (numbered_call (fields_of l)) (raw_call (raw_fields_of l))
+call_of l = call_by (fields_of l) (raw_fields_of l)

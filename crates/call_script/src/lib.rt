@@ -3,14 +3,14 @@
 
 ghost use Rattle.std.specs.Prelude.{◌≡◌, min};
 ghost use Rattle.call_script.specs.Limits.{script_limits};
-ghost use Rattle.call_script.specs.Calls.{mode_of, release_of, status_of, in_status_of, in_state_of, phase_of, control_state_of, transfer_type_of, is_transfer_type, trb_fields, one_region, two_regions, window_call, buffers_call, ported_creation, mode_creation, in_creation, four_creation, release_creation, control_creation, submit_call, hold_call, append_call, result_call, no_result_call, cancel_call, in_state_call, control_state_call, make_up_call, row_result_call, row_call, time_call, capture_call, numbered_call, raw_call, call_of};
+ghost use Rattle.call_script.specs.Calls.{mode_of, release_of, status_of, in_status_of, in_state_of, phase_of, control_state_of, transfer_type_of, is_transfer_type, trb_fields, line_trb, one_region, two_regions, window_call, buffers_call, ported_creation, mode_creation, in_creation, four_creation, release_creation, control_creation, submit_call, hold_call, append_call, result_call, no_result_call, cancel_call, in_state_call, control_state_call, make_up_call, row_result_call, row_call, time_call, capture_call, numbered_call, raw_call, call_of};
 ghost use Rattle.call_script.specs.RawLines.{decode_line, encode_line, raw_line_of};
 
 use control_block::GuestRelease;
 use in_td::InMode;
 use raw_trb::DecodedTrb;
 use script_fields::{Fields, RawFields};
-use script_trb::{ScriptTrb, TrbFields};
+use script_trb::TrbFields;
 use trb::{
     ControlSubmissionState, ControlTransferState, EndpointId, InTrbProcessingStatus, SlotId,
     TdBasedNormalSubmissionState, TransferTrb,
@@ -54,7 +54,7 @@ pub fn script_limits() -> ScriptLimits
 pub fn least(n: usize, room: usize) -> usize
     ensures { result ≡ min n room }
 {
-    if n < room { n } else { room }
+    n.min(room)
 }
 
 const MAX_BYTE: u64 = 0xff;
@@ -105,6 +105,7 @@ pub enum Call {
 
 // ---- Numbers that stand for a case
 
+#[tactic(auto, unfolding(crate::specs::Calls::mode_of, script_trb::specs::Tables::row_of))]
 fn mode_of(number: u64) -> InMode
     ensures { result ≡ mode_of number }
 {
@@ -114,6 +115,7 @@ fn mode_of(number: u64) -> InMode
     }
 }
 
+#[tactic(auto, unfolding(crate::specs::Calls::release_of, script_trb::specs::Tables::row_of))]
 fn release_of(number: u64) -> GuestRelease
     ensures { result ≡ release_of number }
 {
@@ -123,6 +125,7 @@ fn release_of(number: u64) -> GuestRelease
     }
 }
 
+#[tactic(auto, unfolding(crate::specs::Calls::status_of, script_trb::specs::Tables::row_of))]
 fn status_of(number: u64) -> DeviceStatus
     ensures { result ≡ status_of number }
 {
@@ -135,6 +138,7 @@ fn status_of(number: u64) -> DeviceStatus
     }
 }
 
+#[tactic(auto, unfolding(crate::specs::Calls::in_status_of, script_trb::specs::Tables::row_of))]
 fn in_status_of(number: u64) -> InTrbProcessingStatus
     ensures { result ≡ in_status_of number }
 {
@@ -146,6 +150,7 @@ fn in_status_of(number: u64) -> InTrbProcessingStatus
     }
 }
 
+#[tactic(auto, unfolding(crate::specs::Calls::in_state_of, script_trb::specs::Tables::row_of))]
 fn in_state_of(number: u64) -> TdBasedNormalSubmissionState
     ensures { result ≡ in_state_of number }
 {
@@ -157,6 +162,7 @@ fn in_state_of(number: u64) -> TdBasedNormalSubmissionState
     }
 }
 
+#[tactic(auto, unfolding(crate::specs::Calls::phase_of, script_trb::specs::Tables::row_of))]
 fn phase_of(number: u64) -> ControlTransferState
     ensures { result ≡ phase_of number }
 {
@@ -169,6 +175,7 @@ fn phase_of(number: u64) -> ControlTransferState
     }
 }
 
+#[tactic(auto, unfolding(crate::specs::Calls::control_state_of, script_trb::specs::Tables::row_of))]
 fn control_state_of(number: u64) -> ControlSubmissionState
     ensures { result ≡ control_state_of number }
 {
@@ -179,6 +186,7 @@ fn control_state_of(number: u64) -> ControlSubmissionState
     }
 }
 
+#[tactic(auto, unfolding(crate::specs::Calls::transfer_type_of, script_trb::specs::Tables::row_of))]
 fn transfer_type_of(number: u64) -> InTransferType
     ensures { result ≡ transfer_type_of number }
 {
@@ -191,40 +199,47 @@ fn transfer_type_of(number: u64) -> InTransferType
 fn is_transfer_type(number: u64) -> bool
     ensures { result ≡ is_transfer_type number }
 {
-    (number == 1) | (number == 3)
+    number == 1 || number == 3
 }
 
 // ---- Calls of each letter
 
 // `w BASE LEN`: the other region is empty, at 0.
+#[tactic(auto, unfolding(crate::specs::Calls::one_region))]
 fn one_region(fields: Fields) -> Call
     ensures { result ≡ one_region fields }
 {
-    let numbers = fields.numbers;
-    let limits = [u64::MAX, MAX_WINDOW as u64];
-    if !script_fields::within_limits(fields, &limits) {
+    if !script_fields::within_limits(fields, &[u64::MAX, MAX_WINDOW as u64]) {
         return Call::Bad;
     }
-    Call::Window(numbers[0], numbers[1] as usize, 0, 0)
+    Call::Window(fields.numbers[0], fields.numbers[1] as usize, 0, 0)
 }
 
 // `w BASE LEN BASE LEN`
+#[tactic(auto, unfolding(crate::specs::Calls::two_regions))]
 fn two_regions(fields: Fields) -> Call
     ensures { result ≡ two_regions fields }
 {
-    let numbers = fields.numbers;
-    let limits = [u64::MAX, MAX_WINDOW as u64, u64::MAX, MAX_WINDOW as u64];
-    if !script_fields::within_limits(fields, &limits) {
+    if !script_fields::within_limits(
+        fields,
+        &[u64::MAX, MAX_WINDOW as u64, u64::MAX, MAX_WINDOW as u64],
+    ) {
         return Call::Bad;
     }
-    let low_length = numbers[1] as usize;
-    let high_length = numbers[3] as usize;
+    let low_length = fields.numbers[1] as usize;
+    let high_length = fields.numbers[3] as usize;
     if MAX_WINDOW < low_length + high_length {
         return Call::Bad;
     }
-    Call::Window(numbers[0], low_length, numbers[2], high_length)
+    Call::Window(
+        fields.numbers[0],
+        low_length,
+        fields.numbers[2],
+        high_length,
+    )
 }
 
+#[tactic(auto, unfolding(crate::specs::Calls::window_call))]
 fn window(fields: Fields) -> Call
     ensures { result ≡ window_call fields }
 {
@@ -236,46 +251,43 @@ fn window(fields: Fields) -> Call
 }
 
 // `b LOG COLLECT`
+#[tactic(auto, unfolding(crate::specs::Calls::buffers_call))]
 fn buffers(fields: Fields) -> Call
     ensures { result ≡ buffers_call fields }
 {
-    let numbers = fields.numbers;
-    let limits = [MAX_LENT_LOG as u64, MAX_LENT_COLLECT as u64];
-    if !script_fields::within_limits(fields, &limits) {
+    if !script_fields::within_limits(fields, &[MAX_LENT_LOG as u64, MAX_LENT_COLLECT as u64]) {
         return Call::Bad;
     }
-    Call::Buffers(numbers[0] as usize, numbers[1] as usize)
+    Call::Buffers(fields.numbers[0] as usize, fields.numbers[1] as usize)
 }
 
 // `i EP SLOT`: as ported.
+#[tactic(auto, unfolding(crate::specs::Calls::ported_creation))]
 fn ported_creation(fields: Fields) -> Call
     ensures { result ≡ ported_creation fields }
 {
-    let numbers = fields.numbers;
-    let limits = [MAX_BYTE, MAX_BYTE];
-    if !script_fields::within_limits(fields, &limits) {
+    if !script_fields::within_limits(fields, &[MAX_BYTE, MAX_BYTE]) {
         return Call::Bad;
     }
-    let endpoint_id = EndpointId(numbers[0] as u8);
-    let slot_id = SlotId(numbers[1] as u8);
+    let endpoint_id = EndpointId(fields.numbers[0] as u8);
+    let slot_id = SlotId(fields.numbers[1] as u8);
     Call::CreateIn(endpoint_id, slot_id, InMode::AsPorted)
 }
 
 // `i EP SLOT MODE`
+#[tactic(auto, unfolding(crate::specs::Calls::mode_creation))]
 fn mode_creation(fields: Fields) -> Call
     ensures { result ≡ mode_creation fields }
 {
-    let numbers = fields.numbers;
-    let limits = [MAX_BYTE, MAX_BYTE, 1];
-    if !script_fields::within_limits(fields, &limits) {
+    if !script_fields::within_limits(fields, &[MAX_BYTE, MAX_BYTE, 1]) {
         return Call::Bad;
     }
-    let endpoint_id = EndpointId(numbers[0] as u8);
-    let slot_id = SlotId(numbers[1] as u8);
-    let mode = mode_of(numbers[2]);
-    Call::CreateIn(endpoint_id, slot_id, mode)
+    let endpoint_id = EndpointId(fields.numbers[0] as u8);
+    let slot_id = SlotId(fields.numbers[1] as u8);
+    Call::CreateIn(endpoint_id, slot_id, mode_of(fields.numbers[2]))
 }
 
+#[tactic(auto, unfolding(crate::specs::Calls::in_creation))]
 fn in_creation(fields: Fields) -> Call
     ensures { result ≡ in_creation fields }
 {
@@ -287,37 +299,35 @@ fn in_creation(fields: Fields) -> Call
 }
 
 // `c EP SLOT`: for release 4.
+#[tactic(auto, unfolding(crate::specs::Calls::four_creation))]
 fn four_creation(fields: Fields) -> Call
     ensures { result ≡ four_creation fields }
 {
-    let numbers = fields.numbers;
-    let limits = [MAX_BYTE, MAX_BYTE];
-    if !script_fields::within_limits(fields, &limits) {
+    if !script_fields::within_limits(fields, &[MAX_BYTE, MAX_BYTE]) {
         return Call::Bad;
     }
-    let endpoint_id = EndpointId(numbers[0] as u8);
-    let slot_id = SlotId(numbers[1] as u8);
+    let endpoint_id = EndpointId(fields.numbers[0] as u8);
+    let slot_id = SlotId(fields.numbers[1] as u8);
     Call::CreateControl(endpoint_id, slot_id, GuestRelease::Release4)
 }
 
 // `c EP SLOT RELEASE`
+#[tactic(auto, unfolding(crate::specs::Calls::release_creation))]
 fn release_creation(fields: Fields) -> Call
     ensures { result ≡ release_creation fields }
 {
-    let numbers = fields.numbers;
-    let limits = [MAX_BYTE, MAX_BYTE, 5];
-    if !script_fields::within_limits(fields, &limits) {
+    if !script_fields::within_limits(fields, &[MAX_BYTE, MAX_BYTE, 5]) {
         return Call::Bad;
     }
-    if numbers[2] < 4 {
+    if fields.numbers[2] < 4 {
         return Call::Bad;
     }
-    let endpoint_id = EndpointId(numbers[0] as u8);
-    let slot_id = SlotId(numbers[1] as u8);
-    let release = release_of(numbers[2]);
-    Call::CreateControl(endpoint_id, slot_id, release)
+    let endpoint_id = EndpointId(fields.numbers[0] as u8);
+    let slot_id = SlotId(fields.numbers[1] as u8);
+    Call::CreateControl(endpoint_id, slot_id, release_of(fields.numbers[2]))
 }
 
+#[tactic(auto, unfolding(crate::specs::Calls::control_creation))]
 fn control_creation(fields: Fields) -> Call
     ensures { result ≡ control_creation fields }
 {
@@ -331,84 +341,75 @@ fn control_creation(fields: Fields) -> Call
 fn trb_fields(fields: Fields) -> TrbFields
     ensures { result ≡ trb_fields fields }
 {
-    let numbers = fields.numbers;
+    let [kind, addr, flags, a, b] = fields.numbers;
     TrbFields {
-        kind: numbers[0],
-        addr: numbers[1],
-        flags: numbers[2],
-        a: numbers[3],
-        b: numbers[4],
+        kind,
+        addr,
+        flags,
+        a,
+        b,
     }
 }
 
-// `s KIND ADDR FLAGS A B`: submit.
+// `KIND ADDR FLAGS A B` behind a letter.
+fn line_trb(fields: Fields) -> Option<TransferTrb>
+    ensures { result ≡ line_trb fields }
+{
+    if fields.count == script_fields::MAX_NUMBERS {
+        script_trb::script_trb(trb_fields(fields))
+    } else {
+        None
+    }
+}
+
+// `s`: submit.
+#[tactic(auto, unfolding(crate::specs::Calls::submit_call))]
 fn submission(fields: Fields) -> Call
     ensures { result ≡ submit_call fields }
 {
-    if fields.count != script_fields::MAX_NUMBERS {
-        return Call::Bad;
-    }
-    let t = script_trb::script_trb(trb_fields(fields));
-    match t {
-        ScriptTrb::Is(t) => Call::Submit(t),
-        ScriptTrb::Bad => Call::Bad,
-    }
+    line_trb(fields).map_or(Call::Bad, |t| Call::Submit(t))
 }
 
-// `h KIND ADDR FLAGS A B`: into the block's next place.
+// `h`: into the block's next place.
+#[tactic(auto, unfolding(crate::specs::Calls::hold_call))]
 fn holding(fields: Fields) -> Call
     ensures { result ≡ hold_call fields }
 {
-    if fields.count != script_fields::MAX_NUMBERS {
-        return Call::Bad;
-    }
-    let t = script_trb::script_trb(trb_fields(fields));
-    match t {
-        ScriptTrb::Is(t) => Call::Hold(t),
-        ScriptTrb::Bad => Call::Bad,
-    }
+    line_trb(fields).map_or(Call::Bad, |t| Call::Hold(t))
 }
 
-// `q KIND ADDR FLAGS A B`: to the end of the row that is being written down.
+// `q`: to the end of the row that is being written down.
+#[tactic(auto, unfolding(crate::specs::Calls::append_call))]
 fn row_trb(fields: Fields) -> Call
     ensures { result ≡ append_call fields }
 {
-    if fields.count != script_fields::MAX_NUMBERS {
-        return Call::Bad;
-    }
-    let t = script_trb::script_trb(trb_fields(fields));
-    match t {
-        ScriptTrb::Is(t) => Call::AppendTrb(t),
-        ScriptTrb::Bad => Call::Bad,
-    }
+    line_trb(fields).map_or(Call::Bad, |t| Call::AppendTrb(t))
 }
 
 // `d STATUS N`
+#[tactic(auto, unfolding(crate::specs::Calls::result_call))]
 fn completion_with_result(fields: Fields) -> Call
     ensures { result ≡ result_call fields }
 {
-    let numbers = fields.numbers;
-    let limits = [4, MAX_SCRIPT_DATA as u64];
-    if !script_fields::within_limits(fields, &limits) {
+    if !script_fields::within_limits(fields, &[4, MAX_SCRIPT_DATA as u64]) {
         return Call::Bad;
     }
-    let status = status_of(numbers[0]);
-    Call::CompleteWithResult(status, numbers[1] as usize)
+    Call::CompleteWithResult(status_of(fields.numbers[0]), fields.numbers[1] as usize)
 }
 
 // `l N`
+#[tactic(auto, unfolding(crate::specs::Calls::no_result_call))]
 fn completion_without(fields: Fields) -> Call
     ensures { result ≡ no_result_call fields }
 {
-    let numbers = fields.numbers;
-    let limits = [MAX_SCRIPT_DATA as u64];
-    if !script_fields::within_limits(fields, &limits) {
+    if !script_fields::within_limits(fields, &[MAX_SCRIPT_DATA as u64]) {
         return Call::Bad;
     }
-    Call::CompleteWithout(numbers[0] as usize)
+    Call::CompleteWithout(fields.numbers[0] as usize)
 }
 
 // `x`
+#[tactic(auto, unfolding(crate::specs::Calls::cancel_call))]
 fn cancel(fields: Fields) -> Call
     ensures { result ≡ cancel_call fields }
 {
@@ -419,32 +420,35 @@ fn cancel(fields: Fields) -> Call
 }
 
 // `p STATE`
+#[tactic(auto, unfolding(crate::specs::Calls::in_state_call))]
 fn in_state(fields: Fields) -> Call
     ensures { result ≡ in_state_call fields }
 {
-    let numbers = fields.numbers;
-    let limits = [3];
-    if !script_fields::within_limits(fields, &limits) {
+    if !script_fields::within_limits(fields, &[3]) {
         return Call::Bad;
     }
-    let state = in_state_of(numbers[0]);
-    Call::MakeUpIn(state)
+    Call::MakeUpIn(in_state_of(fields.numbers[0]))
 }
 
 // `p PHASE STATE DIRECTION LENGTH`
+#[tactic(auto, unfolding(crate::specs::Calls::control_state_call))]
 fn control_state(fields: Fields) -> Call
     ensures { result ≡ control_state_call fields }
 {
-    let numbers = fields.numbers;
-    let limits = [4, 2, 1, MAX_WORD];
-    if !script_fields::within_limits(fields, &limits) {
+    if !script_fields::within_limits(fields, &[4, 2, 1, MAX_WORD]) {
         return Call::Bad;
     }
-    let phase = phase_of(numbers[0]);
-    let state = control_state_of(numbers[1]);
-    Call::MakeUpControl(phase, state, numbers[2] == 1, numbers[3] as u32)
+    let phase = phase_of(fields.numbers[0]);
+    let state = control_state_of(fields.numbers[1]);
+    Call::MakeUpControl(
+        phase,
+        state,
+        fields.numbers[2] == 1,
+        fields.numbers[3] as u32,
+    )
 }
 
+#[tactic(auto, unfolding(crate::specs::Calls::make_up_call))]
 fn made_up(fields: Fields) -> Call
     ensures { result ≡ make_up_call fields }
 {
@@ -456,64 +460,63 @@ fn made_up(fields: Fields) -> Call
 }
 
 // `e STATUS N`: of the row's next TD.
+#[tactic(auto, unfolding(crate::specs::Calls::row_result_call))]
 fn row_result(fields: Fields) -> Call
     ensures { result ≡ row_result_call fields }
 {
-    let numbers = fields.numbers;
-    let limits = [3, MAX_WORD];
-    if !script_fields::within_limits(fields, &limits) {
+    if !script_fields::within_limits(fields, &[3, MAX_WORD]) {
         return Call::Bad;
     }
-    let status = in_status_of(numbers[0]);
-    Call::AppendResult(status, numbers[1] as u32)
+    Call::AppendResult(in_status_of(fields.numbers[0]), fields.numbers[1] as u32)
 }
 
 // `r N`: the row call.
+#[tactic(auto, unfolding(crate::specs::Calls::row_call))]
 fn row_completion(fields: Fields) -> Call
     ensures { result ≡ row_call fields }
 {
-    let numbers = fields.numbers;
-    let limits = [MAX_SCRIPT_DATA as u64];
-    if !script_fields::within_limits(fields, &limits) {
+    if !script_fields::within_limits(fields, &[MAX_SCRIPT_DATA as u64]) {
         return Call::Bad;
     }
-    Call::CompleteRow(numbers[0] as usize)
+    Call::CompleteRow(fields.numbers[0] as usize)
 }
 
 // `t SECONDS MICROSECONDS`: the time of what follows.
+#[tactic(auto, unfolding(crate::specs::Calls::time_call))]
 fn time(fields: Fields) -> Call
     ensures { result ≡ time_call fields }
 {
-    let numbers = fields.numbers;
-    let limits = [MAX_WORD, MAX_WORD];
-    if !script_fields::within_limits(fields, &limits) {
+    if !script_fields::within_limits(fields, &[MAX_WORD, MAX_WORD]) {
         return Call::Bad;
     }
-    Call::Time(numbers[0] as u32, numbers[1] as u32)
+    Call::Time(fields.numbers[0] as u32, fields.numbers[1] as u32)
 }
 
 // `m BUS DEVICE TYPE`: what captures say of the endpoint.
+#[tactic(auto, unfolding(crate::specs::Calls::capture_call))]
 fn captured(fields: Fields) -> Call
     ensures { result ≡ capture_call fields }
 {
-    let numbers = fields.numbers;
-    let limits = [MAX_BUS, MAX_BYTE, 3];
-    if !script_fields::within_limits(fields, &limits) {
+    if !script_fields::within_limits(fields, &[MAX_BUS, MAX_BYTE, 3]) {
         return Call::Bad;
     }
-    if !is_transfer_type(numbers[2]) {
+    if !is_transfer_type(fields.numbers[2]) {
         return Call::Bad;
     }
-    let transfer_type = transfer_type_of(numbers[2]);
-    Call::Captured(numbers[0] as u16, numbers[1] as u8, transfer_type)
+    let transfer_type = transfer_type_of(fields.numbers[2]);
+    Call::Captured(
+        fields.numbers[0] as u16,
+        fields.numbers[1] as u8,
+        transfer_type,
+    )
 }
 
 // The call of a letter and numbers.
+#[tactic(auto, unfolding(crate::specs::Calls::numbered_call, script_trb::specs::Tables::row_of))]
 fn numbered_call(fields: Fields) -> Call
     ensures { result ≡ numbered_call fields }
 {
-    let letter = fields.letter;
-    match letter {
+    match fields.letter {
         b'w' => window(fields),
         b'b' => buffers(fields),
         b'i' => in_creation(fields),
@@ -534,38 +537,30 @@ fn numbered_call(fields: Fields) -> Call
 }
 
 // `u ADDR RAW`: a raw TRB, decoded. No number of a script has so many digits, so that a line which has one has no numbers alone.
+#[tactic(auto, unfolding(crate::specs::Calls::raw_call))]
 fn raw_call(fields: RawFields) -> Call
     ensures { result ≡ raw_call fields }
 {
-    if !fields.good {
+    if fields.letter != b'u' || fields.count != 1 {
         return Call::Bad;
     }
-    if fields.letter != b'u' {
-        return Call::Bad;
-    }
-    if fields.count != 1 {
-        return Call::Bad;
-    }
-    let bytes = fields.bytes;
-    let decoded = raw_trb_decoder::decode(bytes);
-    let variant = decoded.variant;
-    let t = TransferTrb {
-        variant: variant,
+    let decoded = raw_trb_decoder::decode(fields.bytes);
+    Call::Submit(TransferTrb {
+        variant: decoded.variant,
         addr: fields.first,
         cycle_bit: decoded.cycle_bit,
-    };
-    Call::Submit(t)
+    })
 }
 
 // The call of a line, which comes without its line feed.
+#[tactic(auto, unfolding(crate::specs::Calls::call_of))]
 pub fn read_call(line: &[u8]) -> Call
     ensures { result ≡ call_of line.now }
 {
-    let fields = script_fields::read_fields(line);
-    if !fields.good {
-        return raw_call(script_fields::read_raw_fields(line));
+    if let Some(fields) = script_fields::read_fields(line) {
+        return numbered_call(fields);
     }
-    numbered_call(fields)
+    script_fields::read_raw_fields(line).map_or(Call::Bad, |fields| raw_call(fields))
 }
 
 // ---- Lines of the program `raw_trbs`
@@ -574,59 +569,45 @@ pub fn read_call(line: &[u8]) -> Call
 pub enum RawLine {
     Decode(DecodedTrb),
     Encode(TransferTrb),
-    Bad,
 }
 
-// `d RAW`: the TRB is decoded here, since an enum holds no array.
-fn decoding(fields: RawFields) -> RawLine
+// `d RAW`
+#[tactic(auto, unfolding(crate::specs::RawLines::decode_line))]
+fn decoding(fields: RawFields) -> Option<RawLine>
     ensures { result ≡ decode_line fields }
 {
-    if !fields.good {
-        return RawLine::Bad;
+    if fields.letter != b'd' || fields.count != 0 {
+        return None;
     }
-    if fields.letter != b'd' {
-        return RawLine::Bad;
-    }
-    if fields.count != 0 {
-        return RawLine::Bad;
-    }
-    let bytes = fields.bytes;
-    let decoded = raw_trb_decoder::decode(bytes);
-    RawLine::Decode(decoded)
+    Some(RawLine::Decode(raw_trb_decoder::decode(fields.bytes)))
 }
 
 // `e KIND FLAGS A B`
-fn encoding(fields: Fields) -> RawLine
+#[tactic(auto, unfolding(crate::specs::RawLines::encode_line))]
+fn encoding(fields: Fields) -> Option<RawLine>
     ensures { result ≡ encode_line fields }
 {
-    if fields.letter != b'e' {
-        return RawLine::Bad;
+    if fields.letter != b'e' || fields.count != 4 {
+        return None;
     }
-    if fields.count != 4 {
-        return RawLine::Bad;
-    }
-    let numbers = fields.numbers;
-    let parts = TrbFields {
-        kind: numbers[0],
+    let [kind, flags, a, b, _] = fields.numbers;
+    let t = script_trb::script_trb(TrbFields {
+        kind,
         addr: 0,
-        flags: numbers[1],
-        a: numbers[2],
-        b: numbers[3],
-    };
-    let t = script_trb::script_trb(parts);
-    match t {
-        ScriptTrb::Is(t) => RawLine::Encode(t),
-        ScriptTrb::Bad => RawLine::Bad,
-    }
+        flags,
+        a,
+        b,
+    })?;
+    Some(RawLine::Encode(t))
 }
 
 // What a line, which comes without its line feed, asks of `raw_trbs`.
-pub fn read_raw_line(line: &[u8]) -> RawLine
+#[tactic(auto, unfolding(crate::specs::RawLines::raw_line_of))]
+pub fn read_raw_line(line: &[u8]) -> Option<RawLine>
     ensures { result ≡ raw_line_of line.now }
 {
-    let fields = script_fields::read_fields(line);
-    if !fields.good {
-        return decoding(script_fields::read_raw_fields(line));
+    if let Some(fields) = script_fields::read_fields(line) {
+        return encoding(fields);
     }
-    encoding(fields)
+    decoding(script_fields::read_raw_fields(line)?)
 }

@@ -159,11 +159,7 @@ pub fn put_carried_out(text: &mut [u8], at: usize, number: u8) -> usize
 fn records_length(records: usize, room: usize) -> usize
     ensures { result ≡ min (record_length * records) room }
 {
-    if room / trb::RECORD_LENGTH < records {
-        room
-    } else {
-        trb::RECORD_LENGTH * records
-    }
+    records.saturating_mul(trb::RECORD_LENGTH).min(room)
 }
 
 // The first so many records of a log.
@@ -178,9 +174,5 @@ pub fn first_records(log: &[u8], records: usize) -> &[u8]
 pub fn count(n: usize) -> u32
     ensures { result ≡ count_of n }
 {
-    if n <= 0xffff_ffff {
-        n as u32
-    } else {
-        0xffff_ffff
-    }
+    n.min(0xffff_ffff) as u32
 }

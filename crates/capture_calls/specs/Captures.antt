@@ -1,5 +1,5 @@
 -- 02, R-2: what a call of the engine gives to a capture: at most one call of the writer. Assumes nothing.
-use Rattle.std.specs.Prelude.{ℕ, List, [], ◌∷◌, ◌++◌, take}
+use Rattle.std.specs.Prelude.{ℕ, List, [], ◌∷◌, ◌++◌, Option, Some, None, take}
 use Rattle.trb.specs.declared.ControlRequestProcessingResult.{ControlRequestProcessingResult}
 use Rattle.trb.specs.declared.InTrbProcessingResult.{InTrbProcessingResult}
 use Rattle.trb.specs.declared.TransferTrb.{TransferTrb}
@@ -7,11 +7,10 @@ use Rattle.call_log.specs.declared.Record.{Record}
 use Rattle.in_block.specs.declared.InBlock.{InBlock}
 use Rattle.in_block.specs.Blocks as input
 use Rattle.control_block.specs.declared.ControlBlock.{ControlBlock}
+use Rattle.capture_record.specs.declared.CaptureEvent.{CaptureEvent}
 use Rattle.capture_record.specs.declared.InPipe.{InPipe}
 use Rattle.capture_record.specs.declared.UsbDevice.{UsbDevice}
 use Rattle.capture_record.specs.Calls.{CaptureCall}
-use Rattle.capture_calls.specs.declared.CallRecord.{CallRecord}
-use Rattle.capture_calls.specs.declared.CallRecord.TheVariants.{NoRecord, Event}
 use Rattle.capture_calls.specs.Events.{in_request_event, control_request_event, in_completion_event, control_completion_event}
 
 -- the caller's: whose transfers they are, and the time
@@ -21,13 +20,13 @@ pub record Captured : Type 0 where
   pub microseconds : ℕ
 
 -- the call of the writer for an event with this payload
-abbrev pub writer_call : Captured → CallRecord → List ℕ → List CaptureCall
-writer_call c NoRecord payload = []
-writer_call c (Event e) payload =
+abbrev pub writer_call : Captured → Option CaptureEvent → List ℕ → List CaptureCall
+writer_call c None payload = []
+writer_call c (Some e) payload =
     record { device = c.device; seconds = c.seconds; microseconds = c.microseconds; event = e; payload = payload } ∷ []
 
 -- the requests among these records, each with this payload; a record of another kind gives none
-abbrev pub request_captures : Captured → (Record → CallRecord) → List ℕ → List Record → List CaptureCall
+abbrev pub request_captures : Captured → (Record → Option CaptureEvent) → List ℕ → List Record → List CaptureCall
 request_captures c event payload [] = []
 request_captures c event payload (r ∷ rs) = writer_call c (event r) payload ++ request_captures c event payload rs
 

@@ -1,7 +1,7 @@
 // Which record a call gives to a capture, as endpoint_handle.rs writes them.
 #![tactic(auto)]
 
-ghost use Rattle.std.specs.Prelude.{◌≡◌};
+ghost use Rattle.std.specs.Prelude.{◌≡◌, Some};
 ghost use Rattle.capture_calls.specs.Events.{in_request_event, control_request_event, in_completion_event, request_completion_event, control_completion_event};
 
 use call_log::Record;
@@ -11,30 +11,25 @@ use trb::{
     TdBasedNormalSubmissionState, UsbRequest,
 };
 
-// The event that a call gives, if it gives one; its payload is lent beside it.
-#[derive(Clone, Copy)]
-pub enum CallRecord {
-    NoRecord,
-    Event(CaptureEvent),
-}
+// ---- The event that a call gives, if it gives one; its payload is lent beside it.
 
 // Of a record that an IN endpoint logged: a request is a submission.
-pub fn in_request_event(pipe: InPipe, request: Record) -> CallRecord
+pub fn in_request_event(pipe: InPipe, request: Record) -> Option<CaptureEvent>
     ensures { result ≡ in_request_event pipe request }
 {
     if request.kind == call_log::KIND_REQUEST {
-        CallRecord::Event(CaptureEvent::InSubmission(pipe, request.address, request.length))
+        Some(CaptureEvent::InSubmission(pipe, request.address, request.length))
     } else {
-        CallRecord::NoRecord
+        None
     }
 }
 
 // Of a record that a control endpoint logged. On OUT the payload is what was collected.
-pub fn control_request_event(request: Record) -> CallRecord
+pub fn control_request_event(request: Record) -> Option<CaptureEvent>
     ensures { result ≡ control_request_event request }
 {
     if request.kind == call_log::KIND_REQUEST {
-        CallRecord::Event(CaptureEvent::ControlSubmission(UsbRequest {
+        Some(CaptureEvent::ControlSubmission(UsbRequest {
             address: request.address,
             request_type: request.request_type,
             request: request.request,
@@ -43,7 +38,7 @@ pub fn control_request_event(request: Record) -> CallRecord
             length: request.length,
         }))
     } else {
-        CallRecord::NoRecord
+        None
     }
 }
 
@@ -53,20 +48,15 @@ pub fn in_completion_event(
     state: TdBasedNormalSubmissionState,
     first: u64,
     res: InTrbProcessingResult,
-) -> CallRecord
+) -> Option<CaptureEvent>
     ensures { result ≡ in_completion_event pipe state first res }
 {
-    match state {
-        TdBasedNormalSubmissionState::SubmissionDue => CallRecord::NoRecord,
-        TdBasedNormalSubmissionState::CollectingTd => CallRecord::NoRecord,
-        TdBasedNormalSubmissionState::AwaitingRealTransfer => match res {
-            InTrbProcessingResult::NoneGiven => CallRecord::NoRecord,
-            InTrbProcessingResult::Given(status) => {
-                CallRecord::Event(CaptureEvent::InCompletion(pipe, first, status))
-            }
-        },
-        TdBasedNormalSubmissionState::AwaitingLocalCompletion => CallRecord::NoRecord,
-        TdBasedNormalSubmissionState::UnsupportedTrb(address) => CallRecord::NoRecord,
+    match (state, res) {
+        (
+            TdBasedNormalSubmissionState::AwaitingRealTransfer,
+            InTrbProcessingResult::Given(status),
+        ) => Some(CaptureEvent::InCompletion(pipe, first, status)),
+        _ => None,
     }
 }
 
@@ -75,10 +65,10 @@ fn error_event(
     error: TransferError,
     request: UsbRequest,
     collected: u32,
-) -> CallRecord
-    ensures { result ≡ CallRecord.Event (CaptureEvent.ControlError direction error request collected) }
+) -> Option<CaptureEvent>
+    ensures { result ≡ Some (CaptureEvent.ControlError direction error request collected) }
 {
-    CallRecord::Event(CaptureEvent::ControlError(direction, error, request, collected))
+    Some(CaptureEvent::ControlError(direction, error, request, collected))
 }
 
 // Of the device's result for a control request.
@@ -87,11 +77,11 @@ fn request_completion_event(
     request: UsbRequest,
     collected: u32,
     res: ControlRequestProcessingResult,
-) -> CallRecord
+) -> Option<CaptureEvent>
     ensures { result ≡ request_completion_event direction request collected res }
 {
     match res {
-        ControlRequestProcessingResult::NoneGiven => CallRecord::NoRecord,
+        ControlRequestProcessingResult::NoneGiven => None,
         ControlRequestProcessingResult::Disconnect => {
             error_event(direction, TransferError::Disconnect, request, collected)
         }
@@ -107,10 +97,10 @@ fn request_completion_event(
             )
         }
         ControlRequestProcessingResult::SuccessfulControlIn => {
-            CallRecord::Event(CaptureEvent::ControlCompletionIn(request.address))
+            Some(CaptureEvent::ControlCompletionIn(request.address))
         }
         ControlRequestProcessingResult::SuccessfulControlOut => {
-            CallRecord::Event(CaptureEvent::ControlCompletionOut(request.address, request.length))
+            Some(CaptureEvent::ControlCompletionOut(request.address, request.length))
         }
     }
 }
@@ -122,20 +112,15 @@ pub fn control_completion_event(
     request: UsbRequest,
     collected: u32,
     res: ControlRequestProcessingResult,
-) -> CallRecord
+) -> Option<CaptureEvent>
     ensures { result ≡ control_completion_event state direction request collected res }
 {
     match state {
-        ControlSubmissionState::NoTrbSubmitted => CallRecord::NoRecord,
-        ControlSubmissionState::CollectingTd => CallRecord::NoRecord,
-        ControlSubmissionState::ParserError(address) => {
-            CallRecord::Event(CaptureEvent::TrbError(address))
-        }
-        ControlSubmissionState::UnexpectedTrb(address) => {
-            CallRecord::Event(CaptureEvent::TrbError(address))
-        }
+        ControlSubmissionState::ParserError(address)
+        | ControlSubmissionState::UnexpectedTrb(address) => Some(CaptureEvent::TrbError(address)),
         ControlSubmissionState::AwaitingControlRequest => {
             request_completion_event(direction, request, collected, res)
         }
+        _ => None,
     }
 }

@@ -17,14 +17,13 @@ use Rattle.trb.specs.Questions.{first_no}
 use Rattle.trb.proofs.QuestionLaws.{yes-first, yes-behind}
 use Rattle.buffers.specs.LittleEndian.{le_field}
 use Rattle.buffers.specs.Patch.{patch}
-use Rattle.capture_file.specs.declared.CaptureAnswer.{CaptureAnswer}
-use Rattle.capture_file.specs.declared.CaptureAnswer.TheVariants.{Length, Refused}
+use Rattle.std.proofs.Common.{Result, Ok, Err}
 use Rattle.capture_file.specs.Records.{head, layout, layout_all, captured}
 use Rattle.capture_file.specs.Reading.{captured_at, original_at, delivered_at, from_each, record_at, records_in, whole_record, whole_records, every}
 use Rattle.capture_file.specs.Files.{link_long, known_link, extra_of, most_of, file_head, layout_file, file_in, whole_file}
 use Rattle.capture_file.specs.Survey.{convertible}
 use Rattle.capture_file.proofs.FileLaws.{file-headed, file-records, link-cases, length-file_head}
-use Rattle.capture_file.proofs.ReadingLaws.{records_in-none, records_in-step}
+use Rattle.capture_file.proofs.ReadingLaws.{records_in-none, records_in-next}
 use Rattle.capture_file.proofs.LayoutLaws.{both, Whole, whole-tests, length-layout}
 use Rattle.capture_convert.specs.Converting.{resized, resized_front, resized_bytes, added_length, other_link, converted, converted_bytes, convert_questions, Measures, Converts, Resizable, ResizableRecord}
 
@@ -73,11 +72,10 @@ module _ {from most : ℕ} (to : ℕ) (l : List ℕ) (w : Whole from most l) whe
   layout-resized = rw (captured-resized, extended)
 
 -- the records from index `at` on, resized: the one there, and those behind it
-pub resized_bytes-step : (from to at : ℕ) (l : List ℕ) → at < length l
-    → resized_bytes from to (drop at l)
-    ≡ layout (resized to (record_at from (drop at l))) ++ resized_bytes from to (drop (at + (16 + captured_at (drop at l))) l)
+pub resized_bytes-next : (from to : ℕ) (l : List ℕ) → 0 < length l
+    → resized_bytes from to l ≡ layout (resized to (record_at from l)) ++ resized_bytes from to (drop (16 + captured_at l) l)
 unfolding resized_bytes layout_all
-resized_bytes-step from to at l h = rw (records_in-step from 0 at l h)
+resized_bytes-next from to l h = rw (records_in-next from l h)
 
 pub resized_bytes-none : (from to : ℕ) → resized_bytes from to [] ≡ []
 unfolding resized_bytes layout_all
@@ -188,38 +186,38 @@ pub record Measured (l : List ℕ) (n : ℕ) : Type 0 where
   pub plain : every convertible (file_in l).records ≡ true
   pub size : n ≡ length (converted_bytes l)
 
-pub measured : (l : List ℕ) (n : ℕ) → Measures l (Length n) → Measured l n
+pub measured : (l : List ℕ) (n : ℕ) → Measures l (Ok n) → Measured l n
 unfolding first_no
 measured l n m =
     let second : List (Bool × ℕ) = (every convertible (file_in l).records, 18) ∷ [] in
     let whole : whole_file added_length l ≡ true = yes-first (whole_file added_length l) 16 second (sym m.number) in
     let plain : every convertible (file_in l).records ≡ true =
     yes-first (every convertible (file_in l).records) 17 [] (yes-behind (whole_file added_length l) 16 second (sym m.number)) in
-    let same : ◌≡◌ {A = CaptureAnswer} (Length n) (Length (length (converted_bytes l))) = rw (whole, plain) at m.answer in
+    let same : ◌≡◌ {A = Result ℕ Refusal} (Ok n) (Ok (length (converted_bytes l))) = rw (whole, plain) at m.answer in
     record { whole = whole; plain = plain; size = cc }
 
 -- where the length is refused, so is converting, with the same number
-pub measured-refused : (l output : List ℕ) (q : Refusal) → Measures l (Refused q) → Converts l output (Refused q) output
+pub measured-refused : (l output : List ℕ) (q : Refusal) → Measures l (Err q) → Converts l output (Err q) output
 unfolding first_no
 measured-refused l output q m = by (whole_file added_length l) (every convertible (file_in l).records) refl refl
   where
-    by : (a b : Bool) → whole_file added_length l ≡ a → every convertible (file_in l).records ≡ b → Converts l output (Refused q) output
+    by : (a b : Bool) → whole_file added_length l ≡ a → every convertible (file_in l).records ≡ b → Converts l output (Err q) output
     by true true p e =
-        let same : Refused q ≡ Length (length (converted_bytes l)) = rw (p, e) at m.answer in
+        let same : Err q ≡ Ok (length (converted_bytes l)) = rw (p, e) at m.answer in
         let never : ◌≡◌ {A = ℕ} 0 1 = cc in
         absurd (omega arith)
     by true false p e = record { number = rw (p, e) (rw (p, e) at m.number); answer = rw (p, e) (rw (p, e) at m.answer); after = rw (p, e) }
     by false b p e = record { number = rw p (rw p at m.number); answer = rw p (rw p at m.answer); after = rw p }
 
 module _ (l output : List ℕ) (n : ℕ) (m : Measured l n) where
-  pub converts-not : length output < n → Converts l output (Refused OutputTooShort) output
+  pub converts-not : length output < n → Converts l output (Err OutputTooShort) output
   unfolding first_no refusal_of
   converts-not short =
       let no = lt-leb (length (converted_bytes l)) (length output) (omega (arith, m.size)) in
       record { number = rw (m.whole, m.plain, no); answer = rw (m.whole, m.plain, no); after = rw (m.whole, m.plain, no) }
 
-  pub converts : n ≤ length output → Converts l output (Length n) (patch output 0 (converted_bytes l))
+  pub converts : n ≤ length output → Converts l output (Ok n) (patch output 0 (converted_bytes l))
   unfolding first_no
   converts fits =
       let yes = le-leb (length (converted_bytes l)) (length output) (omega (arith, m.size)) in
-      record { number = rw (m.whole, m.plain, yes); answer = rw (m.whole, m.plain, yes) (ap Length m.size); after = rw (m.whole, m.plain, yes) }
+      record { number = rw (m.whole, m.plain, yes); answer = rw (m.whole, m.plain, yes) (ap Ok m.size); after = rw (m.whole, m.plain, yes) }

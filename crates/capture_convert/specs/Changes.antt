@@ -1,5 +1,5 @@
 -- 02, R-12: what converting changes, and that it changes nothing else. Assumes nothing.
-use Rattle.std.specs.Prelude.{ℕ, ◌+◌, ◌≡◌, List, [], ◌∷◌, length, take, replicate}
+use Rattle.std.specs.Prelude.{ℕ, ◌+◌, ◌≡◌, List, [], ◌∷◌, take, replicate}
 use Rattle.buffers.specs.LittleEndian.{le_field}
 use Rattle.capture_file.specs.Records.{CaptureRecord, captured}
 use Rattle.capture_file.specs.Files.{extra_of, file_in}

@@ -1,11 +1,10 @@
 -- 02, R-12: converting between link types 189 and 220. Assumes nothing.
-use Rattle.std.specs.Prelude.{ℕ, ◌+◌, ◌-◌, ◌≤◌, Bool, true, cond, ◌≡◌, List, [], ◌∷◌, ◌++◌, map, leb, eqb, length, take, drop, replicate}
+use Rattle.std.specs.Prelude.{ℕ, ◌+◌, ◌-◌, ◌≤◌, Bool, true, cond, ◌≡◌, List, [], ◌∷◌, ◌++◌, map, leb, eqb, length, take, drop, replicate, Result, Ok, Err}
 use Rattle.trb.specs.Answers.{refusal_of}
 use Rattle.trb.specs.Questions.{first_no, after_questions}
 use Rattle.buffers.specs.LittleEndian.{le_field}
 use Rattle.buffers.specs.Patch.{patch}
-use Rattle.capture_file.specs.declared.CaptureAnswer.{CaptureAnswer}
-use Rattle.capture_file.specs.declared.CaptureAnswer.TheVariants.{Length, Refused}
+use Rattle.trb.specs.declared.Refusal.{Refusal}
 use Rattle.capture_file.specs.Answers.{capture_number}
 use Rattle.capture_file.specs.Records.{CaptureRecord, head, layout_all}
 use Rattle.capture_file.specs.Reading.{original_at, delivered_at, records_in, whole_record, every, Records}
@@ -57,23 +56,23 @@ convert_questions l room = length_questions l ++ (leb (length (converted_bytes l
 
 -- ---- Answers, and the output buffer afterwards
 
-abbrev pub length_answer : List ℕ → CaptureAnswer
-length_answer l = after_questions (length_questions l) (λ n. Refused (refusal_of n)) (Length (length (converted_bytes l)))
+abbrev pub length_answer : List ℕ → Result ℕ Refusal
+length_answer l = after_questions (length_questions l) (λ n. Err (refusal_of n)) (Ok (length (converted_bytes l)))
 
-abbrev pub convert_answer : List ℕ → ℕ → CaptureAnswer
-convert_answer l room = after_questions (convert_questions l room) (λ n. Refused (refusal_of n)) (Length (length (converted_bytes l)))
+abbrev pub convert_answer : List ℕ → ℕ → Result ℕ Refusal
+convert_answer l room = after_questions (convert_questions l room) (λ n. Err (refusal_of n)) (Ok (length (converted_bytes l)))
 
 -- 02, R-12: the converted file over the buffer's start; unchanged on all three
 abbrev pub output_after : List ℕ → List ℕ → List ℕ
 output_after l output = after_questions (convert_questions l (length output)) (λ n. output) (patch output 0 (converted_bytes l))
 
 -- of a call of converted_length with the bytes l: it answered r
-pub record Measures (l : List ℕ) (r : CaptureAnswer) : Type 0 where
+pub record Measures (l : List ℕ) (r : Result ℕ Refusal) : Type 0 where
   pub number : capture_number r ≡ first_no (length_questions l)
   pub answer : r ≡ length_answer l
 
 -- of a call of convert with the bytes l: it answered r and left output'
-pub record Converts (l output : List ℕ) (r : CaptureAnswer) (output' : List ℕ) : Type 0 where
+pub record Converts (l output : List ℕ) (r : Result ℕ Refusal) (output' : List ℕ) : Type 0 where
   pub number : capture_number r ≡ first_no (convert_questions l (length output))
   pub answer : r ≡ convert_answer l (length output)
   pub after : output' ≡ output_after l output

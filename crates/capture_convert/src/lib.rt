@@ -9,7 +9,6 @@ ghost use Rattle.capture_file.specs.Reading.{original_at, delivered_at, record_a
 ghost use Rattle.capture_file.specs.Files.{known_link, extra_of, whole_file};
 ghost use Rattle.capture_convert.specs.Converting.{resized, resized_front, resized_bytes, Resizable, ResizableRecord, other_link, converted_bytes, added_length, Measures, Converts};
 
-use capture_file::CaptureAnswer;
 use trb::Refusal;
 
 // The bytes that link type 220 adds to a record.
@@ -20,13 +19,11 @@ fn resized_head(rest: &[u8], from: usize, to: usize) -> [u8; 16]
     requires { ResizableRecord from to rest.now }
     ensures { result ≡ head (le_field 0 4 rest.now) (le_field 4 4 rest.now) (48 + to + delivered_at rest.now) (original_at rest.now + to - from) }
 {
-    let seconds = buffers::le32(rest, 0);
-    let microseconds = buffers::le32(rest, 4);
     let original = buffers::le32(rest, 12) as usize;
     let delivered = buffers::le32(rest, 52) as usize;
     capture_file::record_head(
-        seconds,
-        microseconds,
+        buffers::le32(rest, 0),
+        buffers::le32(rest, 4),
         (48 + to + delivered) as u32,
         (original + to - from) as u32,
     )
@@ -62,16 +59,15 @@ fn write_records(records: &[u8], from: usize, to: usize, dst: &mut [u8])
     requires { Resizable from to records.now × (24 + length (resized_bytes from to records.now) ≤ length dst.old) }
     ensures { dst.new ≡ patch dst.old 24 (resized_bytes from to records.now) }
 {
-    let mut at = 0;
+    let mut rest = records;
     let mut out = 24;
-    while at < records.len() {
-        let rest = &records[at..];
-        let size = write_record(rest, from, to, dst, out);
-        at += capture_tests::record_size(rest);
-        out += size;
+    while !rest.is_empty() {
+        out += write_record(rest, from, to, dst, out);
+        rest = &rest[capture_tests::record_size(rest)..];
     }
 }
 
+#[tactic(auto, unfolding(crate::specs::Converting::other_link))]
 fn other_link(link: u32) -> u32
     ensures { result ≡ other_link link }
 {
@@ -118,34 +114,25 @@ fn resized_length(length: usize, records: usize, link: u32) -> usize
 }
 
 // The length that a capture has once it is converted, or why it cannot be: 17, 18. One pass over the file.
-pub fn converted_length(src: &[u8]) -> CaptureAnswer
+pub fn converted_length(src: &[u8]) -> Result<usize, Refusal>
     ensures { Measures src.now result }
 {
-    let survey = capture_survey::survey_file(src, ADDED_LENGTH);
-    if !survey.whole {
-        return CaptureAnswer::Refused(Refusal::NotACapture);
-    }
+    let survey = capture_survey::survey_file(src, ADDED_LENGTH).ok_or(Refusal::NotACapture)?;
     if !survey.convertible {
-        return CaptureAnswer::Refused(Refusal::NotConvertible);
+        return Err(Refusal::NotConvertible);
     }
-    let link = buffers::le32(src, 20);
-    CaptureAnswer::Length(resized_length(src.len(), survey.records, link))
+    Ok(resized_length(src.len(), survey.records, buffers::le32(src, 20)))
 }
 
 // Converts a capture from link type 189 to 220 or back: 17, 18, then 14 where the output buffer is too short. It is as it was on
 // all three.
-pub fn convert(src: &[u8], dst: &mut [u8]) -> CaptureAnswer
+pub fn convert(src: &[u8], dst: &mut [u8]) -> Result<usize, Refusal>
     ensures { Converts src.now dst.old result dst.new }
 {
-    let measured = converted_length(src);
-    match measured {
-        CaptureAnswer::Refused(refusal) => CaptureAnswer::Refused(refusal),
-        CaptureAnswer::Length(length) => {
-            if dst.len() < length {
-                return CaptureAnswer::Refused(Refusal::OutputTooShort);
-            }
-            write_file(src, dst);
-            CaptureAnswer::Length(length)
-        }
+    let length = converted_length(src)?;
+    if dst.len() < length {
+        return Err(Refusal::OutputTooShort);
     }
+    write_file(src, dst);
+    Ok(length)
 }

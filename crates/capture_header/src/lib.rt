@@ -1,14 +1,15 @@
 // The usbmon header in a record's bytes, the event that it names, and whether the writer makes it of that event.
 #![tactic(auto)]
 
-ghost use Rattle.std.specs.Prelude.{◌&&◌, ◌≡◌, ◌≤◌, length};
+ghost use Rattle.std.specs.Prelude.{◌≡◌, ◌≤◌, length};
 ghost use Rattle.capture_record.specs.Headers.{header_in};
-ghost use Rattle.capture_header.specs.Made.{rotated_left, status_named, error_named, request_named, submission_named, control_named, in_named, pipe_named, event_named, count_named, made_again, same_setup, same_front, same_numbers, same_header};
+ghost use Rattle.capture_header.specs.Made.{rotated_left, status_named, error_named, request_named, submission_named, control_named, in_named, pipe_named, event_named, count_named, made_again, same_header};
 
 use capture_record::{CaptureEvent, InPipe, TransferError, UsbDevice, UsbHeader, UsbSetup};
 use trb::{EndpointId, InTrbProcessingStatus, UsbRequest};
 
 // What 48 bytes say.
+#[tactic(auto, unfolding(capture_record::specs::Headers::header_in))]
 pub fn header_in(link: &[u8]) -> UsbHeader
     requires { 48 ≤ length link.now }
     ensures { result ≡ header_in link.now }
@@ -42,7 +43,7 @@ pub fn header_in(link: &[u8]) -> UsbHeader
 fn rotated_left(byte: u8) -> u8
     ensures { result ≡ rotated_left byte }
 {
-    byte % 128 * 2 + byte / 128
+    byte.rotate_left(1)
 }
 
 fn pipe_named(header: UsbHeader) -> InPipe
@@ -57,28 +58,22 @@ fn pipe_named(header: UsbHeader) -> InPipe
 fn status_named(status: u32) -> InTrbProcessingStatus
     ensures { result ≡ status_named status }
 {
-    if status == 4294967277 {
-        return InTrbProcessingStatus::Disconnect;
+    match status {
+        4294967277 => InTrbProcessingStatus::Disconnect,
+        4294967264 => InTrbProcessingStatus::Stall,
+        4294967225 => InTrbProcessingStatus::TransactionError,
+        _ => InTrbProcessingStatus::Success,
     }
-    if status == 4294967264 {
-        return InTrbProcessingStatus::Stall;
-    }
-    if status == 4294967225 {
-        return InTrbProcessingStatus::TransactionError;
-    }
-    InTrbProcessingStatus::Success
 }
 
 fn error_named(status: u32) -> TransferError
     ensures { result ≡ error_named status }
 {
-    if status == 4294967277 {
-        return TransferError::Disconnect;
+    match status {
+        4294967277 => TransferError::Disconnect,
+        4294967264 => TransferError::Stall,
+        _ => TransferError::TransactionError,
     }
-    if status == 4294967264 {
-        return TransferError::Stall;
-    }
-    TransferError::TransactionError
 }
 
 fn request_named(header: UsbHeader, length: u32) -> UsbRequest
@@ -91,43 +86,39 @@ fn request_named(header: UsbHeader, length: u32) -> UsbRequest
         request: setup.request,
         value: setup.value,
         index: setup.index,
-        length: length,
+        length,
     }
 }
 
 fn submission_named(header: UsbHeader) -> UsbRequest
     ensures { result ≡ submission_named header }
 {
-    let setup = header.setup;
-    if 128 <= setup.request_type {
+    if 128 <= header.setup.request_type {
         request_named(header, header.length)
     } else {
-        request_named(header, setup.length as u32)
+        request_named(header, header.setup.length as u32)
     }
 }
 
 fn control_named(header: UsbHeader) -> CaptureEvent
     ensures { result ≡ control_named header }
 {
-    let setup = header.setup;
-    if header.event_type == capture_record::SUBMISSION {
-        return CaptureEvent::ControlSubmission(submission_named(header));
-    }
-    if header.event_type == capture_record::COMPLETION {
-        if 128 <= header.endpoint_address {
-            return CaptureEvent::ControlCompletionIn(header.id);
+    match header.event_type {
+        capture_record::SUBMISSION => CaptureEvent::ControlSubmission(submission_named(header)),
+        capture_record::COMPLETION if 128 <= header.endpoint_address => {
+            CaptureEvent::ControlCompletionIn(header.id)
         }
-        return CaptureEvent::ControlCompletionOut(header.id, header.length);
-    }
-    if header.setup_flag == capture_record::WITH_SETUP {
-        return CaptureEvent::ControlError(
+        capture_record::COMPLETION => {
+            CaptureEvent::ControlCompletionOut(header.id, header.length)
+        }
+        _ if header.setup_flag == capture_record::WITH_SETUP => CaptureEvent::ControlError(
             128 <= header.endpoint_address,
             error_named(header.status),
-            request_named(header, setup.length as u32),
+            request_named(header, header.setup.length as u32),
             header.length,
-        );
+        ),
+        _ => CaptureEvent::TrbError(header.id),
     }
-    CaptureEvent::TrbError(header.id)
 }
 
 fn in_named(header: UsbHeader) -> CaptureEvent
@@ -140,6 +131,7 @@ fn in_named(header: UsbHeader) -> CaptureEvent
     }
 }
 
+#[tactic(auto, unfolding(crate::specs::Made::event_named))]
 fn event_named(header: UsbHeader) -> CaptureEvent
     ensures { result ≡ event_named header }
 {
@@ -150,6 +142,7 @@ fn event_named(header: UsbHeader) -> CaptureEvent
     }
 }
 
+#[tactic(auto, unfolding(crate::specs::Made::count_named))]
 fn count_named(header: UsbHeader) -> u32
     ensures { result ≡ count_named header }
 {
@@ -161,6 +154,7 @@ fn count_named(header: UsbHeader) -> u32
 }
 
 // The header that the writer makes of that event.
+#[tactic(auto, unfolding(crate::specs::Made::made_again))]
 pub fn made_again(seconds: u32, microseconds: u32, header: UsbHeader) -> UsbHeader
     ensures { result ≡ made_again seconds microseconds header }
 {
@@ -179,76 +173,9 @@ pub fn made_again(seconds: u32, microseconds: u32, header: UsbHeader) -> UsbHead
 
 // ---- The test
 
-fn both(a: bool, b: bool) -> bool
-    ensures { result ≡ (a && b) }
-{
-    if a { b } else { false }
-}
-
-fn same_setup(a: UsbSetup, b: UsbSetup) -> bool
-    ensures { result ≡ same_setup a b }
-{
-    both(
-        a.request_type == b.request_type,
-        both(
-            a.request == b.request,
-            both(
-                a.value == b.value,
-                both(a.index == b.index, a.length == b.length),
-            ),
-        ),
-    )
-}
-
-// Are the first 16 bytes the same?
-fn same_front(a: UsbHeader, b: UsbHeader) -> bool
-    ensures { result ≡ same_front a b }
-{
-    both(
-        a.id == b.id,
-        both(
-            a.event_type == b.event_type,
-            both(
-                a.transfer_type == b.transfer_type,
-                both(
-                    a.endpoint_address == b.endpoint_address,
-                    both(
-                        a.device_address == b.device_address,
-                        both(
-                            a.bus_number == b.bus_number,
-                            both(a.setup_flag == b.setup_flag, a.data_flag == b.data_flag),
-                        ),
-                    ),
-                ),
-            ),
-        ),
-    )
-}
-
-// And the 24 behind them?
-fn same_numbers(a: UsbHeader, b: UsbHeader) -> bool
-    ensures { result ≡ same_numbers a b }
-{
-    both(
-        a.seconds == b.seconds,
-        both(
-            a.microseconds == b.microseconds,
-            both(
-                a.status == b.status,
-                both(a.length == b.length, a.delivered == b.delivered),
-            ),
-        ),
-    )
-}
-
 // Are all fields of two usbmon headers the same?
 pub fn same_header(a: UsbHeader, b: UsbHeader) -> bool
     ensures { result ≡ same_header a b }
 {
-    let first = a.setup;
-    let second = b.setup;
-    both(
-        same_front(a, b),
-        both(same_numbers(a, b), same_setup(first, second)),
-    )
+    a == b
 }

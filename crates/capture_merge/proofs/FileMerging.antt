@@ -17,8 +17,7 @@ use Rattle.trb.proofs.QuestionLaws.{yes-first, yes-behind, first_no-longer}
 use Rattle.buffers.specs.LittleEndian.{le_field, AllBytes}
 use Rattle.buffers.specs.Patch.{patch}
 use Rattle.buffers.proofs.LittleEndianLaws.{AllBytes-drop}
-use Rattle.capture_file.specs.declared.CaptureAnswer.{CaptureAnswer}
-use Rattle.capture_file.specs.declared.CaptureAnswer.TheVariants.{Length, Refused}
+use Rattle.std.proofs.Common.{Result, Ok, Err}
 use Rattle.capture_file.specs.Records.{CaptureRecord, layout, layout_all, AllSound}
 use Rattle.capture_file.specs.Reading.{records_in, Records}
 use Rattle.capture_file.specs.Files.{CaptureFile, SoundFile, extra_of, most_of, file_head, layout_file, file_in, whole_file}
@@ -121,11 +120,11 @@ module _ (a b : List ℕ) (qs : List (Bool × ℕ)) (yes : first_no (length_ques
     size = refl;
   }
 
-pub measured : (a b : List ℕ) (n : ℕ) → Measures a b (Length n) → Measured a b n
+pub measured : (a b : List ℕ) (n : ℕ) → Measures a b (Ok n) → Measured a b n
 unfolding first_no
 measured a b n m =
     let y : Measured a b (length (merged_file_bytes a b)) = all_yes a b [] (sym m.number) in
-    let same : ◌≡◌ {A = CaptureAnswer} (Length n) (Length (length (merged_file_bytes a b))) =
+    let same : ◌≡◌ {A = Result ℕ Refusal} (Ok n) (Ok (length (merged_file_bytes a b))) =
     rw (y.first, y.second, y.linked, y.first_ordered, y.second_ordered) at m.answer in
     record {
       first = y.first;
@@ -137,14 +136,14 @@ measured a b n m =
     }
 
 -- where the length is refused, so is merging, with the same number
-pub measured-refused : (a b output : List ℕ) (q : Refusal) → Measures a b (Refused q) → Merges a b output (Refused q) output
+pub measured-refused : (a b output : List ℕ) (q : Refusal) → Measures a b (Err q) → Merges a b output (Err q) output
 measured-refused a b output q m =
     let no : eqb (first_no (length_questions a b)) 0 ≡ false = rw m.number at (refusal_number-positive q) in
     let asked : first_no (merge_questions a b (length output)) ≡ refusal_number q = first_no-longer (length_questions a b) _ no ∙ sym m.number in
-    record { number = sym asked; answer = rw (asked, refusal_number-positive q) (ap Refused (sym (refusal_of-number q))); after = rw (asked, refusal_number-positive q) }
+    record { number = sym asked; answer = rw (asked, refusal_number-positive q) (ap Err (sym (refusal_of-number q))); after = rw (asked, refusal_number-positive q) }
 
 module _ (a b output : List ℕ) (n : ℕ) (m : Measured a b n) where
-  pub merges-not : length output < n → Merges a b output (Refused OutputTooShort) output
+  pub merges-not : length output < n → Merges a b output (Err OutputTooShort) output
   unfolding first_no refusal_of
   merges-not short =
       let no = lt-leb (length (merged_file_bytes a b)) (length output) (omega (arith, m.size)) in
@@ -154,13 +153,13 @@ module _ (a b output : List ℕ) (n : ℕ) (m : Measured a b n) where
         after = rw (m.first, m.second, m.linked, m.first_ordered, m.second_ordered, no);
       }
 
-  pub merges : n ≤ length output → Merges a b output (Length n) (patch output 0 (merged_file_bytes a b))
+  pub merges : n ≤ length output → Merges a b output (Ok n) (patch output 0 (merged_file_bytes a b))
   unfolding first_no
   merges fits =
       let yes = le-leb (length (merged_file_bytes a b)) (length output) (omega (arith, m.size)) in
       record {
         number = rw (m.first, m.second, m.linked, m.first_ordered, m.second_ordered, yes);
-        answer = rw (m.first, m.second, m.linked, m.first_ordered, m.second_ordered, yes) (ap Length m.size);
+        answer = rw (m.first, m.second, m.linked, m.first_ordered, m.second_ordered, yes) (ap Ok m.size);
         after = rw (m.first, m.second, m.linked, m.first_ordered, m.second_ordered, yes);
       }
 

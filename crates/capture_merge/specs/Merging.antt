@@ -1,11 +1,10 @@
 -- 02, R-13: two captures made one, ordered by time. Assumes nothing.
-use Rattle.std.specs.Prelude.{ℕ, Bool, cond, not, ◌&&◌, ◌||◌, ◌≡◌, List, [], ◌∷◌, ◌++◌, leb, ltb, eqb, length}
+use Rattle.std.specs.Prelude.{ℕ, Bool, cond, not, ◌&&◌, ◌||◌, ◌≡◌, List, [], ◌∷◌, ◌++◌, leb, ltb, eqb, length, Result, Ok, Err}
 use Rattle.trb.specs.Answers.{refusal_of}
 use Rattle.trb.specs.Questions.{first_no, after_questions}
 use Rattle.buffers.specs.LittleEndian.{le_field}
 use Rattle.buffers.specs.Patch.{patch}
-use Rattle.capture_file.specs.declared.CaptureAnswer.{CaptureAnswer}
-use Rattle.capture_file.specs.declared.CaptureAnswer.TheVariants.{Length, Refused}
+use Rattle.trb.specs.declared.Refusal.{Refusal}
 use Rattle.capture_file.specs.Answers.{capture_number}
 use Rattle.capture_file.specs.Records.{CaptureRecord, layout_all}
 use Rattle.capture_file.specs.Reading.{records_in}
@@ -57,23 +56,23 @@ merge_questions a b room = length_questions a b ++ (leb (length (merged_file_byt
 
 -- ---- Answers, and the output buffer afterwards
 
-abbrev pub length_answer : List ℕ → List ℕ → CaptureAnswer
-length_answer a b = after_questions (length_questions a b) (λ n. Refused (refusal_of n)) (Length (length (merged_file_bytes a b)))
+abbrev pub length_answer : List ℕ → List ℕ → Result ℕ Refusal
+length_answer a b = after_questions (length_questions a b) (λ n. Err (refusal_of n)) (Ok (length (merged_file_bytes a b)))
 
-abbrev pub merge_answer : List ℕ → List ℕ → ℕ → CaptureAnswer
-merge_answer a b room = after_questions (merge_questions a b room) (λ n. Refused (refusal_of n)) (Length (length (merged_file_bytes a b)))
+abbrev pub merge_answer : List ℕ → List ℕ → ℕ → Result ℕ Refusal
+merge_answer a b room = after_questions (merge_questions a b room) (λ n. Err (refusal_of n)) (Ok (length (merged_file_bytes a b)))
 
 -- 02, R-13: the merged file over the buffer's start; unchanged on each
 abbrev pub output_after : List ℕ → List ℕ → List ℕ → List ℕ
 output_after a b output = after_questions (merge_questions a b (length output)) (λ n. output) (patch output 0 (merged_file_bytes a b))
 
 -- of a call of merged_length with the bytes a and b: it answered r
-pub record Measures (a b : List ℕ) (r : CaptureAnswer) : Type 0 where
+pub record Measures (a b : List ℕ) (r : Result ℕ Refusal) : Type 0 where
   pub number : capture_number r ≡ first_no (length_questions a b)
   pub answer : r ≡ length_answer a b
 
 -- of a call of merge with the bytes a and b: it answered r and left output'
-pub record Merges (a b output : List ℕ) (r : CaptureAnswer) (output' : List ℕ) : Type 0 where
+pub record Merges (a b output : List ℕ) (r : Result ℕ Refusal) (output' : List ℕ) : Type 0 where
   pub number : capture_number r ≡ first_no (merge_questions a b (length output))
   pub answer : r ≡ merge_answer a b (length output)
   pub after : output' ≡ output_after a b output

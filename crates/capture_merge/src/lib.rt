@@ -6,31 +6,27 @@ ghost use Rattle.buffers.specs.LittleEndian.{le_field};
 ghost use Rattle.buffers.specs.Patch.{patch};
 ghost use Rattle.capture_file.specs.Reading.{captured_at, Records};
 ghost use Rattle.capture_file.specs.Files.{whole_file};
-ghost use Rattle.capture_merge.specs.Merging.{second_next, merged_bytes, larger, no_growth, merged_file_bytes, Measures, Merges};
+ghost use Rattle.capture_merge.specs.Merging.{second_next, merged_bytes, no_growth, merged_file_bytes, Measures, Merges};
 
-use capture_file::CaptureAnswer;
 use trb::Refusal;
 
 // No length grows by merging, so the file check asks nothing of it.
 const NO_GROWTH: u32 = 0;
 
 // Of the records that are left of two captures, does the second's first come next?
+#[tactic(auto, unfolding(crate::specs::Merging::second_next))]
 fn second_next(l: &[u8], m: &[u8]) -> bool
     requires { (0 < length l.now → 8 ≤ length l.now) × (0 < length m.now → 8 ≤ length m.now) }
     ensures { result ≡ second_next l.now m.now }
 {
-    if m.len() == 0 {
-        return false;
-    }
-    if l.len() == 0 {
-        return true;
-    }
-    capture_tests::is_before(
-        buffers::le32(m, 0),
-        buffers::le32(m, 4),
-        buffers::le32(l, 0),
-        buffers::le32(l, 4),
-    )
+    !m.is_empty()
+        && (l.is_empty()
+            || capture_tests::is_before(
+                buffers::le32(m, 0),
+                buffers::le32(m, 4),
+                buffers::le32(l, 0),
+                buffers::le32(l, 4),
+            ))
 }
 
 // Copies the record that `rest` starts with to index `out`, and returns its size.
@@ -48,6 +44,7 @@ fn merge_records(a: &[u8], b: &[u8], extra: usize, dst: &mut [u8])
     requires { Records extra a.now × Records extra b.now × (24 + (length a.now + length b.now) ≤ length dst.old) }
     ensures { dst.new ≡ patch dst.old 24 (merged_bytes extra a.now b.now) }
 {
+    // Two indices: slices of what is left would want a third variable, for where the output goes on.
     let total = a.len() + b.len();
     let mut at = 0;
     let mut bt = 0;
@@ -61,62 +58,42 @@ fn merge_records(a: &[u8], b: &[u8], extra: usize, dst: &mut [u8])
     }
 }
 
-fn larger(x: u32, y: u32) -> u32
-    ensures { result ≡ larger x y }
-{
-    if x < y { y } else { x }
-}
-
 // Writes both files as one.
 fn write_merged(a: &[u8], b: &[u8], dst: &mut [u8])
     requires { (whole_file no_growth a.now ≡ true) × (whole_file no_growth b.now ≡ true) × (le_field 20 4 a.now ≡ le_field 20 4 b.now) × (length a.now + (length b.now - 24) ≤ length dst.old) }
     ensures { dst.new ≡ patch dst.old 0 (merged_file_bytes a.now b.now) }
 {
     let link = buffers::le32(a, 20);
-    let snap = larger(buffers::le32(a, 16), buffers::le32(b, 16));
+    let snap = buffers::le32(a, 16).max(buffers::le32(b, 16));
     let cells = capture_file::file_head(buffers::le32(a, 8), buffers::le32(a, 12), snap, link);
     buffers::copy_into(dst, 0, &cells);
     merge_records(&a[24..], &b[24..], capture_tests::extra_of(link), dst);
 }
 
 // The length of two captures made one, or why they cannot be: 17, 19, 20. One pass over each.
-pub fn merged_length(a: &[u8], b: &[u8]) -> CaptureAnswer
+pub fn merged_length(a: &[u8], b: &[u8]) -> Result<usize, Refusal>
     ensures { Measures a.now b.now result }
 {
-    let first = capture_survey::survey_file(a, NO_GROWTH);
-    if !first.whole {
-        return CaptureAnswer::Refused(Refusal::NotACapture);
-    }
-    let second = capture_survey::survey_file(b, NO_GROWTH);
-    if !second.whole {
-        return CaptureAnswer::Refused(Refusal::NotACapture);
-    }
+    let first = capture_survey::survey_file(a, NO_GROWTH).ok_or(Refusal::NotACapture)?;
+    let second = capture_survey::survey_file(b, NO_GROWTH).ok_or(Refusal::NotACapture)?;
     if buffers::le32(a, 20) != buffers::le32(b, 20) {
-        return CaptureAnswer::Refused(Refusal::LinkTypesDiffer);
+        return Err(Refusal::LinkTypesDiffer);
     }
-    if !first.ordered {
-        return CaptureAnswer::Refused(Refusal::TimesGoBackwards);
+    if !first.ordered || !second.ordered {
+        return Err(Refusal::TimesGoBackwards);
     }
-    if !second.ordered {
-        return CaptureAnswer::Refused(Refusal::TimesGoBackwards);
-    }
-    CaptureAnswer::Length(a.len() + (b.len() - 24))
+    Ok(a.len() + (b.len() - 24))
 }
 
 // Makes two captures one, ordered by time: 17, 19, 20, then 14 where the result does not fit the output buffer. It is as it was
 // on each.
-pub fn merge(a: &[u8], b: &[u8], dst: &mut [u8]) -> CaptureAnswer
+pub fn merge(a: &[u8], b: &[u8], dst: &mut [u8]) -> Result<usize, Refusal>
     ensures { Merges a.now b.now dst.old result dst.new }
 {
-    let measured = merged_length(a, b);
-    match measured {
-        CaptureAnswer::Refused(refusal) => CaptureAnswer::Refused(refusal),
-        CaptureAnswer::Length(length) => {
-            if dst.len() < length {
-                return CaptureAnswer::Refused(Refusal::OutputTooShort);
-            }
-            write_merged(a, b, dst);
-            CaptureAnswer::Length(length)
-        }
+    let length = merged_length(a, b)?;
+    if dst.len() < length {
+        return Err(Refusal::OutputTooShort);
     }
+    write_merged(a, b, dst);
+    Ok(length)
 }

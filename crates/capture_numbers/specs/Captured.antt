@@ -1,6 +1,5 @@
 -- Captures from numbers and lent bytes: what the numbers of an exported call say. Assumes nothing.
 use Rattle.std.specs.Prelude.{ℕ, Bool, cond, eqb}
-use Rattle.trb.specs.declared.EndpointId.{EndpointId}
 use Rattle.trb.specs.declared.InTrbProcessingStatus.{InTrbProcessingStatus}
 use Rattle.trb.specs.declared.InTrbProcessingStatus.TheVariants as device
 use Rattle.trb.specs.declared.UsbRequest.{UsbRequest}
@@ -10,9 +9,8 @@ use Rattle.capture_record.specs.declared.TransferError.TheVariants as failed
 use Rattle.capture_record.specs.declared.UsbDevice.{UsbDevice}
 use Rattle.capture_record.specs.declared.UsbHeader.{UsbHeader}
 use Rattle.capture_record.specs.declared.UsbSetup.{UsbSetup}
-use Rattle.capture_writer.specs.declared.Written.{Written}
-use Rattle.capture_reader.specs.declared.CaptureCount.{CaptureCount}
-use Rattle.capture_reader.specs.declared.CapturedRecord.{CapturedRecord}
+use Rattle.capture_reader.specs.Reading.{CaptureCount, NumberedRecord}
+use Rattle.capture_writer.specs.Writing.{Written}
 use Rattle.answer_numbers.specs.declared.Answered.{Answered}
 use Rattle.capture_numbers.specs.declared.RecordRead.{RecordRead}
 
@@ -63,7 +61,7 @@ header_by r = record {
 }
 
 -- what the reader gives of a record
-abbrev pub record_by : RecordRead → CapturedRecord
+abbrev pub record_by : RecordRead → NumberedRecord
 record_by r = record {
   number = r.number;
   seconds = r.seconds;

@@ -6,12 +6,13 @@ ghost use Rattle.trb.specs.Questions.{first_no};
 ghost use Rattle.capture_file.specs.Answers.{capture_length};
 ghost use Rattle.capture_convert.specs.Converting.{length_answer, convert_questions, output_after};
 ghost use Rattle.capture_merge.specs.Merging as merging;
-ghost use Rattle.capture_writer.specs.Writing.{call_of, Writes, WritesHead};
-ghost use Rattle.capture_reader.specs.Reading.{ReadsCapture, read_at};
+ghost use Rattle.capture_writer.specs.Writing.{in_numbers, call_of, Writes, WritesHead};
+ghost use Rattle.capture_reader.specs.Reading.{ReadsCapture, nothing_read, read_at};
 ghost use Rattle.capture_numbers.specs.Captured.{written_by, device_of, pipe_of, status_of, error_of, count_by, record_by};
 
 use answer_numbers::Answered;
 use capture_record::{CaptureEvent, InPipe, TransferError, UsbDevice};
+use capture_writer::NotWritten;
 use trb::{EndpointId, InTrbProcessingStatus};
 
 // ---- Files
@@ -46,6 +47,22 @@ pub fn merge(first: &[u8], second: &[u8], output: &mut [u8]) -> u8
 
 // ---- Records
 
+// 02, R-2: the number of the reader's question, where the input is no file that the writer can make.
+const NOT_WRITTEN: u32 = 22;
+
+// What the writer answers.
+fn answered(written: Result<usize, NotWritten>) -> Answered
+    ensures { written_by result ≡ in_numbers written }
+{
+    match written {
+        Ok(count) => Answered { number: 0, count },
+        Err(refusal) => Answered {
+            number: refusal as u32,
+            count: 0,
+        },
+    }
+}
+
 // The record of an event of this device at this time.
 pub fn write_event(
     output: &mut [u8],
@@ -58,61 +75,49 @@ pub fn write_event(
 ) -> Answered
     ensures { Writes (call_of (device_of bus_number device_address) seconds microseconds event payload.now) output.old (written_by result) output.new }
 {
-    let device = UsbDevice {
-        bus_number: bus_number,
-        device_address: device_address,
-    };
-    let written = capture_writer::write_record(
+    answered(capture_writer::write_record(
         output,
-        device,
+        UsbDevice {
+            bus_number,
+            device_address,
+        },
         seconds,
         microseconds,
         event,
         payload,
-    );
-    Answered {
-        number: written.number as u32,
-        count: written.length,
-    }
+    ))
 }
 
 // 1 Stall, 3 Disconnect, 0 Success; 2 and any other number TransactionError.
 pub fn in_status(number: u8) -> InTrbProcessingStatus
     ensures { result ≡ status_of number }
 {
-    if number == 0 {
-        return InTrbProcessingStatus::Success;
+    match number {
+        0 => InTrbProcessingStatus::Success,
+        1 => InTrbProcessingStatus::Stall,
+        3 => InTrbProcessingStatus::Disconnect,
+        _ => InTrbProcessingStatus::TransactionError,
     }
-    if number == 1 {
-        return InTrbProcessingStatus::Stall;
-    }
-    if number == 3 {
-        return InTrbProcessingStatus::Disconnect;
-    }
-    InTrbProcessingStatus::TransactionError
 }
 
 // Numbered as `in_status` has it.
 pub fn transfer_error(number: u8) -> TransferError
     ensures { result ≡ error_of number }
 {
-    if number == 1 {
-        return TransferError::Stall;
+    match number {
+        1 => TransferError::Stall,
+        3 => TransferError::Disconnect,
+        _ => TransferError::TransactionError,
     }
-    if number == 3 {
-        return TransferError::Disconnect;
-    }
-    TransferError::TransactionError
 }
 
 // An IN endpoint, of interrupt transfers or else of bulk ones.
 pub fn in_pipe(endpoint_id: u8, interrupt: bool) -> InPipe
     ensures { result ≡ pipe_of endpoint_id interrupt }
 {
-    let id = EndpointId(endpoint_id);
     InPipe {
-        endpoint_id: id,
-        interrupt: interrupt,
+        endpoint_id: EndpointId(endpoint_id),
+        interrupt,
     }
 }
 
@@ -120,25 +125,23 @@ pub fn in_pipe(endpoint_id: u8, interrupt: bool) -> InPipe
 pub fn write_file_header(output: &mut [u8]) -> Answered
     ensures { WritesHead output.old (written_by result) output.new }
 {
-    let written = capture_writer::write_file_header(output);
-    Answered {
-        number: written.number as u32,
-        count: written.length,
-    }
+    answered(capture_writer::write_file_header(output))
 }
 
 // Counts the records of a capture. The number: 0, or 22 where it is none that the writer writes.
 pub fn read_capture(input: &[u8]) -> Answered
     ensures { ReadsCapture input.now (count_by result) }
 {
-    let read = capture_reader::read_capture(input);
-    Answered {
-        number: read.number as u32,
-        count: read.records,
+    match capture_reader::read_capture(input) {
+        Some(count) => Answered { number: 0, count },
+        None => Answered {
+            number: NOT_WRITTEN,
+            count: 0,
+        },
     }
 }
 
-// What a record gives: 0 or 22; its times; its header's fields, a status below 0 standing as 2^32 less its amount; where in the file its payload stands and how
+// A number with the values beside it, since C reads it. What a record gives: 0 or 22; its times; its header's fields, a status below 0 standing as 2^32 less its amount; where in the file its payload stands and how
 // long it is; where the next record starts.
 #[repr(C)]
 #[derive(Clone, Copy)]
@@ -169,15 +172,48 @@ pub struct RecordRead {
     pub next: usize,
 }
 
+fn nothing_read() -> RecordRead
+    ensures { record_by result ≡ nothing_read }
+{
+    RecordRead {
+        number: NOT_WRITTEN,
+        seconds: 0,
+        microseconds: 0,
+        id: 0,
+        event_type: 0,
+        transfer_type: 0,
+        endpoint_address: 0,
+        device_address: 0,
+        bus_number: 0,
+        setup_flag: 0,
+        data_flag: 0,
+        header_seconds: 0,
+        header_microseconds: 0,
+        status: 0,
+        length: 0,
+        delivered: 0,
+        request_type: 0,
+        request: 0,
+        value: 0,
+        index: 0,
+        setup_length: 0,
+        payload_start: 0,
+        payload_length: 0,
+        next: 0,
+    }
+}
+
 // Reads the record that starts at byte `at` of a capture, from 24 on. The number: 0, or 22 where none that the writer writes starts there, all else being 0.
 pub fn read_record(input: &[u8], at: usize) -> RecordRead
     ensures { record_by result ≡ read_at input.now at }
 {
-    let read = capture_reader::read_record(input, at);
+    let Some(read) = capture_reader::read_record(input, at) else {
+        return nothing_read();
+    };
     let header = read.header;
     let setup = header.setup;
     RecordRead {
-        number: read.number as u32,
+        number: 0,
         seconds: read.seconds,
         microseconds: read.microseconds,
         id: header.id,

@@ -2,31 +2,27 @@
 use Prim.Native.Nat.{ℕ, ◌+◌, ◌≤◌, ◌<◌}
 use mathlib.Core.Bool.{Bool, true, false, ◌&&◌}
 use mathlib.Core.Path.{◌≡◌, refl, sym, ap, ◌∙◌}
-use mathlib.Core.List.{List, []}
+use mathlib.Core.List.{List, [], ◌∷◌}
 use native.Mathlib.Omega.{arith}
 use lib.Dec.{eqb, leb}
 use lib.ListN.{length, take, drop, length-drop, drop_of_length-le}
 use lib.Seq.{length-take-le}
-use borrow.Author.Tests.{leb-true, le-leb, lt-leb, eq-eqb, ne_eqb}
+use borrow.Author.Tests.{le-leb, lt-leb, eq-eqb, ne_eqb}
 use Rattle.trb.specs.Questions.{first_no}
 use Rattle.buffers.specs.LittleEndian.{le_field, AllBytes}
 use Rattle.capture_file.specs.Reading.{captured_at, original_at, delivered_at, record_at, records_in, whole_record}
-use Rattle.capture_file.proofs.ReadingLaws.{records_in-none, records_in-step, whole_records-none, whole_records-step}
+use Rattle.capture_file.proofs.ReadingLaws.{records_in-none, records_in-next, whole_records-none, whole_records-next}
 use Rattle.capture_file.proofs.LayoutLaws.{both, Whole, whole-tests, captured-record_at}
 use Rattle.capture_record.specs.Headers.{header_in}
 use Rattle.capture_record.specs.Events.{snap_length, max_microseconds}
 use Rattle.capture_header.specs.Made.{made_again, same_header, made}
-use Rattle.capture_reader.specs.declared.CapturedRecord.{CapturedRecord}
-use Rattle.capture_reader.specs.Reading.{made_head, made_records, made_file, count_refused, counted, count_of, ReadsCapture, made_record, nothing_read, read_at}
+use Rattle.capture_reader.specs.Reading.{made_head, made_records, made_file, count_refused, counted, count_of, ReadsCapture, made_record, NumberedRecord, nothing_read, read_at}
 
 -- ---- One record
 
 module _ (l : List ℕ) (whole : whole_record 0 snap_length l ≡ true) where
   tests : Whole 0 snap_length l
   tests = whole-tests 0 snap_length l whole
-
-  pub whole_long : 64 ≤ length l
-  whole_long = tests.header
 
   module _ (bytes : AllBytes l) where
     abbrev link : List ℕ
@@ -79,7 +75,7 @@ unfolding made_record whole_record
 read_past l at h = read_none l at (ap made_record (drop_of_length-le l h))
 
 -- its fields, read at their offsets
-abbrev pub fields_at : ℕ → List ℕ → CapturedRecord
+abbrev pub fields_at : ℕ → List ℕ → NumberedRecord
 fields_at at l = record {
   number = 0;
   seconds = le_field 0 4 l;
@@ -110,53 +106,45 @@ made_records-none : made_records [] ≡ true
 unfolding made_records
 made_records-none = rw (whole_records-none 0 snap_length, records_in-none 0)
 
-pub made_records-step : (at : ℕ) (l : List ℕ) → at < length l
-    → made_records (drop at l) ≡ (made_record (drop at l) && made_records (drop (at + (16 + captured_at (drop at l))) l))
+pub made_records-next : (l : List ℕ) → 0 < length l
+    → made_records l ≡ (made_record l && made_records (drop (16 + captured_at l) l))
 unfolding made_records made_record
-made_records-step at l h =
-    rw (whole_records-step 0 snap_length at l h, records_in-step 0 snap_length at l h)
-    (swap (whole_record 0 snap_length (drop at l)) _ (made (record_at 0 (drop at l))) _)
+made_records-next l h =
+    rw (whole_records-next 0 snap_length l h, records_in-next 0 l h)
+    (swap (whole_record 0 snap_length l) _ (made (record_at 0 l)) _)
 
--- so far `count` records were passed, all of which the writer makes
-pub record Counting (l : List ℕ) (at count : ℕ) : Type 0 where
-  pub within : at ≤ length l
-  pub few : count ≤ at
-  pub rest : made_records (drop at l) ≡ made_records l
-  pub counted : count + length (records_in 0 (drop at l)) ≡ length (records_in 0 l)
+-- so far `count` records were passed, all of which the writer makes, and `rest` is left
+pub record Counting (l rest : List ℕ) (count : ℕ) : Type 0 where
+  pub few : count + length rest ≤ length l
+  pub made : made_records rest ≡ made_records l
+  pub counted : count + length (records_in 0 rest) ≡ length (records_in 0 l)
 
-module _ {l : List ℕ} {at count : ℕ} (w : Counting l at count) (h : at < length l) where
+module _ {l rest : List ℕ} {count : ℕ} (w : Counting l rest count) (h : 0 < length rest) where
   -- a record that is none of the writer's ends the pass
-  pub count-broken : made_record (drop at l) ≡ false → count_refused ≡ count_of l
+  pub count-broken : made_record rest ≡ false → count_refused ≡ count_of l
   unfolding count_of
-  count-broken broken = rw (← w.rest, made_records-step at l h, broken)
+  count-broken broken = rw (← w.made, made_records-next rest h, broken)
 
-  module _ (passes : made_record (drop at l) ≡ true) where
-    here : Whole 0 snap_length (drop at l)
-    here = whole-tests 0 snap_length (drop at l) (made-whole (drop at l) passes)
+  pub count-step : {i : ℕ} → made_record rest ≡ true → i ≡ 16 + captured_at rest → 16 + captured_at rest ≤ length rest → Counting l (drop i rest) (count + 1)
+  count-step passes passed within =
+      rw passed
+      (record {
+        few = omega (arith, w.few, length-drop (16 + captured_at rest) rest);
+        made = sym (made_records-next rest h ∙ rw passes) ∙ w.made;
+        counted = omega (arith, w.counted, ap length (records_in-next 0 rest h));
+      })
 
-    pub count-header : 64 ≤ length (drop at l)
-    count-header = here.header
-
-    pub count-within : at + (16 + captured_at (drop at l)) ≤ length l
-    count-within = omega (arith, here.complete, length-drop at l)
-
-    pub count-step : {i : ℕ} → i ≡ 16 + captured_at (drop at l) → Counting l (at + i) (count + 1)
-    count-step passed =
-        rw passed
-        (record {
-          within = count-within;
-          few = omega (arith, w.few);
-          rest = sym (made_records-step at l h ∙ rw passes) ∙ w.rest;
-          counted = omega (arith, w.counted, ap length (records_in-step 0 snap_length at l h));
-        })
+empty : (l : List ℕ) → length l ≡ 0 → l ≡ []
+empty [] h = refl
+empty (b ∷ bs) h = absurd (omega arith)
 
 -- at the end nothing is left
-pub count-ends : {l : List ℕ} {at count : ℕ} → Counting l at count → length l ≤ at → counted count ≡ count_of l
+pub count-ends : {l rest : List ℕ} {count : ℕ} → Counting l rest count → length rest ≡ 0 → counted count ≡ count_of l
 unfolding count_of
-count-ends {l} {at} {count} w h =
-    let none : drop at l ≡ [] = drop_of_length-le l h in
-    let all : made_records l ≡ true = sym w.rest ∙ rw none made_records-none in
-    let left : records_in 0 (drop at l) ≡ [] = rw none (records_in-none 0) in
+count-ends {l} {rest} {count} w h =
+    let none : rest ≡ [] = empty rest h in
+    let all : made_records l ≡ true = sym w.made ∙ rw none made_records-none in
+    let left : records_in 0 rest ≡ [] = rw none (records_in-none 0) in
     let number : count ≡ length (records_in 0 l) = omega (arith, w.counted, ap length left) in
     rw (all, number)
 
@@ -173,7 +161,3 @@ reads-headed l h = by (made_records (drop 24 l)) refl
     by : (b : Bool) → made_records (drop 24 l) ≡ b → ReadsCapture l (count_of (drop 24 l))
     by true e = record { number = rw (h, e); answer = rw (h, e) }
     by false e = record { number = rw (h, e); answer = rw (h, e) }
-
-pub headed-long : (l : List ℕ) → made_head l ≡ true → 24 ≤ length l
-unfolding made_head
-headed-long l h = leb-true 24 (length l) (both (leb 24 (length l)) _ h).0

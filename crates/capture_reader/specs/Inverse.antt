@@ -2,11 +2,10 @@
 use Rattle.std.specs.Prelude.{ℕ, ◌+◌, ◌%◌, ◌≡◌, List, [], ◌∷◌, length, take, drop}
 use Rattle.capture_record.specs.Events.{header_of}
 use Rattle.capture_record.specs.Calls.{CaptureCall, delivered_by}
-use Rattle.capture_reader.specs.declared.CapturedRecord.{CapturedRecord}
-use Rattle.capture_reader.specs.Reading.{read_at}
+use Rattle.capture_reader.specs.Reading.{NumberedRecord, read_at}
 
 -- what is to be read of a call's record at index `at`: the times, every header field, the payload's place, and where the next record starts
-abbrev pub given_call : ℕ → CaptureCall → CapturedRecord
+abbrev pub given_call : ℕ → CaptureCall → NumberedRecord
 given_call at c = record {
   number = 0;
   seconds = c.seconds;

@@ -13,9 +13,9 @@ pub const SNAP_LENGTH: u32 = 134217728;
 pub const MAX_MICROSECONDS: u32 = 999999;
 
 // Event types: S and C.
-pub const SUBMISSION: u8 = 83;
+pub const SUBMISSION: u8 = b'S';
 
-pub const COMPLETION: u8 = 67;
+pub const COMPLETION: u8 = b'C';
 
 // The transfer type of a control endpoint.
 pub const CONTROL: u8 = 2;
@@ -61,7 +61,7 @@ pub enum CaptureEvent {
 }
 
 // The eight setup bytes (USB 2.0, 9.3).
-#[derive(Clone, Copy)]
+#[derive(Clone, Copy, PartialEq)]
 pub struct UsbSetup {
     pub request_type: u8,
     pub request: u8,
@@ -71,7 +71,7 @@ pub struct UsbSetup {
 }
 
 // The 48-byte usbmon header; ports `UsbPacketLinktypeHeader`. A status below 0 stands as 2^32 less its amount.
-#[derive(Clone, Copy)]
+#[derive(Clone, Copy, PartialEq)]
 pub struct UsbHeader {
     pub id: u64,
     pub event_type: u8,
@@ -108,12 +108,9 @@ pub fn carries(event: CaptureEvent) -> bool
     ensures { result ≡ carries event }
 {
     match event {
-        CaptureEvent::InSubmission(pipe, id, length) => false,
-        CaptureEvent::InCompletion(pipe, id, status) => is_odd(pipe.endpoint_id.0),
+        CaptureEvent::InCompletion(pipe, _, _) => is_odd(pipe.endpoint_id.0),
         CaptureEvent::ControlSubmission(request) => !to_host(request),
-        CaptureEvent::ControlCompletionIn(id) => true,
-        CaptureEvent::ControlCompletionOut(id, length) => false,
-        CaptureEvent::ControlError(to_host, error, request, collected) => false,
-        CaptureEvent::TrbError(id) => false,
+        CaptureEvent::ControlCompletionIn(_) => true,
+        _ => false,
     }
 }

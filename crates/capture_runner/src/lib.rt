@@ -18,42 +18,31 @@ use std::io::{Read, Write};
 
 // Writes the first `length` bytes out, or as many as there are.
 fn write_out<W: Write>(writer: &mut W, output: &[u8], length: usize) -> io::Result<()> {
-    let end = call_script::least(length, output.len());
-    writer.write_all(&output[..end])
+    writer.write_all(&output[..length.min(output.len())])
 }
 
 // ---- Lines
 
-// How far a run has come, and whether there may be more.
+// How far a run has come.
 #[derive(Clone, Copy)]
 struct Progress {
     session: Session,
     setting: Setting,
-    more: bool,
 }
 
 fn started() -> Progress {
-    let session = session::new_session();
-    let setting = call_captures::first_setting();
     Progress {
-        session: session,
-        setting: setting,
-        more: true,
+        session: session::new_session(),
+        setting: call_captures::first_setting(),
     }
-}
-
-fn ended(progress: Progress) -> Progress {
-    let mut next = progress;
-    next.more = false;
-    next
 }
 
 // Is the high region the longer one while the call is made?
 fn high_is_longer(session: Session, call: Call) -> bool {
-    if let Call::Window(_, low_length, _, high_length) = call {
-        return low_length < high_length;
+    match call {
+        Call::Window(_, low_length, _, high_length) => low_length < high_length,
+        _ => session.low_length < session.high_length,
     }
-    session.low_length < session.high_length
 }
 
 // Makes a call. Of the two regions, which together have no more bytes than `longer`, the longer one lies there; a call that moves them fills both anew.
@@ -76,7 +65,8 @@ fn run_call(
     session_calls::run_call(text, 0, session, call, log, collect, data, longer, shorter)
 }
 
-// Takes one line, which comes without its line feed, and writes the records of its call. A bad line has none, and ends the run.
+// Takes one line, which comes without its line feed, and writes the records of its call. A bad line has none, and ends the run: there
+// is no progress behind it.
 fn run_line<W: Write>(
     writer: &mut W,
     output: &mut [u8],
@@ -88,21 +78,26 @@ fn run_line<W: Write>(
     data: &[u8],
     longer: &mut [u8],
     shorter: &mut [u8],
-) -> io::Result<Progress>
+) -> io::Result<Option<Progress>>
     requires max_answer_in_bounds { max_answer ≤ length text.old }
     requires log_len_bound { length log.old ≤ min_row_log }
 {
-    let before = progress.session;
-    let setting = progress.setting;
     let call = call_script::read_call(line);
-    let ran = run_call(text, before, call, log, collect, data, longer, shorter);
-    let after = ran.session;
-    let next = call_captures::setting_after(setting, call);
+    let ran = run_call(
+        text,
+        progress.session,
+        call,
+        log,
+        collect,
+        data,
+        longer,
+        shorter,
+    );
     let end = call_captures::put_call(
         output,
-        setting,
-        before,
-        after,
+        progress.setting,
+        progress.session,
+        ran.session,
         call,
         log,
         ran.records,
@@ -110,11 +105,13 @@ fn run_line<W: Write>(
         data,
     );
     write_out(writer, output, end)?;
-    Ok(Progress {
-        session: after,
-        setting: next,
-        more: ran.good,
-    })
+    if !ran.good {
+        return Ok(None);
+    }
+    Ok(Some(Progress {
+        session: ran.session,
+        setting: call_captures::setting_after(progress.setting, call),
+    }))
 }
 
 fn run_step<W: Write>(
@@ -129,30 +126,26 @@ fn run_step<W: Write>(
     data: &[u8],
     longer: &mut [u8],
     shorter: &mut [u8],
-) -> io::Result<Progress>
+) -> io::Result<Option<Progress>>
     requires max_answer_in_bounds { max_answer ≤ length text.old }
     requires log_len_bound { length log.old ≤ min_row_log }
     requires stepped { Stepped (length input.now) step }
 {
-    let found = step.found;
-    let from = step.from;
-    let end = step.end;
-    match found {
+    match step.found {
         Found::Line => run_line(
             writer,
             output,
             text,
             progress,
-            &input[from..end],
+            &input[step.from..step.end],
             log,
             collect,
             data,
             longer,
             shorter,
         ),
-        Found::Piece => Ok(progress),
-        Found::End => Ok(ended(progress)),
-        Found::Unfinished => Ok(ended(progress)),
+        Found::Piece => Ok(Some(progress)),
+        Found::End | Found::Unfinished => Ok(None),
     }
 }
 
@@ -175,15 +168,17 @@ fn run_input<R: Read, W: Write>(
     let mut progress = started();
     let mut from = 0;
     let mut filled = 0;
-    let mut turns = u64::MAX;
-    while 0 < turns {
+    for _ in 0..u64::MAX {
         let step = script_lines::next_line(reader, input, from, filled)?;
-        progress = run_step(
+        let Some(next) = run_step(
             writer, output, text, progress, input, step, log, collect, data, longer, shorter,
-        )?;
+        )?
+        else {
+            return Ok(());
+        };
+        progress = next;
         from = step.next;
         filled = step.filled;
-        turns = script_lines::turns_left(turns, progress.more);
     }
     Ok(())
 }
@@ -222,8 +217,8 @@ pub fn run<R: Read, W: Write>(reader: &mut R, writer: &mut W) -> io::Result<()> 
     let mut data = call_runner::data_buffer();
     script_bytes::fill_device(&mut data);
     script_bytes::fill_guest(&mut longer, session::FIRST_BASE);
-    let header = capture_writer::write_file_header(&mut output);
-    write_out(writer, &output, header.length)?;
+    let header = capture_writer::write_file_header(&mut output).unwrap_or(0);
+    write_out(writer, &output, header)?;
     run_input(
         reader,
         writer,

@@ -1,29 +1,12 @@
 // A capture file checked in one pass: what is found of its records.
 #![tactic(auto)]
 
-ghost use Rattle.std.specs.Prelude.{not, ◌&&◌, ◌≡◌, ◌≤◌, length};
+ghost use Rattle.std.specs.Prelude.{not, ◌≡◌, ◌≤◌, length};
 ghost use Rattle.buffers.specs.LittleEndian.{le_field};
 ghost use Rattle.capture_file.specs.Times.{before};
-ghost use Rattle.capture_file.specs.Survey.{found_broken, survey_of, file_survey};
+ghost use Rattle.capture_file.specs.Survey.{survey_of, file_survey};
 
 use capture_file::Survey;
-
-fn both(a: bool, b: bool) -> bool
-    ensures { result ≡ (a && b) }
-{
-    if a { b } else { false }
-}
-
-fn found_broken() -> Survey
-    ensures { result ≡ found_broken }
-{
-    Survey {
-        whole: false,
-        convertible: false,
-        ordered: false,
-        records: 0,
-    }
-}
 
 // Is the time of the record that the bytes start with not before this one?
 fn follows(rest: &[u8], seconds: u32, microseconds: u32) -> bool
@@ -39,42 +22,41 @@ fn follows(rest: &[u8], seconds: u32, microseconds: u32) -> bool
 }
 
 // One pass over the records behind a file header.
-fn survey_records(records: &[u8], extra: usize, most: u32) -> Survey
+fn survey_records(records: &[u8], extra: usize, most: u32) -> Option<Survey>
     requires { extra ≤ 16 }
     ensures { result ≡ survey_of extra most records.now }
 {
-    let mut at = 0;
+    let mut rest = records;
     let mut count = 0;
     let mut convertible = true;
     let mut ordered = true;
-    let mut seconds: u32 = 0;
-    let mut microseconds: u32 = 0;
-    while at < records.len() {
-        let rest = &records[at..];
+    let mut seconds = 0;
+    let mut microseconds = 0;
+    while !rest.is_empty() {
         if !capture_tests::whole_record(rest, extra, most) {
-            return found_broken();
+            return None;
         }
-        convertible = both(convertible, capture_tests::is_convertible(rest, extra));
-        ordered = both(ordered, follows(rest, seconds, microseconds));
+        convertible &= capture_tests::is_convertible(rest, extra);
+        ordered &= follows(rest, seconds, microseconds);
         seconds = buffers::le32(rest, 0);
         microseconds = buffers::le32(rest, 4);
         count += 1;
-        at += capture_tests::record_size(rest);
+        rest = &rest[capture_tests::record_size(rest)..];
     }
-    Survey {
-        whole: true,
-        convertible: convertible,
-        ordered: ordered,
+    Some(Survey {
+        convertible,
+        ordered,
         records: count,
-    }
+    })
 }
 
-// One pass over a file. `growth` is the number of bytes by which records of link type 189 are to grow: 16 for converting, 0 for merging.
-pub fn survey_file(src: &[u8], growth: u32) -> Survey
+// One pass over a file, or nothing where it is not whole. `growth` is the number of bytes by which records of link type 189 are to
+// grow: 16 for converting, 0 for merging.
+pub fn survey_file(src: &[u8], growth: u32) -> Option<Survey>
     ensures { result ≡ file_survey growth src.now }
 {
     if !capture_tests::whole_head(src) {
-        return found_broken();
+        return None;
     }
     let link = buffers::le32(src, 20);
     survey_records(

@@ -6,8 +6,7 @@ use lib.ListN.{length}
 use Rattle.capture_file.specs.Records.{layout}
 use Rattle.capture_record.specs.Calls.{CaptureCall, delivered_by, record_of}
 use Rattle.capture_record.proofs.CallLaws.{length-delivered_of, length-record_of}
-use Rattle.capture_writer.specs.declared.Written.{Written}
-use Rattle.capture_writer.specs.Writing.{record_questions, Writes}
+use Rattle.capture_writer.specs.Writing.{Written, record_questions, Writes}
 use Rattle.capture_writer.specs.Alike.{SameButBytes}
 
 module _ (c c' : CaptureCall) (s : SameButBytes c c') where

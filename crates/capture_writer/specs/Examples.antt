@@ -12,8 +12,7 @@ use Rattle.capture_record.specs.declared.InPipe.{InPipe}
 use Rattle.capture_record.specs.declared.TransferError.TheVariants.{Disconnect, Stall, TransactionError}
 use Rattle.capture_record.specs.Headers.{header_bytes}
 use Rattle.capture_record.specs.Calls.{CaptureCall, record_of, writer_head}
-use Rattle.capture_writer.specs.declared.Written.{Written}
-use Rattle.capture_writer.specs.Writing.{call_of, head_questions, record_questions, answer_of, output_after}
+use Rattle.capture_writer.specs.Writing.{Written, call_of, head_questions, record_questions, answer_of, output_after}
 
 -- bus 258, device 5, at 0x0A0B0C0D seconds and so many microseconds
 abbrev at : ℕ → CaptureEvent → List ℕ → CaptureCall

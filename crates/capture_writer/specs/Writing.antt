@@ -1,5 +1,5 @@
 -- 02, R-2: the writer's questions, its answers and the buffer afterwards. Assumes nothing.
-use Rattle.std.specs.Prelude.{ℕ, ◌+◌, Bool, ◌&&◌, ◌≡◌, List, [], ◌∷◌, ◌++◌, leb, length}
+use Rattle.std.specs.Prelude.{ℕ, ◌+◌, Bool, ◌&&◌, ◌≡◌, List, [], ◌∷◌, ◌++◌, leb, length, Result, Ok, Err}
 use Rattle.trb.specs.Questions.{first_no, after_questions}
 use Rattle.buffers.specs.Patch.{patch}
 use Rattle.capture_file.specs.Records.{head, layout}
@@ -9,7 +9,8 @@ use Rattle.capture_record.specs.declared.UsbHeader.{UsbHeader}
 use Rattle.capture_record.specs.Headers.{header_bytes}
 use Rattle.capture_record.specs.Events.{snap_length, max_microseconds}
 use Rattle.capture_record.specs.Calls.{CaptureCall, captured_by, record_of, writer_head}
-use Rattle.capture_writer.specs.declared.Written.{Written}
+use Rattle.capture_writer.specs.declared.NotWritten.{NotWritten}
+use Rattle.capture_writer.specs.declared.NotWritten.TheVariants.{OutputTooShort, OutOfRange}
 
 abbrev pub call_of : UsbDevice → ℕ → ℕ → CaptureEvent → List ℕ → CaptureCall
 call_of d seconds microseconds e payload = record { device = d; seconds = seconds; microseconds = microseconds; event = e; payload = payload }
@@ -27,8 +28,22 @@ record_questions c room =
 
 -- ---- Answers, and the buffer afterwards
 
+-- the number of the question that said no, or 0, and how many bytes were written
+pub record Written : Type 0 where
+  pub number : ℕ
+  pub length : ℕ
+
 abbrev pub refused_with : ℕ → Written
 refused_with n = record { number = n; length = 0 }
+
+abbrev pub refusal_number : NotWritten → ℕ
+refusal_number OutputTooShort = 14
+refusal_number OutOfRange = 24
+
+-- an answer in numbers
+abbrev pub in_numbers : Result ℕ NotWritten → Written
+in_numbers (Ok n) = record { number = 0; length = n }
+in_numbers (Err e) = refused_with (refusal_number e)
 
 -- a call that writes these bytes over the buffer's start, if every question is answered yes
 abbrev pub answer_of : List (Bool × ℕ) → List ℕ → Written

@@ -8,7 +8,7 @@ use native.Mathlib.Omega.{arith}
 use lib.Dec.{eqb}
 use lib.ListN.{length, take, drop, get_or, length-drop, drop_of_length-le}
 use lib.Seq.{drop-cons, drop-drop}
-use borrow.Author.Tests.{lt-ltb, le-ltb}
+use Rattle.std.proofs.Common.{Some}
 use Rattle.trb.specs.Trbs.{chain_of}
 use Rattle.trb.specs.declared.InTrbProcessingStatus.{InTrbProcessingStatus}
 use Rattle.trb.specs.declared.TransferTrb.{TransferTrb}
@@ -76,23 +76,17 @@ spans_all ts first end count k h =
 -- ---- The loop that looks for a request
 
 module _ (n i : ℕ) (log : List ℕ) where
-  pub request-here : i < n → (record_at log i).kind ≡ request_kind → requests_in (records_from n i log) ≡ request_at n i log
+  pub request-here : i < n → (record_at log i).kind ≡ request_kind → requests_in (records_from n i log) ≡ request_at n (Some i) log
   unfolding requests_in
-  request-here h is = rw (records_in-next n i log h, is, lt-ltb i n h)
+  request-here h is = rw (records_in-next n i log h, is)
 
   pub request-later : i < n → eqb (record_at log i).kind request_kind ≡ false → requests_in (records_from n i log) ≡ requests_in (records_from n (i + 1) log)
   unfolding requests_in
   request-later h not = rw (records_in-next n i log h, not)
 
-  pub request-nowhere : n ≤ i → requests_in (records_from n i log) ≡ request_at n i log
+  pub request-nowhere : n ≤ i → requests_in (records_from n i log) ≡ []
   unfolding requests_in
-  request-nowhere h = rw (records_from-none n i log h, le-ltb i n h)
-
-  pub request_at-some : i < n → request_at n i log ≡ record_at log i ∷ requests_in (records_from n (i + 1) log)
-  request_at-some h = rw (lt-ltb i n h)
-
-  pub request_at-none : n ≤ i → request_at n i log ≡ []
-  request_at-none h = rw (le-ltb i n h)
+  request-nowhere h = rw (records_from-none n i log h)
 
 -- ---- One TD
 

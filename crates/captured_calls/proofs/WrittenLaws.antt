@@ -8,6 +8,9 @@ use lib.Dec.{leb, eqb}
 use lib.ListN.{length, take, drop, length-append, length-drop, drop_of_length-le}
 use lib.Seq.{take-length, drop-drop}
 use borrow.Author.Tests.{leb-true}
+use Rattle.std.proofs.Common.{Result, Ok, Err}
+use Rattle.std.specs.Result.{result_unwrap_or}
+use Rattle.capture_writer.specs.declared.NotWritten.{NotWritten}
 use borrow.Rule.Slice.PartMut.{put_mid, mid_of, post_of}
 use Rattle.trb.specs.Questions.{first_no}
 use Rattle.buffers.specs.Patch.{patch}
@@ -15,8 +18,7 @@ use Rattle.buffers.proofs.PatchLaws.{patch-none, patch-behind, length-patch}
 use Rattle.capture_file.specs.Records.{layout}
 use Rattle.capture_record.specs.Calls.{CaptureCall, record_of, captured_by}
 use Rattle.capture_record.specs.Events.{snap_length, max_microseconds}
-use Rattle.capture_writer.specs.declared.Written.{Written}
-use Rattle.capture_writer.specs.Writing.{refused_with, record_questions, answer_of, WritesIf, Writes}
+use Rattle.capture_writer.specs.Writing.{Written, in_numbers, refused_with, record_questions, answer_of, WritesIf, Writes}
 use Rattle.captured_calls.specs.Written.{written_one, written_all, Lays}
 
 -- ---- It lies in the room
@@ -41,6 +43,11 @@ length-written_all room (c ∷ cs) =
     simp length-append (omega arith)
 
 -- ---- One call of the writer
+
+-- a refused one wrote nothing
+pub length-in_numbers : (r : Result ℕ NotWritten) → (in_numbers r).length ≡ result_unwrap_or r 0
+length-in_numbers (Ok n) = refl
+length-in_numbers (Err e) = refl
 
 module _ (bytes output : List ℕ) (n : ℕ) where
   length-by : (b : Bool) → ◌≡◌ {A = ℕ} (cond b (record { number = 0; length = length bytes }) (refused_with n)).length (length (cond b bytes []))

@@ -1,5 +1,5 @@
 -- 02, R-2 of R-7: what a row of TDs in a single call gives to a capture. Assumes nothing.
-use Rattle.std.specs.Prelude.{ℕ, ◌+◌, ◌≡◌, Bool, cond, List, [], ◌∷◌, ◌++◌, eqb, ltb, length, take, drop}
+use Rattle.std.specs.Prelude.{ℕ, ◌+◌, ◌≡◌, Bool, cond, List, [], ◌∷◌, ◌++◌, Option, Some, None, eqb, length, take, drop}
 use Rattle.trb.specs.declared.InTrbProcessingResult.TheVariants.{Given}
 use Rattle.trb.specs.declared.InTrbProcessingStatus.{InTrbProcessingStatus}
 use Rattle.trb.specs.declared.TdBasedNormalSubmissionState.TheVariants.{AwaitingRealTransfer}
@@ -23,8 +23,9 @@ requests_in [] = []
 requests_in (r ∷ rs) = cond (eqb r.kind request_kind) (r ∷ requests_in rs) (requests_in rs)
 
 -- of a log's first n records: that request is number r, or there is none
-abbrev pub request_at : ℕ → ℕ → List ℕ → List Record
-request_at n r log = cond (ltb r n) (record_at log r ∷ requests_in (records_from n (r + 1) log)) []
+abbrev pub request_at : ℕ → Option ℕ → List ℕ → List Record
+request_at n None log = []
+request_at n (Some r) log = record_at log r ∷ requests_in (records_from n (r + 1) log)
 
 -- a TD that has logged this request: its submission, then its completion with its identifier, its status and its own bytes
 abbrev pub td_capture : Captured → InPipe → Record → InTrbProcessingStatus → List ℕ → List CaptureCall

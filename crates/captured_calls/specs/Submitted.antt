@@ -1,11 +1,11 @@
 -- 02, R-2: what a capture says of a call, and the requests of a log. Assumes nothing.
-use Rattle.std.specs.Prelude.{ℕ, ◌-◌, ◌*◌, ◌/◌, min, List, length, drop}
+use Rattle.std.specs.Prelude.{ℕ, ◌-◌, ◌*◌, ◌/◌, min, List, Option, length, drop}
 use Rattle.trb.specs.Limits.{record_length}
 use Rattle.trb.specs.declared.EndpointId.{EndpointId}
 use Rattle.call_log.specs.declared.Record.{Record}
 use Rattle.call_log.specs.Logs.{records_in}
 use Rattle.capture_record.specs.declared.InPipe.{InPipe}
-use Rattle.capture_calls.specs.declared.CallRecord.{CallRecord}
+use Rattle.capture_record.specs.declared.CaptureEvent.{CaptureEvent}
 use Rattle.capture_calls.specs.Events.{in_request_event, control_request_event}
 use Rattle.capture_calls.specs.Captures.{Captured}
 use Rattle.captured_calls.specs.declared.Requester.{Requester}
@@ -19,7 +19,7 @@ abbrev pub pipe_of : Setting → EndpointId → InPipe
 pipe_of s e = record { endpoint_id = e; interrupt = s.interrupt }
 
 -- the event of a record that this endpoint logged
-abbrev pub request_event : Requester → Record → CallRecord
+abbrev pub request_event : Requester → Record → Option CaptureEvent
 request_event (In p) r = in_request_event p r
 request_event Control r = control_request_event r
 

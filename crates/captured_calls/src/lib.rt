@@ -1,8 +1,10 @@
 // Which records a call of a script gives to a capture, laid into a lent buffer one behind the other. What stands in them is `capture_calls` and `capture_writer`'s.
 #![tactic(auto)]
 
-ghost use Rattle.std.specs.Prelude.{◌≡◌, ◌+◌, ◌-◌, ◌*◌, ◌<◌, ◌≤◌, min, length, take};
+ghost use Rattle.std.specs.Prelude.{◌≡◌, ◌+◌, ◌-◌, ◌*◌, ◌<◌, ◌≤◌, eqb, min, length, take};
+ghost use Rattle.std.specs.Option.{IfSome};
 ghost use Rattle.trb.specs.Limits.{record_length, max_row};
+ghost use Rattle.call_log.specs.Records.{request_kind, record_at};
 ghost use Rattle.in_td.specs.Td.{normal_count};
 ghost use Rattle.row_walk.specs.Rows.{row_tds};
 ghost use Rattle.capture_calls.specs.Events.{in_completion_event, control_completion_event, control_request_event};
@@ -12,8 +14,7 @@ ghost use Rattle.captured_calls.specs.Submitted.{captured_of, pipe_of, request_e
 ghost use Rattle.captured_calls.specs.Rows.{Spans, requests_in, request_at, td_capture, PutsTd, row_captures};
 
 use call_log::Record;
-use capture_calls::CallRecord;
-use capture_record::{InPipe, UsbDevice};
+use capture_record::{CaptureEvent, InPipe, UsbDevice};
 use row_walk::TdResult;
 use trb::{
     ControlRequestProcessingResult, ControlSubmissionState, EndpointId, InTrbProcessingResult,
@@ -31,37 +32,42 @@ pub struct Setting {
 }
 
 // Lays a record behind the bytes before `at`, if there is one, and returns the index behind it. One that is refused is left out.
-fn put(output: &mut [u8], at: usize, setting: Setting, record: CallRecord, payload: &[u8]) -> usize
+fn put(
+    output: &mut [u8],
+    at: usize,
+    setting: Setting,
+    event: Option<CaptureEvent>,
+    payload: &[u8],
+) -> usize
     requires { at ≤ length output.old }
-    ensures { Lays (writer_call (captured_of setting) «record» payload.now) output.old at result output.new }
+    ensures { Lays (writer_call (captured_of setting) event payload.now) output.old at result output.new }
 {
-    match record {
-        CallRecord::NoRecord => at,
-        CallRecord::Event(event) => {
-            let device = setting.device;
+    match event {
+        Some(event) => {
             let written = capture_writer::write_record(
                 &mut output[at..],
-                device,
+                setting.device,
                 setting.seconds,
                 setting.microseconds,
                 event,
                 payload,
             );
-            at + written.length
+            at + written.unwrap_or(0)
         }
+        None => at,
     }
 }
 
 // ---- Submissions
 
-// Whose log it is.
+// Whose log it is. A closure in its place would have to be tied to the definition that the contract cites.
 #[derive(Clone, Copy)]
 enum Requester {
     In(InPipe),
     Control,
 }
 
-fn request_event(requester: Requester, record: Record) -> CallRecord
+fn request_event(requester: Requester, record: Record) -> Option<CaptureEvent>
     ensures { result ≡ request_event requester «record» }
 {
     match requester {
@@ -83,14 +89,11 @@ fn put_requests(
     requires { at ≤ length output.old }
     ensures { Lays (request_captures (captured_of setting) (request_event requester) payload.now (logged_records records log.now)) output.old at result output.new }
 {
-    let end = call_script::least(records, log.len() / trb::RECORD_LENGTH);
+    let end = records.min(log.len() / trb::RECORD_LENGTH);
     let mut behind = at;
-    let mut i = 0;
-    while i < end {
-        let record = call_log::read_record(log, i);
-        let event = request_event(requester, record);
+    for i in 0..end {
+        let event = request_event(requester, call_log::read_record(log, i));
         behind = put(output, behind, setting, event, payload);
-        i += 1;
     }
     behind
 }
@@ -99,7 +102,7 @@ fn in_pipe(setting: Setting, endpoint_id: EndpointId) -> InPipe
     ensures { result ≡ pipe_of setting endpoint_id }
 {
     InPipe {
-        endpoint_id: endpoint_id,
+        endpoint_id,
         interrupt: setting.interrupt,
     }
 }
@@ -208,40 +211,43 @@ fn td_at(row: [TransferTrb; trb::MAX_ROW], trbs: usize, first: usize) -> TdSpan
     requires { trbs ≤ max_row }
     ensures { Spans (take trbs row) first result }
 {
-    let mut end = first;
     let mut normals = 0;
-    while end < trbs {
-        let t = row[end];
-        let variant = t.variant;
+    for at in first..trbs {
+        let variant = row[at].variant;
         normals = counted(normals, variant);
-        end += 1;
         if !trb::chain_of(variant) {
             return TdSpan {
-                end: end,
-                normals: normals,
+                end: at + 1,
+                normals,
             };
         }
     }
     TdSpan {
-        end: end,
-        normals: normals,
+        end: first.max(trbs),
+        normals,
     }
 }
 
-// Of a log's first records, the number of the first request from `from` on; none is left where it is not below their number.
-fn next_request(log: &[u8], from: usize, records: usize) -> usize
-    requires { record_length * records ≤ length log.now }
-    ensures { requests_in (records_from records from log.now) ≡ request_at records result log.now }
+// Is this record a request?
+fn is_request(log: &[u8], index: usize) -> bool
+    requires { record_length * (index + 1) ≤ length log.now }
+    ensures { result ≡ eqb (record_at log.now index).kind request_kind }
 {
-    let mut at = from;
-    while at < records {
-        let record = call_log::read_record(log, at);
-        if record.kind == call_log::KIND_REQUEST {
-            return at;
+    call_log::read_record(log, index).kind == call_log::KIND_REQUEST
+}
+
+// Of a log's first records, the number of the first request from `from` on, if one is left.
+fn next_request(log: &[u8], from: usize, records: usize) -> Option<usize>
+    requires { record_length * records ≤ length log.now }
+    ensures rest { requests_in (records_from records from log.now) ≡ request_at records result log.now }
+    ensures below { IfSome result (λ index. index < records) }
+{
+    for index in from..records {
+        if is_request(log, index) {
+            return Some(index);
         }
-        at += 1;
     }
-    at
+    None
 }
 
 // A TD that was started: the request that it logged, and its completion.
@@ -296,24 +302,29 @@ fn put_td(
     ensures { PutsTd (captured_of setting) (pipe_of setting endpoint_id) has_normal given.status (requests_in (records_from records from log.now)) (requests_in (records_from records result.from log.now)) «data».now output.old at result.behind output.new }
 {
     if !has_normal {
-        return TdPut {
+        return TdPut { behind: at, from };
+    }
+    match next_request(log, from, records) {
+        Some(index) => {
+            let request = call_log::read_record(log, index);
+            let behind = put_started(
+                output,
+                at,
+                setting,
+                endpoint_id,
+                request,
+                given.status,
+                data,
+            );
+            TdPut {
+                behind,
+                from: index + 1,
+            }
+        }
+        None => TdPut {
             behind: at,
-            from: from,
-        };
-    }
-    let index = next_request(log, from, records);
-    if index < records {
-        let request = call_log::read_record(log, index);
-        let status = given.status;
-        let behind = put_started(output, at, setting, endpoint_id, request, status, data);
-        return TdPut {
-            behind: behind,
-            from: index + 1,
-        };
-    }
-    TdPut {
-        behind: at,
-        from: index,
+            from: records,
+        },
     }
 }
 
@@ -322,7 +333,7 @@ fn part_end(start: usize, count: u32, all: usize) -> usize
     requires { start ≤ all }
     ensures { result ≡ start + min count (all - start) }
 {
-    start + call_script::least(count as usize, all - start)
+    start + (count as usize).min(all - start)
 }
 
 // A row of so many TRBs, with these results and joined data, that logged so many records: each TD that has a Normal and was started, its request and
@@ -342,14 +353,13 @@ pub fn put_row(
     requires { at ≤ length output.old }
     ensures { Lays (row_captures (captured_of setting) (pipe_of setting endpoint_id) (row_tds (take count row) results) (requests_in (logged_records records log.now)) «data».now) output.old at result output.new }
 {
-    let trbs = call_script::least(count, trb::MAX_ROW);
-    let logged = call_script::least(records, log.len() / trb::RECORD_LENGTH);
+    let trbs = count.min(trb::MAX_ROW);
+    let logged = records.min(log.len() / trb::RECORD_LENGTH);
     let mut behind = at;
     let mut first = 0;
     let mut from = 0;
     let mut start = 0;
-    let mut td = 0;
-    while td < trb::MAX_ROW {
+    for td in 0..trb::MAX_ROW {
         let given = results[td];
         let found = td_at(row, trbs, first);
         let end = part_end(start, given.length, data.len());
@@ -369,7 +379,6 @@ pub fn put_row(
         first = found.end;
         from = put.from;
         start = end;
-        td += 1;
     }
     behind
 }

@@ -12,41 +12,31 @@ use guest_memory::{Place, Regions};
 use trb::{Answer, Refusal};
 
 // Is the record a write of nonzero length? No other record touches guest memory.
+#[tactic(auto, unfolding(crate::specs::Writes::moves_bytes))]
 fn moves_bytes(record: Record) -> bool
     ensures { result ≡ moves_bytes «record» }
 {
-    if record.kind == call_log::KIND_WRITE {
-        0 < record.length
-    } else {
-        false
-    }
+    record.kind == call_log::KIND_WRITE && 0 < record.length
 }
 
 // Does the record, where it is a write of nonzero length, lie in the device's data, `available` bytes, and in one of the regions?
+#[tactic(auto, unfolding(crate::specs::Writes::write_in_range))]
 fn write_in_range(record: Record, available: usize, regions: Regions) -> bool
     ensures { result ≡ write_in_range available regions «record» }
 {
-    if !moves_bytes(record) {
-        return true;
-    }
-    let end = (record.start as usize) + (record.length as usize);
-    if available < end {
-        return false;
-    }
-    guest_memory::check_range(regions, record.address, record.length)
+    let end = record.start as usize + record.length as usize;
+    !moves_bytes(record)
+        || end <= available && guest_memory::check_range(regions, record.address, record.length)
 }
 
 // Question 11: does each write of nonzero length lie in the device's data and in one of the regions?
 fn writes_in_range(log: &[u8], available: usize, regions: Regions) -> bool
     ensures { result ≡ writes_in_range available regions (records_of log.now) }
 {
-    let records = log.len() / trb::RECORD_LENGTH;
-    let mut index = 0;
-    while index < records {
+    for index in 0..log.len() / trb::RECORD_LENGTH {
         if !write_in_range(call_log::read_record(log, index), available, regions) {
             return false;
         }
-        index += 1;
     }
     true
 }
@@ -67,8 +57,7 @@ fn perform_write(
         let start = record.start as usize;
         let count = record.length as usize;
         let regions = guest_memory::guest_regions(low_base, low.len(), high_base, high.len());
-        let place = guest_memory::place_range(regions, record.address, record.length);
-        match place {
+        match guest_memory::place_range(regions, record.address, record.length) {
             Place::Outside => {}
             Place::InLow(offset) => {
                 guest_memory::write_bulk(low, offset, data, start, count);
@@ -92,12 +81,9 @@ fn perform_writes(
     requires { writes_in_range (length «data».now) (guest_regions low_base (length low.old) high_base (length high.old)) (records_of log.now) ≡ true }
     ensures { memory_of low_base low.new high_base high.new ≡ written «data».now (memory_of low_base low.old high_base high.old) (records_of log.now) }
 {
-    let records = log.len() / trb::RECORD_LENGTH;
-    let mut index = 0;
-    while index < records {
+    for index in 0..log.len() / trb::RECORD_LENGTH {
         let record = call_log::read_record(log, index);
         perform_write(record, data, low_base, low, high_base, high);
-        index += 1;
     }
 }
 

@@ -27,7 +27,7 @@ use Rattle.guest_memory.specs.Places.{Memory, regions_of}
 use Rattle.carry_out.specs.Writes.{records_of, writes_in_range, written}
 use Rattle.carry_out.specs.CarryOut.{carry_out_questions, memory_after, Carried}
 use Rattle.carry_out.specs.CarryOut as carry_out
-use Rattle.log_compact.specs.declared.CompactAnswer.TheVariants.{Kept, Refused}
+use Rattle.std.proofs.Common.{Ok, Err}
 use Rattle.kept_records.specs.Rows.{rows_in, rows_of, bytes_of}
 use Rattle.kept_records.specs.Compact.{joined, without_empty, join_from, join_all, compacted}
 use Rattle.log_compact.specs.Compacting.{kept_bytes, padded_to, answer_of, log_after}
@@ -218,11 +218,11 @@ length-compacted rs = omega (arith, by (without_empty rs), length-without_empty 
     by (r ∷ rs) = length-join_from r rs
 
 -- the rows kept lie in the buffer
-pub answer_of-fits : (log : List ℕ) (n : ℕ) → Kept n ≡ answer_of log → record_length * n ≤ length log
+pub answer_of-fits : (log : List ℕ) (n : ℕ) → Ok n ≡ answer_of log → record_length * n ≤ length log
 unfolding first_no
 answer_of-fits log n e = by (well_formed log) e
   where
-    by : (t : Bool) → Kept n ≡ after_questions ((t, 10) ∷ []) (λ k. Refused (refusal_of k)) (Kept (length (compacted (rows_of log)))) → record_length * n ≤ length log
+    by : (t : Bool) → Ok n ≡ after_questions ((t, 10) ∷ []) (λ k. Err (refusal_of k)) (Ok (length (compacted (rows_of log)))) → record_length * n ≤ length log
     by true e =
         let count : n ≡ length (compacted (rows_of log)) = cc in
         omega (arith, length-compacted (rows_of log), length-rows_in (length log / record_length) log)

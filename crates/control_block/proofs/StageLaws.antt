@@ -29,14 +29,14 @@ turn_by s t ts false false true is-status e f g h = rw (e, f, g)
 turn_by s t ts false false false true e f g h = rw (e, f, g, h)
 turn_by s t ts false false false false e f g h = rw (e, f, g, h)
 
-address_from-turn : (s : StageFound) (t : TransferTrb) (ts : List TransferTrb) → address_from (stage_with s t) ts ≡ address_from s (t ∷ ts)
+pub address_from-turn : (s : StageFound) (t : TransferTrb) (ts : List TransferTrb) → address_from (stage_with s t) ts ≡ address_from s (t ∷ ts)
 address_from-turn s t ts = turn_by s t ts _ _ _ _ refl refl refl refl
 
 same-either : (b : Bool) (a : ℕ) → cond b a a ≡ a
 same-either true a = refl
 same-either false a = refl
 
-address_from-none : (s : StageFound) → address_from s [] ≡ s.addr
+pub address_from-none : (s : StageFound) → address_from s [] ≡ s.addr
 unfolding first_at
 address_from-none s = rw (same-either s.status_stage s.addr) (same-either s.data_stage s.addr)
 

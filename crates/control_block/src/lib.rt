@@ -4,11 +4,12 @@
 
 ghost use Rattle.std.specs.Prelude.{◌≡◌, ◌<◌};
 ghost use Rattle.trb.specs.Limits.{max_held};
-ghost use Rattle.control_block.specs.Blocks.{no_transfer, at_phase, fresh_block, stored, advanced};
-ghost use Rattle.control_block.specs.Facts.{sound_block, submission_due, awaits_device};
+ghost use Rattle.control_block.specs.Blocks.{no_transfer, at_phase, fresh_block, held_of, stored, advanced};
+ghost use Rattle.control_block.specs.Facts.{facts_of, sound_block, submission_due, awaits_device};
 ghost use Rattle.control_block.specs.Endings.{request_ending, ending_of, result_of, places_freed, phase_behind};
-ghost use Rattle.control_block.specs.Stages.{is_data_stage, is_status_stage, address_for, no_stage, stage_with};
+ghost use Rattle.control_block.specs.Stages.{stage_address, address_for, error_address, no_stage, stage_with};
 
+use held::EndpointKind;
 use trb::{
     CompletionCode, ControlRequestProcessingResult, ControlSubmissionState, ControlTransferState,
     EndpointId, SlotId, TransferTrb, TransferTrbVariant, TrbProcessingResult, UsbRequest,
@@ -49,6 +50,13 @@ pub struct ControlTransfer {
     pub collected: usize,
 }
 
+// The TRBs that are held: no more than there are places.
+pub fn held_of(block: &ControlBlock) -> &[TransferTrb]
+    ensures { result.now ≡ held_of block.now }
+{
+    &block.trbs[..held::places_held(block.held)]
+}
+
 // ---- Changes
 
 fn no_transfer() -> ControlTransfer
@@ -74,20 +82,17 @@ pub fn fresh(endpoint_id: EndpointId, slot_id: SlotId, release: GuestRelease) ->
     ensures { result ≡ fresh_block endpoint_id slot_id release }
 {
     let transfer = no_transfer();
-    let phase = transfer.phase;
-    let request = transfer.request;
-    let blank = held::blank();
     ControlBlock {
-        endpoint_id: endpoint_id,
-        slot_id: slot_id,
-        release: release,
-        phase: phase,
+        endpoint_id,
+        slot_id,
+        release,
+        phase: transfer.phase,
         state: ControlSubmissionState::NoTrbSubmitted,
         direction: transfer.direction,
-        request: request,
+        request: transfer.request,
         collected: transfer.collected,
         held: 0,
-        trbs: [blank; trb::MAX_HELD],
+        trbs: [held::blank(); trb::MAX_HELD],
     }
 }
 
@@ -95,13 +100,7 @@ pub fn fresh(endpoint_id: EndpointId, slot_id: SlotId, release: GuestRelease) ->
 pub fn at_phase(transfer: ControlTransfer, phase: ControlTransferState) -> ControlTransfer
     ensures { result ≡ at_phase phase transfer }
 {
-    let request = transfer.request;
-    ControlTransfer {
-        phase: phase,
-        direction: transfer.direction,
-        request: request,
-        collected: transfer.collected,
-    }
+    ControlTransfer { phase, ..transfer }
 }
 
 // One TRB more is held.
@@ -109,10 +108,9 @@ pub fn store(block: ControlBlock, t: TransferTrb) -> ControlBlock
     requires { block.held < max_held }
     ensures { result ≡ stored block t }
 {
-    let at = block.held;
     let mut next = block;
-    next.trbs[at] = t;
-    next.held = at + 1;
+    next.trbs[block.held] = t;
+    next.held += 1;
     next
 }
 
@@ -124,23 +122,13 @@ pub fn advance(
 ) -> ControlBlock
     ensures { result ≡ advanced block transfer state }
 {
-    let endpoint_id = block.endpoint_id;
-    let slot_id = block.slot_id;
-    let release = block.release;
-    let phase = transfer.phase;
-    let request = transfer.request;
-    let trbs = block.trbs;
     ControlBlock {
-        endpoint_id: endpoint_id,
-        slot_id: slot_id,
-        release: release,
-        phase: phase,
-        state: state,
+        phase: transfer.phase,
+        state,
         direction: transfer.direction,
-        request: request,
+        request: transfer.request,
         collected: transfer.collected,
-        held: block.held,
-        trbs: trbs,
+        ..block
     }
 }
 
@@ -159,48 +147,45 @@ pub struct BlockFacts {
     pub sound: bool,
 }
 
+// The facts of a block.
+pub fn facts_of(block: &ControlBlock) -> BlockFacts
+    ensures { result ≡ facts_of block.now }
+{
+    BlockFacts {
+        endpoint_id: block.endpoint_id,
+        slot_id: block.slot_id,
+        phase: block.phase,
+        state: block.state,
+        direction: block.direction,
+        collected: block.collected,
+        held: block.held,
+        sound: held::are_sound(EndpointKind::Control, held_of(block)),
+    }
+}
+
 // Question 2: is the block sound?
+#[tactic(auto, unfolding(crate::specs::Facts::sound_block))]
 pub fn is_sound(facts: BlockFacts) -> bool
     ensures { result ≡ sound_block facts }
 {
-    let endpoint_id = facts.endpoint_id;
-    let slot_id = facts.slot_id;
-    if !trb::ids_in_range(endpoint_id, slot_id) {
-        return false;
-    }
-    if trb::MAX_HELD < facts.held {
-        return false;
-    }
-    if trb::MAX_COLLECTED < facts.collected {
-        return false;
-    }
-    facts.sound
+    trb::ids_in_range(facts.endpoint_id, facts.slot_id)
+        && facts.held <= trb::MAX_HELD
+        && facts.collected <= trb::MAX_COLLECTED
+        && facts.sound
 }
 
 // Is a submission due? A completion is due in the other states.
 pub fn submission_due(state: ControlSubmissionState) -> bool
     ensures { result ≡ submission_due state }
 {
-    match state {
-        ControlSubmissionState::NoTrbSubmitted => true,
-        ControlSubmissionState::CollectingTd => false,
-        ControlSubmissionState::ParserError(_) => false,
-        ControlSubmissionState::UnexpectedTrb(_) => false,
-        ControlSubmissionState::AwaitingControlRequest => false,
-    }
+    matches!(state, ControlSubmissionState::NoTrbSubmitted)
 }
 
 // Does a block in this state await the device's result?
 pub fn awaits_device(state: ControlSubmissionState) -> bool
     ensures { result ≡ awaits_device state }
 {
-    match state {
-        ControlSubmissionState::NoTrbSubmitted => false,
-        ControlSubmissionState::CollectingTd => false,
-        ControlSubmissionState::ParserError(_) => false,
-        ControlSubmissionState::UnexpectedTrb(_) => false,
-        ControlSubmissionState::AwaitingControlRequest => true,
-    }
+    matches!(state, ControlSubmissionState::AwaitingControlRequest)
 }
 
 // ---- Endings
@@ -250,8 +235,9 @@ pub fn ending_of(
     ensures { result ≡ ending_of state res data_length }
 {
     match state {
-        ControlSubmissionState::NoTrbSubmitted => Ending::KeepCollecting,
-        ControlSubmissionState::CollectingTd => Ending::KeepCollecting,
+        ControlSubmissionState::NoTrbSubmitted | ControlSubmissionState::CollectingTd => {
+            Ending::KeepCollecting
+        }
         ControlSubmissionState::ParserError(addr) => Ending::ReportBadTrb(addr),
         ControlSubmissionState::UnexpectedTrb(addr) => Ending::ReportBadTrb(addr),
         ControlSubmissionState::AwaitingControlRequest => request_ending(res, data_length),
@@ -263,10 +249,9 @@ pub fn result_of(ending: Ending) -> TrbProcessingResult
     ensures { result ≡ result_of ending }
 {
     match ending {
-        Ending::KeepCollecting => TrbProcessingResult::Ok,
+        Ending::KeepCollecting | Ending::Realize(_, _) => TrbProcessingResult::Ok,
         Ending::ReportBadTrb(_) => TrbProcessingResult::TrbError,
         Ending::Fail(_, result) => result,
-        Ending::Realize(_, _) => TrbProcessingResult::Ok,
     }
 }
 
@@ -276,9 +261,7 @@ pub fn places_freed(ending: Ending, held: usize) -> usize
 {
     match ending {
         Ending::KeepCollecting => 0,
-        Ending::ReportBadTrb(_) => held,
-        Ending::Fail(_, _) => held,
-        Ending::Realize(_, _) => held,
+        _ => held,
     }
 }
 
@@ -290,45 +273,12 @@ pub fn phase_behind(
     ensures { result ≡ phase_behind state phase }
 {
     match state {
-        ControlSubmissionState::NoTrbSubmitted => phase,
-        ControlSubmissionState::CollectingTd => phase,
-        ControlSubmissionState::ParserError(_) => phase,
         ControlSubmissionState::UnexpectedTrb(_) => ControlTransferState::ExpectSetupStageTrb,
-        ControlSubmissionState::AwaitingControlRequest => phase,
+        _ => phase,
     }
 }
 
 // ---- Where the event of a failed transfer goes
-
-fn is_data_stage(variant: TransferTrbVariant) -> bool
-    ensures { result ≡ is_data_stage variant }
-{
-    match variant {
-        TransferTrbVariant::SetupStage(_) => false,
-        TransferTrbVariant::DataStage(_) => true,
-        TransferTrbVariant::StatusStage(_) => false,
-        TransferTrbVariant::Normal(_) => false,
-        TransferTrbVariant::EventData(_) => false,
-        TransferTrbVariant::NoOp(_) => false,
-        TransferTrbVariant::Isoch => false,
-        TransferTrbVariant::Unrecognized => false,
-    }
-}
-
-fn is_status_stage(variant: TransferTrbVariant) -> bool
-    ensures { result ≡ is_status_stage variant }
-{
-    match variant {
-        TransferTrbVariant::SetupStage(_) => false,
-        TransferTrbVariant::DataStage(_) => false,
-        TransferTrbVariant::StatusStage(_) => true,
-        TransferTrbVariant::Normal(_) => false,
-        TransferTrbVariant::EventData(_) => false,
-        TransferTrbVariant::NoOp(_) => false,
-        TransferTrbVariant::Isoch => false,
-        TransferTrbVariant::Unrecognized => false,
-    }
-}
 
 // The stage found among the TRBs held so far: the first Data Stage TRB, failing that the first Status Stage TRB.
 #[derive(Clone, Copy)]
@@ -351,31 +301,35 @@ pub fn no_stage(setup_address: u64) -> StageFound
 }
 
 // One TRB more is looked at.
+#[tactic(auto, unfolding(crate::specs::Stages::stage_with))]
 pub fn stage_with(so_far: StageFound, t: TransferTrb) -> StageFound
     ensures { result ≡ stage_with so_far t }
 {
-    let variant = t.variant;
     if so_far.data_stage {
         return so_far;
     }
-    if is_data_stage(variant) {
-        return StageFound {
+    match t.variant {
+        TransferTrbVariant::DataStage(_) => StageFound {
             data_stage: true,
-            status_stage: so_far.status_stage,
             addr: t.addr,
-        };
-    }
-    if so_far.status_stage {
-        return so_far;
-    }
-    if is_status_stage(variant) {
-        return StageFound {
-            data_stage: false,
+            ..so_far
+        },
+        TransferTrbVariant::StatusStage(_) if !so_far.status_stage => StageFound {
             status_stage: true,
             addr: t.addr,
-        };
+            ..so_far
+        },
+        _ => so_far,
     }
-    so_far
+}
+
+// The address of the stage among these TRBs.
+fn stage_address(trbs: &[TransferTrb], setup_address: u64) -> u64
+    ensures { result ≡ stage_address trbs.now setup_address }
+{
+    trbs.iter()
+        .fold(no_stage(setup_address), |so_far, t| stage_with(so_far, *t))
+        .addr
 }
 
 // Where the event goes, by the block's rule.
@@ -386,4 +340,17 @@ pub fn address_for(release: GuestRelease, setup_address: u64, stage_address: u64
         GuestRelease::Release4 => setup_address,
         GuestRelease::Release5 => stage_address,
     }
+}
+
+// Where the event of a failed transfer of this block goes.
+#[tactic(auto, unfolding(crate::specs::Stages::error_address))]
+pub fn error_address(block: &ControlBlock) -> u64
+    ensures { result ≡ error_address block.now }
+{
+    let setup_address = block.request.address;
+    address_for(
+        block.release,
+        setup_address,
+        stage_address(held_of(block), setup_address),
+    )
 }

@@ -34,27 +34,22 @@ pub fn release_of(number: u8) -> GuestRelease
     ensures { result ≡ release_of number }
 {
     if number == 5 {
-        return GuestRelease::Release5;
+        GuestRelease::Release5
+    } else {
+        GuestRelease::Release4
     }
-    GuestRelease::Release4
 }
 
 fn phase_of(number: u8) -> ControlTransferState
     ensures { result ≡ phase_of number }
 {
-    if number == 1 {
-        return ControlTransferState::MaybeDataStageTrb;
+    match number {
+        1 => ControlTransferState::MaybeDataStageTrb,
+        2 => ControlTransferState::MoreData,
+        3 => ControlTransferState::ExpectStatusStageTrb,
+        4 => ControlTransferState::ExpectFinalEventDataTrb,
+        _ => ControlTransferState::ExpectSetupStageTrb,
     }
-    if number == 2 {
-        return ControlTransferState::MoreData;
-    }
-    if number == 3 {
-        return ControlTransferState::ExpectStatusStageTrb;
-    }
-    if number == 4 {
-        return ControlTransferState::ExpectFinalEventDataTrb;
-    }
-    ControlTransferState::ExpectSetupStageTrb
 }
 
 fn phase_number(phase: ControlTransferState) -> u8
@@ -72,19 +67,13 @@ fn phase_number(phase: ControlTransferState) -> u8
 fn state_of(number: u8, addr: u64) -> ControlSubmissionState
     ensures { result ≡ state_of number addr }
 {
-    if number == 0 {
-        return ControlSubmissionState::NoTrbSubmitted;
+    match number {
+        0 => ControlSubmissionState::NoTrbSubmitted,
+        1 => ControlSubmissionState::CollectingTd,
+        2 => ControlSubmissionState::AwaitingControlRequest,
+        3 => ControlSubmissionState::ParserError(addr),
+        _ => ControlSubmissionState::UnexpectedTrb(addr),
     }
-    if number == 1 {
-        return ControlSubmissionState::CollectingTd;
-    }
-    if number == 2 {
-        return ControlSubmissionState::AwaitingControlRequest;
-    }
-    if number == 3 {
-        return ControlSubmissionState::ParserError(addr);
-    }
-    ControlSubmissionState::UnexpectedTrb(addr)
 }
 
 fn state_number(state: ControlSubmissionState) -> u8
@@ -104,18 +93,17 @@ fn state_address(state: ControlSubmissionState) -> u64
     ensures { result ≡ state_address state }
 {
     match state {
-        ControlSubmissionState::NoTrbSubmitted => 0,
-        ControlSubmissionState::CollectingTd => 0,
-        ControlSubmissionState::ParserError(addr) => addr,
-        ControlSubmissionState::UnexpectedTrb(addr) => addr,
-        ControlSubmissionState::AwaitingControlRequest => 0,
+        ControlSubmissionState::ParserError(addr) | ControlSubmissionState::UnexpectedTrb(addr) => {
+            addr
+        }
+        _ => 0,
     }
 }
 
 fn direction_number(direction: bool) -> u8
     ensures { result ≡ direction_number direction }
 {
-    if direction { 1 } else { 0 }
+    direction as u8
 }
 
 // ---- Reading
@@ -126,9 +114,10 @@ fn id_at(block: &[u8], at: usize) -> u8
     ensures { result ≡ id_at at block.now }
 {
     if block[0] == held_bytes::CONTROL_LAYOUT {
-        return block[at];
+        block[at]
+    } else {
+        0
     }
-    0
 }
 
 // The endpoint id of the block; 0 in another layout.
@@ -160,8 +149,7 @@ pub fn state(block: &[u8]) -> ControlSubmissionState
     requires { head_length ≤ length block.now }
     ensures { result ≡ (block_of block.now).state }
 {
-    let addr = buffers::le64(block, 8);
-    state_of(block[5], addr)
+    state_of(block[5], buffers::le64(block, 8))
 }
 
 // TRBs held.
@@ -176,17 +164,13 @@ fn request(block: &[u8]) -> UsbRequest
     requires { head_length ≤ length block.now }
     ensures { result ≡ request_at block.now }
 {
-    let address = buffers::le64(block, 16);
-    let value = buffers::le16(block, 26);
-    let index = buffers::le16(block, 28);
-    let length = buffers::le32(block, 40);
     UsbRequest {
-        address: address,
+        address: buffers::le64(block, 16),
         request_type: block[24],
         request: block[25],
-        value: value,
-        index: index,
-        length: length,
+        value: buffers::le16(block, 26),
+        index: buffers::le16(block, 28),
+        length: buffers::le32(block, 40),
     }
 }
 
@@ -195,14 +179,11 @@ pub fn transfer(block: &[u8]) -> ControlTransfer
     requires { head_length ≤ length block.now }
     ensures { result ≡ transfer_of (block_of block.now) }
 {
-    let request = request(block);
-    let collected = buffers::le64(block, 32) as usize;
-    let phase = phase_of(block[4]);
     ControlTransfer {
-        phase: phase,
+        phase: phase_of(block[4]),
         direction: block[6] == 1,
-        request: request,
-        collected: collected,
+        request: request(block),
+        collected: buffers::le64(block, 32) as usize,
     }
 }
 
@@ -212,19 +193,14 @@ pub fn facts(block: &[u8]) -> BlockFacts
     ensures { result ≡ facts_of (block_of block.now) }
 {
     let transfer = transfer(block);
-    let phase = transfer.phase;
-    let endpoint_id = endpoint_id(block);
-    let slot_id = slot_id(block);
-    let state = state(block);
-    let held = held(block);
     BlockFacts {
-        endpoint_id: endpoint_id,
-        slot_id: slot_id,
-        phase: phase,
-        state: state,
+        endpoint_id: endpoint_id(block),
+        slot_id: slot_id(block),
+        phase: transfer.phase,
+        state: state(block),
         direction: transfer.direction,
         collected: transfer.collected,
-        held: held,
+        held: held(block),
         sound: true,
     }
 }
@@ -233,20 +209,12 @@ pub fn facts(block: &[u8]) -> BlockFacts
 fn held_type(kind: u8) -> u8
     ensures { result ≡ held_type kind }
 {
-    let number = kind as u32;
-    if number == raw_trb::NORMAL {
-        return kind;
+    match kind {
+        raw_trb::NORMAL | raw_trb::SETUP_STAGE | raw_trb::DATA_STAGE | raw_trb::STATUS_STAGE => {
+            kind
+        }
+        _ => raw_trb::EVENT_DATA,
     }
-    if number == raw_trb::SETUP_STAGE {
-        return kind;
-    }
-    if number == raw_trb::DATA_STAGE {
-        return kind;
-    }
-    if number == raw_trb::STATUS_STAGE {
-        return kind;
-    }
-    7
 }
 
 // The TRB in a place that is held, by numbers.
@@ -255,13 +223,9 @@ pub fn numbers_at(block: &[u8], i: usize) -> TrbNumbers
     ensures { trb_of result ≡ place_of (drop (head_length + place_length * i) block.now) }
 {
     let numbers = held_bytes::numbers_at(block, HEAD + held_bytes::PLACE * i);
-    let kind = held_type(numbers.kind);
     TrbNumbers {
-        kind: kind,
-        flags: numbers.flags,
-        addr: numbers.addr,
-        value: numbers.value,
-        transfer_length: numbers.transfer_length,
+        kind: held_type(numbers.kind),
+        ..numbers
     }
 }
 
@@ -270,8 +234,7 @@ pub fn trb_at(block: &[u8], i: usize) -> TransferTrb
     requires { head_length + place_length * (i + 1) ≤ length block.now }
     ensures { result ≡ place_of (drop (head_length + place_length * i) block.now) }
 {
-    let numbers = numbers_at(block, i);
-    held_bytes::trb_of(numbers)
+    held_bytes::trb_of(numbers_at(block, i))
 }
 
 // ---- Storing
@@ -293,81 +256,20 @@ fn encoded(
 ) -> [u8; 44]
     ensures { result ≡ head_cells phase state direction state_address address request_type request value index collected request_length held }
 {
-    let s1 = state_address / 256;
-    let s2 = s1 / 256;
-    let s3 = s2 / 256;
-    let s4 = s3 / 256;
-    let s5 = s4 / 256;
-    let s6 = s5 / 256;
-    let s7 = s6 / 256;
-    let a1 = address / 256;
-    let a2 = a1 / 256;
-    let a3 = a2 / 256;
-    let a4 = a3 / 256;
-    let a5 = a4 / 256;
-    let a6 = a5 / 256;
-    let a7 = a6 / 256;
-    let v1 = value / 256;
-    let i1 = index / 256;
-    let c1 = collected / 256;
-    let c2 = c1 / 256;
-    let c3 = c2 / 256;
-    let c4 = c3 / 256;
-    let c5 = c4 / 256;
-    let c6 = c5 / 256;
-    let c7 = c6 / 256;
-    let n1 = request_length / 256;
-    let n2 = n1 / 256;
-    let n3 = n2 / 256;
-    let h1 = held / 256;
-    let h2 = h1 / 256;
-    let h3 = h2 / 256;
-    [
-        phase,
-        state,
-        direction,
-        0,
-        (state_address % 256) as u8,
-        (s1 % 256) as u8,
-        (s2 % 256) as u8,
-        (s3 % 256) as u8,
-        (s4 % 256) as u8,
-        (s5 % 256) as u8,
-        (s6 % 256) as u8,
-        (s7 % 256) as u8,
-        (address % 256) as u8,
-        (a1 % 256) as u8,
-        (a2 % 256) as u8,
-        (a3 % 256) as u8,
-        (a4 % 256) as u8,
-        (a5 % 256) as u8,
-        (a6 % 256) as u8,
-        (a7 % 256) as u8,
-        request_type,
-        request,
-        (value % 256) as u8,
-        (v1 % 256) as u8,
-        (index % 256) as u8,
-        (i1 % 256) as u8,
-        0,
-        0,
-        (collected % 256) as u8,
-        (c1 % 256) as u8,
-        (c2 % 256) as u8,
-        (c3 % 256) as u8,
-        (c4 % 256) as u8,
-        (c5 % 256) as u8,
-        (c6 % 256) as u8,
-        (c7 % 256) as u8,
-        (request_length % 256) as u8,
-        (n1 % 256) as u8,
-        (n2 % 256) as u8,
-        (n3 % 256) as u8,
-        (held % 256) as u8,
-        (h1 % 256) as u8,
-        (h2 % 256) as u8,
-        (h3 % 256) as u8,
-    ]
+    let mut cells = [0; 44];
+    cells[0] = phase;
+    cells[1] = state;
+    cells[2] = direction;
+    cells[4..12].copy_from_slice(&state_address.to_le_bytes());
+    cells[12..20].copy_from_slice(&address.to_le_bytes());
+    cells[20] = request_type;
+    cells[21] = request;
+    cells[22..24].copy_from_slice(&value.to_le_bytes());
+    cells[24..26].copy_from_slice(&index.to_le_bytes());
+    cells[28..36].copy_from_slice(&collected.to_le_bytes());
+    cells[36..40].copy_from_slice(&request_length.to_le_bytes());
+    cells[40..].copy_from_slice(&held.to_le_bytes());
+    cells
 }
 
 // The block is at this transfer, in this state, and holds the first `held` places; what its creation gave it stays.
@@ -380,10 +282,9 @@ pub fn put_head(
     requires { (head_length ≤ length block.old) × (held < 2 ^ 32) }
     ensures { Headed block.old transfer state held block.new }
 {
-    let phase = transfer.phase;
     let request = transfer.request;
     let cells = encoded(
-        phase_number(phase),
+        phase_number(transfer.phase),
         state_number(state),
         direction_number(transfer.direction),
         state_address(state),
@@ -403,27 +304,12 @@ pub fn put_head(
 fn turn_cells(phase: u8, state: u8, direction: u8, state_address: u64) -> [u8; 12]
     ensures { result ≡ turn_cells phase state direction state_address }
 {
-    let s1 = state_address / 256;
-    let s2 = s1 / 256;
-    let s3 = s2 / 256;
-    let s4 = s3 / 256;
-    let s5 = s4 / 256;
-    let s6 = s5 / 256;
-    let s7 = s6 / 256;
-    [
-        phase,
-        state,
-        direction,
-        0,
-        (state_address % 256) as u8,
-        (s1 % 256) as u8,
-        (s2 % 256) as u8,
-        (s3 % 256) as u8,
-        (s4 % 256) as u8,
-        (s5 % 256) as u8,
-        (s6 % 256) as u8,
-        (s7 % 256) as u8,
-    ]
+    let mut cells = [0; 12];
+    cells[0] = phase;
+    cells[1] = state;
+    cells[2] = direction;
+    cells[4..].copy_from_slice(&state_address.to_le_bytes());
+    cells
 }
 
 // The block's transfer is at this phase and in this direction, and the endpoint at this; the request and what is counted stay.
@@ -449,37 +335,11 @@ pub fn put_turn(
 fn count_cells(collected: u64, request_length: u32, held: u32) -> [u8; 16]
     ensures { result ≡ count_cells collected request_length held }
 {
-    let c1 = collected / 256;
-    let c2 = c1 / 256;
-    let c3 = c2 / 256;
-    let c4 = c3 / 256;
-    let c5 = c4 / 256;
-    let c6 = c5 / 256;
-    let c7 = c6 / 256;
-    let n1 = request_length / 256;
-    let n2 = n1 / 256;
-    let n3 = n2 / 256;
-    let h1 = held / 256;
-    let h2 = h1 / 256;
-    let h3 = h2 / 256;
-    [
-        (collected % 256) as u8,
-        (c1 % 256) as u8,
-        (c2 % 256) as u8,
-        (c3 % 256) as u8,
-        (c4 % 256) as u8,
-        (c5 % 256) as u8,
-        (c6 % 256) as u8,
-        (c7 % 256) as u8,
-        (request_length % 256) as u8,
-        (n1 % 256) as u8,
-        (n2 % 256) as u8,
-        (n3 % 256) as u8,
-        (held % 256) as u8,
-        (h1 % 256) as u8,
-        (h2 % 256) as u8,
-        (h3 % 256) as u8,
-    ]
+    let mut cells = [0; 16];
+    cells[..8].copy_from_slice(&collected.to_le_bytes());
+    cells[8..12].copy_from_slice(&request_length.to_le_bytes());
+    cells[12..].copy_from_slice(&held.to_le_bytes());
+    cells
 }
 
 // So many bytes are collected, so many asked for, and the first `held` places held; what else the head says stays.

@@ -21,16 +21,14 @@ pub struct ControlTd {
 fn zero_edtla(progress: TdProgress) -> TdProgress
     ensures { result ≡ edtla_zeroed progress }
 {
-    let state = progress.state;
     TdProgress {
-        start: progress.start,
         edtla: 0,
-        state: state,
-        records: progress.records,
+        ..progress
     }
 }
 
 // The device took the TRB's bytes, all of them; ports `realize_dma_trb` with no data.
+#[tactic(auto, unfolding(crate::specs::Chain::move_out))]
 fn move_out(log: &mut [u8], info: TdInfo, progress: TdProgress, dma: TrbDmaInfo) -> TdProgress
     requires { record_length * (progress.records + 2) ≤ length log.old }
     ensures { Meets (move_out info progress dma) progress.records log.old result log.new }
@@ -51,11 +49,10 @@ fn move_data(log: &mut [u8], td: ControlTd, progress: TdProgress, dma: TrbDmaInf
     requires { (record_length * (progress.records + 2) ≤ length log.old) × Within td.info progress }
     ensures { Meets (move_data td progress dma) progress.records log.old result log.new }
 {
-    let info = td.info;
     if td.input {
-        td_data::realize_dma_trb(log, info, progress, dma)
+        td_data::realize_dma_trb(log, td.info, progress, dma)
     } else {
-        move_out(log, info, progress, dma)
+        move_out(log, td.info, progress, dma)
     }
 }
 
@@ -74,6 +71,7 @@ pub fn realize_stage(
 }
 
 // A DataStage moves its bytes even after a short TRB.
+#[tactic(auto, unfolding(crate::specs::Chain::realize_data_stage))]
 pub fn realize_data_stage(
     log: &mut [u8],
     td: ControlTd,
@@ -84,12 +82,12 @@ pub fn realize_data_stage(
     requires { (record_length * (progress.records + 2) ≤ length log.old) × Within td.info progress }
     ensures { Meets (realize_data_stage td progress data_stage addr) progress.records log.old result log.new }
 {
-    let begun = zero_edtla(progress);
     let dma = td_part::of_data_stage(data_stage, addr);
-    move_data(log, td, begun, dma)
+    move_data(log, td, zero_edtla(progress), dma)
 }
 
 // A Normal moves its bytes, or repeats the residual of the short TRB before it.
+#[tactic(auto, unfolding(crate::specs::Chain::realize_normal))]
 pub fn realize_normal(
     log: &mut [u8],
     td: ControlTd,
@@ -100,16 +98,14 @@ pub fn realize_normal(
     requires { (record_length * (progress.records + 2) ≤ length log.old) × Within td.info progress }
     ensures { Meets (realize_normal td progress normal addr) progress.records log.old result log.new }
 {
-    let info = td.info;
-    let state = progress.state;
-    match state {
+    match progress.state {
         TdProcessingState::Default => {
             let dma = td_part::of_normal(normal, addr);
             move_data(log, td, progress, dma)
         }
         TdProcessingState::ShortTransfer(missing) => td_report::repeat_short(
             log,
-            info,
+            td.info,
             progress,
             missing,
             normal.interrupt_on_completion,

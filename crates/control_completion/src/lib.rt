@@ -4,16 +4,12 @@
 ghost use Rattle.std.specs.Prelude.{length};
 ghost use Rattle.control_endpoint.specs.Completion.{Completes};
 
-use control_block::{BlockFacts, ControlBlock};
+use control_block::ControlBlock;
 use control_endpoint::Completed;
-use held::EndpointKind;
-use trb::{
-    Answer, CompletionAnswer, ControlRequestProcessingResult, ControlSubmissionState,
-    TrbProcessingResult,
-};
+use trb::{Answer, CompletionAnswer, ControlRequestProcessingResult, ControlSubmissionState};
 
 // Completes the TRB that was submitted last. With SuccessfulControlIn the device's bytes are `data`, of which only the length is read.
-// The places are copied once, and there is one way out.
+// The places are copied once.
 pub fn next_completion(
     log: &mut [u8],
     block: ControlBlock,
@@ -22,50 +18,24 @@ pub fn next_completion(
 ) -> Completed
     ensures { Completes block res (length «data».now) log.old result log.new }
 {
-    let endpoint_id = block.endpoint_id;
-    let slot_id = block.slot_id;
-    let rule = block.release;
-    let mut phase = block.phase;
-    let mut state = block.state;
-    let direction = block.direction;
-    let request = block.request;
-    let collected = block.collected;
-    let mut held = block.held;
-    let mut trbs = block.trbs;
-    let places = held::places_held(held);
-    let mut sound = true;
-    let mut stage = control_block::no_stage(request.address);
-    let mut i = 0;
-    while i < places {
-        let one = trbs[i];
-        sound = held::and_sound(sound, EndpointKind::Control, one);
-        stage = control_block::stage_with(stage, one);
-        i += 1;
-    }
-    let facts = BlockFacts {
-        endpoint_id: endpoint_id,
-        slot_id: slot_id,
-        phase: phase,
-        state: state,
-        direction: direction,
-        collected: collected,
-        held: held,
-        sound: sound,
-    };
+    let facts = control_block::facts_of(&block);
     let asked = control_questions::ask_completion(log.len(), facts, res, data.len());
-    let mut answer = CompletionAnswer::Completed(TrbProcessingResult::Ok);
-    let mut records = 0;
     match asked {
-        Answer::Refused(refusal) => {
-            answer = CompletionAnswer::Refused(refusal);
-        }
+        Answer::Refused(refusal) => Completed {
+            answer: CompletionAnswer::Refused(refusal),
+            records: 0,
+            block,
+        },
         Answer::Accepted => {
-            let ending = control_block::ending_of(state, res, data.len() as u32);
-            let info = control_ending::info_of(ending, endpoint_id, slot_id);
+            let mut held = block.held;
+            let mut trbs = block.trbs;
+            let ending = control_block::ending_of(block.state, res, data.len() as u32);
+            let info = control_ending::info_of(ending, block.endpoint_id, block.slot_id);
             let blank = held::blank();
             let freed = control_block::places_freed(ending, held);
             let mut progress = td_part::at_start_of_td();
             let mut j = 0;
+            // An index: each place is read, walked and blanked where it lies, in one pass.
             while j < freed {
                 let one = trbs[j];
                 progress = control_turn::next_trb(log, ending, info, progress, one);
@@ -73,36 +43,27 @@ pub fn next_completion(
                 j += 1;
             }
             held -= freed;
-            let error_address = control_block::address_for(rule, request.address, stage.addr);
-            records = control_ending::log_ending(
+            let error_address = control_block::error_address(&block);
+            let records = control_ending::log_ending(
                 log,
                 progress.records,
                 ending,
                 error_address,
-                endpoint_id,
-                slot_id,
+                block.endpoint_id,
+                block.slot_id,
             );
-            phase = control_block::phase_behind(state, phase);
-            state = ControlSubmissionState::NoTrbSubmitted;
-            let ended = control_block::result_of(ending);
-            answer = CompletionAnswer::Completed(ended);
+            let phase = control_block::phase_behind(block.state, block.phase);
+            Completed {
+                answer: CompletionAnswer::Completed(control_block::result_of(ending)),
+                records,
+                block: ControlBlock {
+                    phase,
+                    state: ControlSubmissionState::NoTrbSubmitted,
+                    held,
+                    trbs,
+                    ..block
+                },
+            }
         }
-    }
-    let next = ControlBlock {
-        endpoint_id: endpoint_id,
-        slot_id: slot_id,
-        release: rule,
-        phase: phase,
-        state: state,
-        direction: direction,
-        request: request,
-        collected: collected,
-        held: held,
-        trbs: trbs,
-    };
-    Completed {
-        answer: answer,
-        records: records,
-        block: next,
     }
 }

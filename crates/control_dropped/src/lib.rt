@@ -19,8 +19,7 @@ fn interrupt_of(variant: TransferTrbVariant) -> bool
         TransferTrbVariant::Normal(normal) => normal.interrupt_on_completion,
         TransferTrbVariant::EventData(event_data) => event_data.interrupt_on_completion,
         TransferTrbVariant::NoOp(no_op) => no_op.interrupt_on_completion,
-        TransferTrbVariant::Isoch => false,
-        TransferTrbVariant::Unrecognized => false,
+        TransferTrbVariant::Isoch | TransferTrbVariant::Unrecognized => false,
     }
 }
 
@@ -34,7 +33,6 @@ pub fn report_dropped(
     requires { record_length * (progress.records + 2) ≤ length log.old }
     ensures { Meets (report_dropped info progress t) progress.records log.old result log.new }
 {
-    let variant = t.variant;
-    let due = interrupt_of(variant);
+    let due = interrupt_of(t.variant);
     td_report::report_success(log, info, progress, 0, due, t.addr)
 }

@@ -14,16 +14,13 @@ use trb::{CompletionCode, EndpointId, SlotId};
 pub fn info_of(ending: Ending, endpoint_id: EndpointId, slot_id: SlotId) -> TdInfo
     ensures { result ≡ info_of ending endpoint_id slot_id }
 {
-    let data_length = match ending {
-        Ending::KeepCollecting => 0,
-        Ending::ReportBadTrb(_) => 0,
-        Ending::Fail(_, _) => 0,
-        Ending::Realize(_, length) => length,
-    };
     TdInfo {
-        endpoint_id: endpoint_id,
-        slot_id: slot_id,
-        data_length: data_length,
+        endpoint_id,
+        slot_id,
+        data_length: match ending {
+            Ending::Realize(_, length) => length,
+            _ => 0,
+        },
     }
 }
 
@@ -46,6 +43,7 @@ fn put_event(
 
 // The event behind those of the TRBs held: of the bad TRB, or of the transfer that failed, which goes to `error_address`. Returns how many
 // records there are then.
+#[tactic(auto, using(call_log::proofs::LogLaws::logged_none))]
 pub fn log_ending(
     log: &mut [u8],
     count: usize,
@@ -58,7 +56,7 @@ pub fn log_ending(
     ensures { Meets (counted count (last_records ending error_address endpoint_id slot_id)) count log.old result log.new }
 {
     match ending {
-        Ending::KeepCollecting => count,
+        Ending::KeepCollecting | Ending::Realize(_, _) => count,
         Ending::ReportBadTrb(addr) => put_event(
             log,
             count,
@@ -68,6 +66,5 @@ pub fn log_ending(
             slot_id,
         ),
         Ending::Fail(code, _) => put_event(log, count, error_address, code, endpoint_id, slot_id),
-        Ending::Realize(_, _) => count,
     }
 }

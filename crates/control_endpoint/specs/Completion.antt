@@ -1,8 +1,7 @@
 -- 01, Completion on a control endpoint: what one that no question refuses makes of block and log. Assumes nothing.
-use Rattle.std.specs.Prelude.{ℕ, ◌≡◌, List, [], ◌∷◌, length}
+use Rattle.std.specs.Prelude.{ℕ, ◌≡◌, List, length}
 use Rattle.trb.specs.Answers.{completion_number, refusal_of, said}
 use Rattle.trb.specs.Questions.{first_no, after_questions}
-use Rattle.trb.specs.declared.CompletionAnswer.{CompletionAnswer}
 use Rattle.trb.specs.declared.CompletionAnswer.TheVariants.{Completed, Refused}
 use Rattle.trb.specs.declared.ControlRequestProcessingResult.{ControlRequestProcessingResult}
 use Rattle.trb.specs.declared.ControlSubmissionState.TheVariants.{NoTrbSubmitted}

@@ -30,20 +30,20 @@ pub struct Completed {
 // ---- Creation
 
 // A fresh block for this endpoint of this slot, and for guests of this release.
+#[tactic(auto, unfolding(crate::specs::Creation::creation, trb::specs::Questions::first_no, trb::specs::Answers::refusal_of))]
 pub fn create(endpoint_id: EndpointId, slot_id: SlotId, release: GuestRelease) -> Created
     ensures { Creates endpoint_id slot_id release result }
 {
     if trb::ids_in_range(endpoint_id, slot_id) {
-        let block = control_block::fresh(endpoint_id, slot_id, release);
-        return Created {
+        Created {
             answer: Answer::Accepted,
-            block: block,
-        };
-    }
-    let block = control_block::fresh(EndpointId(0), SlotId(0), release);
-    Created {
-        answer: Answer::Refused(Refusal::IdOutOfRange),
-        block: block,
+            block: control_block::fresh(endpoint_id, slot_id, release),
+        }
+    } else {
+        Created {
+            answer: Answer::Refused(Refusal::IdOutOfRange),
+            block: control_block::fresh(EndpointId(0), SlotId(0), release),
+        }
     }
 }
 

@@ -55,10 +55,7 @@ fn ask_submission(
         data,
         regions,
     );
-    AskedSubmission {
-        answer: answer,
-        outcome: outcome,
-    }
+    AskedSubmission { answer, outcome }
 }
 
 // What a TRB that no question refuses, given by numbers, that moves this data, logs, collects and stores; returns how many records were
@@ -137,7 +134,7 @@ fn submit<'a>(
             );
             SubmittedInPlace {
                 answer: Answer::Accepted,
-                records: records,
+                records,
             }
         }
     }
@@ -164,15 +161,14 @@ fn submit_numbers<'a>(
         return answer_numbers::answered_as(Answer::Refused(Refusal::BufferTooShort), 0);
     }
     let numbers = TrbNumbers {
-        kind: kind,
-        flags: flags,
-        addr: addr,
-        value: value,
-        transfer_length: transfer_length,
+        kind,
+        flags,
+        addr,
+        value,
+        transfer_length,
     };
     let submitted = submit(log, collect, block, numbers, low_base, low, high_base, high);
-    let answer = submitted.answer;
-    answer_numbers::answered_as(answer, submitted.records)
+    answer_numbers::answered_as(submitted.answer, submitted.records)
 }
 
 // Takes a TRB, given by numbers; ports `submit_trb`. Guest memory is `low`'s bytes at `low_base` and `high`'s at `high_base`.
@@ -219,13 +215,11 @@ pub fn submit_raw<'a>(
     ensures { SubmitsInPlace (lent_log log.old block.old) (raw_trb raw addr) (memory_of low_base low.now high_base high.now) log.old collect.old block.old result log.new collect.new block.new }
 {
     let decoded = raw_trb_decoder::decode(raw);
-    let variant = decoded.variant;
-    let t = TransferTrb {
-        variant: variant,
-        addr: addr,
+    let numbers = held_bytes::numbers_of(TransferTrb {
+        variant: decoded.variant,
+        addr,
         cycle_bit: decoded.cycle_bit,
-    };
-    let numbers = held_bytes::numbers_of(t);
+    });
     submit_numbers(
         log,
         collect,
@@ -288,7 +282,7 @@ fn complete(
             let ended = control_block::result_of(ending);
             CompletedInPlace {
                 answer: CompletionAnswer::Completed(ended),
-                records: records,
+                records,
             }
         }
     }
@@ -297,22 +291,14 @@ fn complete(
 fn result_of(status: u8) -> ControlRequestProcessingResult
     ensures { result ≡ result_of status }
 {
-    if status == 0 {
-        return ControlRequestProcessingResult::SuccessfulControlIn;
+    match status {
+        0 => ControlRequestProcessingResult::SuccessfulControlIn,
+        1 => ControlRequestProcessingResult::Stall,
+        2 => ControlRequestProcessingResult::TransactionError,
+        3 => ControlRequestProcessingResult::Disconnect,
+        4 => ControlRequestProcessingResult::SuccessfulControlOut,
+        _ => ControlRequestProcessingResult::NoneGiven,
     }
-    if status == 1 {
-        return ControlRequestProcessingResult::Stall;
-    }
-    if status == 2 {
-        return ControlRequestProcessingResult::TransactionError;
-    }
-    if status == 3 {
-        return ControlRequestProcessingResult::Disconnect;
-    }
-    if status == 4 {
-        return ControlRequestProcessingResult::SuccessfulControlOut;
-    }
-    ControlRequestProcessingResult::NoneGiven
 }
 
 // Completes what was submitted last; ports `next_completion`. Of the device's data only the length is asked for. Status: 0
@@ -328,10 +314,8 @@ pub fn next_completion(
     if block.len() < control_bytes::BLOCK {
         return answer_numbers::completed_as(CompletionAnswer::Refused(Refusal::BufferTooShort), 0);
     }
-    let result = result_of(status);
-    let completed = complete(log, block, result, data_length);
-    let answer = completed.answer;
-    answer_numbers::completed_as(answer, completed.records)
+    let completed = complete(log, block, result_of(status), data_length);
+    answer_numbers::completed_as(completed.answer, completed.records)
 }
 
 // ---- Creation and cancel
@@ -344,9 +328,7 @@ pub fn create(block: &mut [u8], endpoint_id: u8, slot_id: u8, release: u8) -> u3
     if block.len() < control_bytes::BLOCK {
         return 1;
     }
-    let endpoint = EndpointId(endpoint_id);
-    let slot = SlotId(slot_id);
-    if trb::ids_in_range(endpoint, slot) {
+    if trb::ids_in_range(EndpointId(endpoint_id), SlotId(slot_id)) {
         control_bytes::make(block, endpoint_id, slot_id, release);
         return 0;
     }

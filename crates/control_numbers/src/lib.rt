@@ -27,32 +27,20 @@ use trb::{Answer, ControlTransferState, Refusal, UsbRequest};
 
 // ---- What the numbers say
 
+#[tactic(auto, unfolding(held_bytes::specs::Numbers::variant_of))]
 fn kind_of(kind: u8) -> TrbKind
     ensures { (flags value len : ℕ) → result ≡ kind_of (variant_of kind flags value len) }
 {
-    let number = kind as u32;
-    if number == raw_trb::NORMAL {
-        return TrbKind::Normal;
+    match kind {
+        raw_trb::NORMAL => TrbKind::Normal,
+        raw_trb::SETUP_STAGE => TrbKind::SetupStage,
+        raw_trb::DATA_STAGE => TrbKind::DataStage,
+        raw_trb::STATUS_STAGE => TrbKind::StatusStage,
+        raw_trb::ISOCH => TrbKind::Isoch,
+        raw_trb::EVENT_DATA => TrbKind::EventData,
+        raw_trb::NO_OP => TrbKind::NoOp,
+        _ => TrbKind::Unrecognized,
     }
-    if number == raw_trb::SETUP_STAGE {
-        return TrbKind::SetupStage;
-    }
-    if number == raw_trb::DATA_STAGE {
-        return TrbKind::DataStage;
-    }
-    if number == raw_trb::STATUS_STAGE {
-        return TrbKind::StatusStage;
-    }
-    if number == raw_trb::ISOCH {
-        return TrbKind::Isoch;
-    }
-    if number == raw_trb::EVENT_DATA {
-        return TrbKind::EventData;
-    }
-    if number == raw_trb::NO_OP {
-        return TrbKind::NoOp;
-    }
-    TrbKind::Unrecognized
 }
 
 // What becomes of the TRB in this phase: by its kind and, of a kind that has one, its chain bit.
@@ -63,29 +51,21 @@ pub fn outcome_of(phase: ControlTransferState, kind: u8, flags: u8) -> Outcome
 }
 
 // What the TRB moves: nothing, but for a Normal and a Data Stage.
+#[tactic(auto, unfolding(held_bytes::specs::Numbers::variant_of))]
 pub fn data_of(kind: u8, flags: u8, value: u64, transfer_length: u32) -> TrbData
     ensures { result ≡ data_of (variant_of kind flags value transfer_length) }
 {
-    let number = kind as u32;
-    let immediate_data = held_bytes::bit(flags, 16);
-    if number == raw_trb::NORMAL {
-        return TrbData {
+    match kind {
+        raw_trb::NORMAL | raw_trb::DATA_STAGE => TrbData {
             data_pointer: value,
-            transfer_length: transfer_length,
-            immediate_data: immediate_data,
-        };
-    }
-    if number == raw_trb::DATA_STAGE {
-        return TrbData {
-            data_pointer: value,
-            transfer_length: transfer_length,
-            immediate_data: immediate_data,
-        };
-    }
-    TrbData {
-        data_pointer: 0,
-        transfer_length: 0,
-        immediate_data: false,
+            transfer_length,
+            immediate_data: held_bytes::bit(flags, 16),
+        },
+        _ => TrbData {
+            data_pointer: 0,
+            transfer_length: 0,
+            immediate_data: false,
+        },
     }
 }
 
@@ -95,10 +75,7 @@ pub fn data_of(kind: u8, flags: u8, value: u64, transfer_length: u32) -> TrbData
 fn is_from_memory(input: bool, immediate: bool) -> bool
     ensures { result ≡ (not input || not immediate) }
 {
-    if input {
-        return !immediate;
-    }
-    true
+    !input || !immediate
 }
 
 // Question 5, of a TRB that is held: is there a place for it?
@@ -106,10 +83,7 @@ fn has_place(restart: bool, held: usize) -> bool
     requires { held ≤ max_held }
     ensures { result ≡ nat_le (if restart then 1 else held + 1) max_held }
 {
-    if restart {
-        return true;
-    }
-    held + 1 <= trb::MAX_HELD
+    restart || held + 1 <= trb::MAX_HELD
 }
 
 // Question 7, of a TRB that is held: on OUT, would the collected count be at most 65,535?
@@ -117,11 +91,7 @@ fn is_few(input: bool, collected: usize, data: TrbData) -> bool
     requires { collected ≤ max_collected }
     ensures { result ≡ (input || nat_le (collected + size_of «data») max_collected) }
 {
-    if input {
-        return true;
-    }
-    let size = control_transfer::size_of(data) as usize;
-    collected + size <= trb::MAX_COLLECTED
+    input || collected + control_transfer::size_of(data) as usize <= trb::MAX_COLLECTED
 }
 
 // Questions 21 and 5 to 7, of a TRB that is held and moves this data.
@@ -171,7 +141,6 @@ pub fn ask_submission(
 ) -> Answer
     ensures { (t : TransferTrb) → «data» ≡ data_of t.variant → number_of result ≡ first_no (submission_questions log_length collect_length facts outcome t regions) }
 {
-    let state = facts.state;
     if log_length < trb::MIN_LOG {
         return Answer::Refused(Refusal::BufferTooShort);
     }
@@ -184,7 +153,7 @@ pub fn ask_submission(
     if !control_block::is_sound(facts) {
         return Answer::Refused(Refusal::UnsoundBlock);
     }
-    if !control_block::submission_due(state) {
+    if !control_block::submission_due(facts.state) {
         return Answer::Refused(Refusal::OutOfTurn);
     }
     ask_of_trb(facts, outcome, data, regions)
@@ -196,10 +165,7 @@ pub fn ask_submission(
 pub fn begins(outcome: Outcome, kind: u8) -> bool
     ensures { result ≡ (holds outcome && kind == setup_stage_type) }
 {
-    if phase_table::is_held(outcome) {
-        return kind as u32 == raw_trb::SETUP_STAGE;
-    }
-    false
+    phase_table::is_held(outcome) && kind == raw_trb::SETUP_STAGE
 }
 
 // The transfer that a Setup TRB with these setup bytes at `addr` begins.
@@ -209,16 +175,16 @@ pub fn begun(phase: ControlTransferState, value: u64, addr: u64) -> ControlTrans
     let request_type = (value % 256) as u8;
     let request = UsbRequest {
         address: addr,
-        request_type: request_type,
+        request_type,
         request: (value / 256 % 256) as u8,
         value: (value / 65536 % 65536) as u16,
         index: (value / 4294967296 % 65536) as u16,
         length: 0,
     };
     ControlTransfer {
-        phase: phase,
+        phase,
         direction: 128 <= request_type,
-        request: request,
+        request,
         collected: 0,
     }
 }
@@ -228,9 +194,10 @@ pub fn size_taken(outcome: Outcome, data: TrbData) -> u32
     ensures { result ≡ size_taken outcome «data» }
 {
     if phase_table::is_held(outcome) {
-        return control_transfer::size_of(data);
+        control_transfer::size_of(data)
+    } else {
+        0
     }
-    0
 }
 
 // The bytes asked for, on IN.
@@ -238,9 +205,10 @@ pub fn length_after(input: bool, request_length: u32, size: u32) -> u32
     ensures { result ≡ length_after input request_length size }
 {
     if input {
-        return std::num::wrapping_add_u32(request_length, size);
+        request_length.wrapping_add(size)
+    } else {
+        request_length
     }
-    request_length
 }
 
 // The bytes collected, on OUT.
@@ -249,9 +217,10 @@ pub fn collected_after(input: bool, collected: usize, size: u32) -> usize
     ensures { result ≡ collected_after input collected size }
 {
     if input {
-        return collected;
+        collected
+    } else {
+        collected + size as usize
     }
-    collected + (size as usize)
 }
 
 // ---- The bytes collected

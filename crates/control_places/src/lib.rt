@@ -25,11 +25,9 @@ fn end_held(log: &mut [u8], block: &[u8], count: usize, ending: Ending, info: Td
     ensures { Meets (walk (next_trb ending info) never at_start (take count (block_of block.now).trbs)) 0 log.old result log.new }
 {
     let mut progress = td_part::at_start_of_td();
-    let mut j = 0;
-    while j < count {
+    for j in 0..count {
         let numbers = control_bytes::numbers_at(block, j);
         progress = control_turn_numbers::next_trb(log, ending, info, progress, numbers);
-        j += 1;
     }
     progress
 }
@@ -47,10 +45,7 @@ pub fn places_dropped(restarts: bool, held: usize) -> usize
 fn is_silent(outcome: Outcome) -> bool
     ensures { result ≡ is_silent outcome }
 {
-    if phase_table::is_restart(outcome) {
-        return false;
-    }
-    !phase_table::is_request(outcome)
+    !phase_table::is_restart(outcome) && !phase_table::is_request(outcome)
 }
 
 // Logs what a TRB of this outcome logs (TRBs that are dropped are reported as before a bad TRB), and returns how many records there are.
@@ -62,10 +57,9 @@ fn log_outcome(log: &mut [u8], block: &[u8], outcome: Outcome) -> usize
     let slot_id = control_bytes::slot_id(block);
     let held = control_bytes::held(block);
     let transfer = control_bytes::transfer(block);
-    let request = transfer.request;
     let info = TdInfo {
-        endpoint_id: endpoint_id,
-        slot_id: slot_id,
+        endpoint_id,
+        slot_id,
         data_length: 0,
     };
     let dropped = places_dropped(phase_table::is_restart(outcome), held);
@@ -74,7 +68,7 @@ fn log_outcome(log: &mut [u8], block: &[u8], outcome: Outcome) -> usize
         log,
         progress.records,
         outcome,
-        request,
+        transfer.request,
         endpoint_id,
         slot_id,
     )
@@ -100,11 +94,9 @@ fn stage_address(block: &[u8], setup_address: u64) -> u64
 {
     let places = held::places_held(control_bytes::held(block));
     let mut stage = control_block::no_stage(setup_address);
-    let mut i = 0;
-    while i < places {
+    for i in 0..places {
         let t = control_bytes::trb_at(block, i);
         stage = control_block::stage_with(stage, t);
-        i += 1;
     }
     stage.addr
 }
@@ -116,8 +108,7 @@ fn error_address(block: &[u8]) -> u64
 {
     let transfer = control_bytes::transfer(block);
     let request = transfer.request;
-    let release = control_bytes::release(block);
-    match release {
+    match control_bytes::release(block) {
         GuestRelease::Release4 => request.address,
         GuestRelease::Release5 => stage_address(block, request.address),
     }
@@ -140,12 +131,7 @@ fn event_address(block: &[u8], ending: Ending) -> u64
 fn is_collecting(ending: Ending) -> bool
     ensures { result ≡ is_collecting ending }
 {
-    match ending {
-        Ending::KeepCollecting => true,
-        Ending::ReportBadTrb(_) => false,
-        Ending::Fail(_, _) => false,
-        Ending::Realize(_, _) => false,
-    }
+    matches!(ending, Ending::KeepCollecting)
 }
 
 // Logs what a completion that ends so logs, and returns how many records there are.

@@ -21,37 +21,24 @@ use trb::{Answer, ControlRequestProcessingResult, Refusal, TransferTrb};
 fn is_immediate_allowed(outcome: Outcome, input: bool, data: TrbData) -> bool
     ensures { result ≡ immediate_allowed outcome input «data» }
 {
-    if !phase_table::is_held(outcome) {
-        return true;
-    }
-    if !input {
-        return true;
-    }
-    !data.immediate_data
+    !phase_table::is_held(outcome) || !input || !data.immediate_data
 }
 
 // Question 5: if this TRB would be held, are then at most 512 held?
+#[tactic(auto, unfolding(crate::specs::Submission::has_room))]
 fn is_room(outcome: Outcome, held: usize) -> bool
     requires { held ≤ max_held }
     ensures { result ≡ has_room outcome held }
 {
-    if !phase_table::is_held(outcome) {
-        return true;
-    }
-    if phase_table::is_restart(outcome) {
-        return true;
-    }
-    held + 1 <= trb::MAX_HELD
+    !phase_table::is_held(outcome) || phase_table::is_restart(outcome) || held + 1 <= trb::MAX_HELD
 }
 
 // Question 6: if it would be held, does its data lie in guest memory?
+#[tactic(auto, unfolding(crate::specs::Submission::reaches))]
 fn is_reached(outcome: Outcome, input: bool, data: TrbData, regions: Regions) -> bool
     ensures { result ≡ reaches outcome input «data» regions }
 {
-    if !phase_table::is_held(outcome) {
-        return true;
-    }
-    control_transfer::is_in_reach(input, data, regions)
+    !phase_table::is_held(outcome) || control_transfer::is_in_reach(input, data, regions)
 }
 
 // Question 7: on OUT, would the collected count be at most 65,535?
@@ -59,15 +46,13 @@ fn is_collectable(outcome: Outcome, input: bool, collected: usize, data: TrbData
     requires { collected ≤ max_collected }
     ensures { result ≡ collectable outcome input collected «data» }
 {
-    if !control_transfer::is_collected(outcome, input) {
-        return true;
-    }
-    let size = control_transfer::size_of(data) as usize;
-    collected + size <= trb::MAX_COLLECTED
+    !control_transfer::is_collected(outcome, input)
+        || collected + control_transfer::size_of(data) as usize <= trb::MAX_COLLECTED
 }
 
 // Questions 1, 13, 2 to 4, 21 and 5 to 7, of a log and a collect buffer of these lengths, guest memory in these regions, and a TRB that
 // becomes this.
+#[tactic(auto, unfolding(trb::specs::Questions::first_no, crate::specs::Submission::submission_questions))]
 pub fn ask_submission(
     log_length: usize,
     collect_length: usize,
@@ -78,9 +63,7 @@ pub fn ask_submission(
 ) -> Answer
     ensures { number_of result ≡ first_no (submission_questions log_length collect_length facts outcome t regions) }
 {
-    let state = facts.state;
-    let variant = t.variant;
-    let data = control_transfer::data_of(variant);
+    let data = control_transfer::data_of(t.variant);
     if log_length < trb::MIN_LOG {
         return Answer::Refused(Refusal::BufferTooShort);
     }
@@ -93,10 +76,10 @@ pub fn ask_submission(
     if !control_block::is_sound(facts) {
         return Answer::Refused(Refusal::UnsoundBlock);
     }
-    if !control_block::submission_due(state) {
+    if !control_block::submission_due(facts.state) {
         return Answer::Refused(Refusal::OutOfTurn);
     }
-    if trb::MAX_TRANSFER_LENGTH < trb::transfer_length(variant) {
+    if trb::MAX_TRANSFER_LENGTH < trb::transfer_length(t.variant) {
         return Answer::Refused(Refusal::TransferTooLong);
     }
     if !is_immediate_allowed(outcome, facts.direction, data) {
@@ -120,17 +103,11 @@ pub fn ask_submission(
 fn is_given(res: ControlRequestProcessingResult) -> bool
     ensures { result ≡ is_given res }
 {
-    match res {
-        ControlRequestProcessingResult::NoneGiven => false,
-        ControlRequestProcessingResult::Disconnect => true,
-        ControlRequestProcessingResult::Stall => true,
-        ControlRequestProcessingResult::TransactionError => true,
-        ControlRequestProcessingResult::SuccessfulControlIn => true,
-        ControlRequestProcessingResult::SuccessfulControlOut => true,
-    }
+    !matches!(res, ControlRequestProcessingResult::NoneGiven)
 }
 
 // Questions 1, 2, 3, 8 and 9, of a log and device data of these lengths.
+#[tactic(auto, unfolding(trb::specs::Questions::first_no, crate::specs::Completion::completion_questions))]
 pub fn ask_completion(
     log_length: usize,
     facts: BlockFacts,
@@ -139,17 +116,16 @@ pub fn ask_completion(
 ) -> Answer
     ensures { number_of result ≡ first_no (completion_questions log_length facts res data_length) }
 {
-    let state = facts.state;
     if log_length < trb::MIN_LOG {
         return Answer::Refused(Refusal::BufferTooShort);
     }
     if !control_block::is_sound(facts) {
         return Answer::Refused(Refusal::UnsoundBlock);
     }
-    if control_block::submission_due(state) {
+    if control_block::submission_due(facts.state) {
         return Answer::Refused(Refusal::OutOfTurn);
     }
-    if !trb::agree(is_given(res), control_block::awaits_device(state)) {
+    if is_given(res) != control_block::awaits_device(facts.state) {
         return Answer::Refused(Refusal::DeviceResultMismatch);
     }
     if trb::MAX_DATA < data_length {

@@ -1,4 +1,4 @@
--- The length asked for, by the input's length; it is at most max_shape, so that every answer fits the program's buffer. Assumes nothing.
+-- The length asked for: it is at most max_shape, so that every answer fits the program's buffer. Assumes nothing.
 use Prim.Native.Nat.{ℕ, ◌+◌, ◌-◌, ◌*◌, ◌≤◌}
 use mathlib.Core.Path.{◌≡◌, refl}
 use mathlib.Core.Bool.{Bool, true, false, cond}
@@ -6,7 +6,7 @@ use mathlib.Core.List.{List, [], ◌∷◌, ◌++◌}
 use native.Mathlib.Omega.{arith}
 use borrow.Author.Tests.{ltb-false, eq-eqb, ne_eqb}
 use lib.Dec.{eqb, ltb}
-use lib.ListN.{length, take, drop, get_or}
+use lib.ListN.{length, take, drop}
 use lib.Seq.{take_at}
 use Rattle.buffers.specs.Patch.{patch}
 use Rattle.numerals.specs.Written.{Written}
@@ -14,33 +14,6 @@ use Rattle.log_text.specs.Lines.{line_feed}
 use Rattle.shapes.specs.Lists.{min_shape, max_shape}
 use Rattle.shape_lines.specs.Lines.{shapes_text, max_text}
 use Rattle.control_shapes.specs.Answers.{in_range, one_digit, two_digits, asked, refused_text, answer_text}
-
--- ---- By the length of the input
-
-pub asked-one : (l : List ℕ) → length l ≡ 1 → asked l ≡ one_digit (get_or l 0 0)
-asked-one [] h = absurd (omega arith)
-asked-one (b ∷ []) h = refl
-asked-one (b ∷ c ∷ l) h = absurd (omega arith)
-
-pub asked-two : (l : List ℕ) → length l ≡ 2 → asked l ≡ asked (get_or l 0 0 ∷ get_or l 1 0 ∷ [])
-asked-two [] h = absurd (omega arith)
-asked-two (b ∷ []) h = absurd (omega arith)
-asked-two (b ∷ c ∷ []) h = refl
-asked-two (b ∷ c ∷ f ∷ l) h = absurd (omega arith)
-
-pub asked-three : (l : List ℕ) → length l ≡ 3 → asked l ≡ asked (get_or l 0 0 ∷ get_or l 1 0 ∷ get_or l 2 0 ∷ [])
-asked-three [] h = absurd (omega arith)
-asked-three (b ∷ []) h = absurd (omega arith)
-asked-three (b ∷ c ∷ []) h = absurd (omega arith)
-asked-three (b ∷ c ∷ f ∷ []) h = refl
-asked-three (b ∷ c ∷ f ∷ x ∷ l) h = absurd (omega arith)
-
-pub asked-other : (l : List ℕ) → (length l ≡ 1 → ⊥) → (length l ≡ 2 → ⊥) → (length l ≡ 3 → ⊥) → 0 ≡ asked l
-asked-other [] f g h = refl
-asked-other (b ∷ []) f g h = absurd (f refl)
-asked-other (b ∷ c ∷ []) f g h = absurd (g refl)
-asked-other (b ∷ c ∷ x ∷ []) f g h = absurd (h refl)
-asked-other (b ∷ c ∷ x ∷ y ∷ l) f g h = refl
 
 -- ---- An input of four bytes, or more
 

@@ -15,92 +15,46 @@ use std::io::{Read, Write};
 // Room for `12`, a line feed and one byte, by which a longer input is noticed.
 const INPUT: usize = 4;
 
-fn wide(c: u8) -> usize
-    ensures { result ≡ c }
-{
-    c as usize
-}
-
 // A length, and 0 for one of which no list is asked.
 fn in_range(m: usize) -> usize
     ensures { result ≡ in_range m }
 {
-    if m < shape_lines::MIN_SHAPE {
-        return 0;
+    if shape_lines::MIN_SHAPE <= m && m <= shape_lines::MAX_SHAPE {
+        m
+    } else {
+        0
     }
-    if shape_lines::MAX_SHAPE < m {
-        return 0;
-    }
-    m
 }
 
 // One character as a length.
 fn one_digit(c: u8) -> usize
     ensures { result ≡ one_digit c }
 {
-    if c < b'0' {
-        return 0;
+    match c {
+        b'0'..=b'9' => in_range((c - b'0') as usize),
+        _ => 0,
     }
-    if b'9' < c {
-        return 0;
-    }
-    in_range(wide(c - b'0'))
 }
 
 // Two characters as a length.
 fn two_digits(b: u8, c: u8) -> usize
     ensures { result ≡ two_digits b c }
 {
-    if b < b'1' {
-        return 0;
+    match (b, c) {
+        (b'1'..=b'9', b'0'..=b'9') => in_range(10 * (b - b'0') as usize + (c - b'0') as usize),
+        _ => 0,
     }
-    if b'9' < b {
-        return 0;
-    }
-    if c < b'0' {
-        return 0;
-    }
-    if b'9' < c {
-        return 0;
-    }
-    in_range(10 * wide(b - b'0') + wide(c - b'0'))
-}
-
-// Two characters, of which the second may be a line feed.
-fn one_or_two(b: u8, c: u8) -> usize
-    ensures { result ≡ asked_of (b ∷ c ∷ []) }
-{
-    if c == b'\n' {
-        return one_digit(b);
-    }
-    two_digits(b, c)
-}
-
-// Three characters, of which the third must be a line feed.
-fn two_and_feed(b: u8, c: u8, f: u8) -> usize
-    ensures { result ≡ asked_of (b ∷ c ∷ f ∷ []) }
-{
-    if f == b'\n' {
-        return two_digits(b, c);
-    }
-    0
 }
 
 // The length asked for, and 0 where no list is.
 fn asked(input: &[u8]) -> usize
     ensures { result ≡ asked_of input.now }
 {
-    let size = input.len();
-    if size == 1 {
-        return one_digit(input[0]);
+    match *input {
+        [b] | [b, b'\n'] => one_digit(b),
+        [b, c] | [b, c, b'\n'] => two_digits(b, c),
+        _ => 0,
     }
-    if size == 2 {
-        return one_or_two(input[0], input[1]);
-    }
-    if size == 3 {
-        return two_and_feed(input[0], input[1], input[2]);
-    }
-    0
 }
 
 // ---- What is printed
@@ -120,11 +74,10 @@ fn put_answer(text: &mut [u8], input: &[u8]) -> usize
     requires { max_text ≤ length text.old }
     ensures { Written max_text text.old 0 (answer_text input.now) result text.new }
 {
-    let longest = asked(input);
-    if longest == 0 {
-        return put_refused(text);
+    match asked(input) {
+        0 => put_refused(text),
+        longest => shape_text::shapes_up_to(text, longest),
     }
-    shape_text::shapes_up_to(text, longest)
 }
 
 fn text_buffer() -> [u8; shape_lines::MAX_TEXT]

@@ -27,9 +27,10 @@ fn hold_trb(block: &mut [u8], outcome: Outcome, numbers: TrbNumbers, kept: usize
 {
     if phase_table::is_held(outcome) {
         control_bytes::put_trb(block, kept, numbers);
-        return kept + 1;
+        kept + 1
+    } else {
+        kept
     }
-    kept
 }
 
 // The head after a TRB of this outcome, given by numbers, that moves this data; `transfer` is what the block knows of its transfer.

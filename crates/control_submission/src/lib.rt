@@ -5,9 +5,8 @@ ghost use Rattle.std.specs.Prelude.{◌≡◌};
 ghost use Rattle.guest_memory.specs.Places.{memory_of};
 ghost use Rattle.control_endpoint.specs.Submission.{places_dropped, Submits};
 
-use control_block::{BlockFacts, ControlBlock, ControlTransfer};
+use control_block::{ControlBlock, ControlTransfer};
 use control_endpoint::Submitted;
-use held::EndpointKind;
 use td_part::TdInfo;
 use trb::{Answer, TransferTrb};
 
@@ -18,8 +17,8 @@ fn places_dropped(restarts: bool, held: usize) -> usize
     if restarts { held } else { 0 }
 }
 
-// Takes a TRB. Guest memory is `low`'s bytes at `low_base` and `high`'s at `high_base`. The places are copied once, and there is one way out:
-// copies of the block are most of what a call costs.
+// Takes a TRB. Guest memory is `low`'s bytes at `low_base` and `high`'s at `high_base`. The places are copied once: copies of the block are
+// most of what a call costs.
 pub fn submit_trb<'a>(
     log: &mut [u8],
     collect: &mut [u8],
@@ -32,37 +31,9 @@ pub fn submit_trb<'a>(
 ) -> Submitted
     ensures { Submits block t (memory_of low_base low.now high_base high.now) log.old collect.old result log.new collect.new }
 {
-    let endpoint_id = block.endpoint_id;
-    let slot_id = block.slot_id;
-    let release = block.release;
-    let mut phase = block.phase;
-    let mut state = block.state;
-    let mut direction = block.direction;
-    let mut request = block.request;
-    let mut collected = block.collected;
-    let mut held = block.held;
-    let mut trbs = block.trbs;
-    let variant = t.variant;
-    let places = held::places_held(held);
-    let mut sound = true;
-    let mut i = 0;
-    while i < places {
-        let one = trbs[i];
-        sound = held::and_sound(sound, EndpointKind::Control, one);
-        i += 1;
-    }
-    let facts = BlockFacts {
-        endpoint_id: endpoint_id,
-        slot_id: slot_id,
-        phase: phase,
-        state: state,
-        direction: direction,
-        collected: collected,
-        held: held,
-        sound: sound,
-    };
+    let facts = control_block::facts_of(&block);
     let regions = guest_memory::guest_regions(low_base, low.len(), high_base, high.len());
-    let outcome = phase_table::trb_outcome(phase, variant);
+    let outcome = phase_table::trb_outcome(block.phase, t.variant);
     let answer = control_questions::ask_submission(
         log.len(),
         collect.len(),
@@ -71,19 +42,25 @@ pub fn submit_trb<'a>(
         t,
         regions,
     );
-    let mut records = 0;
     match answer {
-        Answer::Refused(_) => {}
+        Answer::Refused(_) => Submitted {
+            answer,
+            records: 0,
+            block,
+        },
         Answer::Accepted => {
+            let mut held = block.held;
+            let mut trbs = block.trbs;
             let info = TdInfo {
-                endpoint_id: endpoint_id,
-                slot_id: slot_id,
+                endpoint_id: block.endpoint_id,
+                slot_id: block.slot_id,
                 data_length: 0,
             };
             let blank = held::blank();
             let dropped = places_dropped(phase_table::is_restart(outcome), held);
             let mut progress = td_part::at_start_of_td();
             let mut j = 0;
+            // An index: each place is read, reported and blanked where it lies, in one pass.
             while j < dropped {
                 let one = trbs[j];
                 progress = control_dropped::report_dropped(log, info, progress, one);
@@ -91,50 +68,51 @@ pub fn submit_trb<'a>(
                 j += 1;
             }
             held -= dropped;
-            records = control_transfer::log_request(
+            let records = control_transfer::log_request(
                 log,
                 progress.records,
                 outcome,
-                request,
-                endpoint_id,
-                slot_id,
+                block.request,
+                block.endpoint_id,
+                block.slot_id,
             );
             control_transfer::collect_trb(
-                collect, outcome, direction, collected, variant, low_base, low, high_base, high,
+                collect,
+                outcome,
+                block.direction,
+                block.collected,
+                t.variant,
+                low_base,
+                low,
+                high_base,
+                high,
             );
             if phase_table::is_held(outcome) {
                 trbs[held] = t;
                 held += 1;
             }
             let before = ControlTransfer {
-                phase: phase,
-                direction: direction,
-                request: request,
-                collected: collected,
+                phase: block.phase,
+                direction: block.direction,
+                request: block.request,
+                collected: block.collected,
             };
-            let transfer = control_transfer::transfer_after(outcome, before, variant, t.addr);
-            phase = transfer.phase;
-            state = phase_table::state_after(outcome, t.addr);
-            direction = transfer.direction;
-            request = transfer.request;
-            collected = transfer.collected;
+            let transfer = control_transfer::transfer_after(outcome, before, t.variant, t.addr);
+            let state = phase_table::state_after(outcome, t.addr);
+            Submitted {
+                answer,
+                records,
+                block: ControlBlock {
+                    phase: transfer.phase,
+                    state,
+                    direction: transfer.direction,
+                    request: transfer.request,
+                    collected: transfer.collected,
+                    held,
+                    trbs,
+                    ..block
+                },
+            }
         }
-    }
-    let next = ControlBlock {
-        endpoint_id: endpoint_id,
-        slot_id: slot_id,
-        release: release,
-        phase: phase,
-        state: state,
-        direction: direction,
-        request: request,
-        collected: collected,
-        held: held,
-        trbs: trbs,
-    };
-    Submitted {
-        answer: answer,
-        records: records,
-        block: next,
     }
 }

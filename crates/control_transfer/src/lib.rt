@@ -45,33 +45,24 @@ pub fn data_of(variant: TransferTrbVariant) -> TrbData
     ensures { result ≡ data_of variant }
 {
     match variant {
-        TransferTrbVariant::SetupStage(_) => no_data(),
         TransferTrbVariant::DataStage(data_stage) => TrbData {
             data_pointer: data_stage.data_pointer,
             transfer_length: data_stage.transfer_length,
             immediate_data: data_stage.immediate_data,
         },
-        TransferTrbVariant::StatusStage(_) => no_data(),
         TransferTrbVariant::Normal(normal) => TrbData {
             data_pointer: normal.data_pointer,
             transfer_length: normal.transfer_length,
             immediate_data: normal.immediate_data,
         },
-        TransferTrbVariant::EventData(_) => no_data(),
-        TransferTrbVariant::NoOp(_) => no_data(),
-        TransferTrbVariant::Isoch => no_data(),
-        TransferTrbVariant::Unrecognized => no_data(),
+        _ => no_data(),
     }
 }
 
 fn immediate_length(length: u32) -> u32
     ensures { result ≡ immediate_length «length» }
 {
-    if MAX_IMMEDIATE < length {
-        MAX_IMMEDIATE
-    } else {
-        length
-    }
+    length.min(MAX_IMMEDIATE)
 }
 
 // The bytes that the TRB counts on IN and collects on OUT.
@@ -89,17 +80,16 @@ pub fn size_of(data: TrbData) -> u32
 fn is_range_asked(input: bool, immediate: bool) -> bool
     ensures { result ≡ (input || not immediate) }
 {
-    if input { true } else { !immediate }
+    input || !immediate
 }
 
 // Question 6, of the data of a TRB that is held; `input`: the transfer is IN.
+#[tactic(auto, unfolding(crate::specs::Data::in_reach))]
 pub fn is_in_reach(input: bool, data: TrbData, regions: Regions) -> bool
     ensures { result ≡ in_reach input «data» regions }
 {
-    if !is_range_asked(input, data.immediate_data) {
-        return true;
-    }
-    guest_memory::range_inside(regions, data.data_pointer, data.transfer_length)
+    !is_range_asked(input, data.immediate_data)
+        || guest_memory::range_inside(regions, data.data_pointer, data.transfer_length)
 }
 
 // Lays the `count` lowest bytes of the pointer over `collect` from index `at` on.
@@ -183,12 +173,10 @@ fn instantiate_setup_trb(
 ) -> ControlTransfer
     ensures { result ≡ begun transfer.phase setup_stage addr }
 {
-    let phase = transfer.phase;
-    let request = request_of(setup_stage, addr);
     ControlTransfer {
-        phase: phase,
+        phase: transfer.phase,
         direction: 128 <= setup_stage.request_type,
-        request: request,
+        request: request_of(setup_stage, addr),
         collected: 0,
     }
 }
@@ -198,12 +186,8 @@ fn lengthen(request: UsbRequest, size: u32) -> UsbRequest
     ensures { result ≡ lengthened request size }
 {
     UsbRequest {
-        address: request.address,
-        request_type: request.request_type,
-        request: request.request,
-        value: request.value,
-        index: request.index,
-        length: std::num::wrapping_add_u32(request.length, size),
+        length: request.length.wrapping_add(size),
+        ..request
     }
 }
 
@@ -212,22 +196,15 @@ fn grow(transfer: ControlTransfer, size: u32) -> ControlTransfer
     requires { transfer.collected ≤ max_collected }
     ensures { result ≡ grown transfer size }
 {
-    let phase = transfer.phase;
-    let request = transfer.request;
     if transfer.direction {
-        let longer = lengthen(request, size);
         ControlTransfer {
-            phase: phase,
-            direction: transfer.direction,
-            request: longer,
-            collected: transfer.collected,
+            request: lengthen(transfer.request, size),
+            ..transfer
         }
     } else {
         ControlTransfer {
-            phase: phase,
-            direction: transfer.direction,
-            request: request,
-            collected: transfer.collected + (size as usize),
+            collected: transfer.collected + size as usize,
+            ..transfer
         }
     }
 }
@@ -237,20 +214,16 @@ fn take_into(transfer: ControlTransfer, variant: TransferTrbVariant, addr: u64) 
     requires { transfer.collected ≤ max_collected }
     ensures { result ≡ taken_by variant addr transfer }
 {
-    let size = size_of(data_of(variant));
     match variant {
         TransferTrbVariant::SetupStage(setup_stage) => instantiate_setup_trb(
             transfer,
             setup_stage,
             addr,
         ),
-        TransferTrbVariant::DataStage(_) => grow(transfer, size),
-        TransferTrbVariant::StatusStage(_) => transfer,
-        TransferTrbVariant::Normal(_) => grow(transfer, size),
-        TransferTrbVariant::EventData(_) => transfer,
-        TransferTrbVariant::NoOp(_) => transfer,
-        TransferTrbVariant::Isoch => transfer,
-        TransferTrbVariant::Unrecognized => transfer,
+        TransferTrbVariant::DataStage(_) | TransferTrbVariant::Normal(_) => {
+            grow(transfer, size_of(data_of(variant)))
+        }
+        _ => transfer,
     }
 }
 
@@ -265,12 +238,14 @@ fn take_held(
     ensures { result ≡ held_into outcome variant addr transfer }
 {
     if phase_table::is_held(outcome) {
-        return take_into(transfer, variant, addr);
+        take_into(transfer, variant, addr)
+    } else {
+        transfer
     }
-    transfer
 }
 
 // The transfer after a TRB.
+#[tactic(auto, unfolding(crate::specs::Transfers::transfer_after))]
 pub fn transfer_after(
     outcome: Outcome,
     transfer: ControlTransfer,
@@ -280,8 +255,7 @@ pub fn transfer_after(
     requires { transfer.collected ≤ max_collected }
     ensures { result ≡ transfer_after outcome variant addr transfer }
 {
-    let before = transfer.phase;
-    let phase = phase_table::phase_after(before, outcome);
+    let phase = phase_table::phase_after(transfer.phase, outcome);
     control_block::at_phase(take_held(outcome, transfer, variant, addr), phase)
 }
 
@@ -302,13 +276,11 @@ pub fn log_request(
 }
 
 // Are the TRB's bytes collected? `input`: the transfer is IN.
+#[tactic(auto, unfolding(crate::specs::Transfers::collects))]
 pub fn is_collected(outcome: Outcome, input: bool) -> bool
     ensures { result ≡ collects outcome input }
 {
-    if !phase_table::is_held(outcome) {
-        return false;
-    }
-    !input
+    phase_table::is_held(outcome) && !input
 }
 
 // Collects the TRB's bytes just behind the `collected` ones, on OUT.

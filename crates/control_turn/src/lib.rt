@@ -14,13 +14,13 @@ use td_part::{TdInfo, TdProgress};
 use trb::{TransferTrb, TransferTrbVariant};
 
 // One TRB; ports a turn of `realize_control_chain`.
+#[tactic(auto, using(call_log::proofs::LogLaws::logged_none), unfolding(control_chain::specs::Chain::realize_trb))]
 fn realize_trb(log: &mut [u8], td: ControlTd, progress: TdProgress, t: TransferTrb) -> TdProgress
     requires { (record_length * (progress.records + 2) ≤ length log.old) × Within td.info progress }
     ensures { Meets (realize_trb td progress t) progress.records log.old result log.new }
 {
     let info = td.info;
-    let variant = t.variant;
-    match variant {
+    match t.variant {
         TransferTrbVariant::SetupStage(setup_stage) => control_chain::realize_stage(
             log,
             info,
@@ -44,13 +44,12 @@ fn realize_trb(log: &mut [u8], td: ControlTd, progress: TdProgress, t: TransferT
         TransferTrbVariant::EventData(event_data) => td_data::handle_event_data_trb(
             log, info, progress, event_data,
         ),
-        TransferTrbVariant::NoOp(_) => progress,
-        TransferTrbVariant::Isoch => progress,
-        TransferTrbVariant::Unrecognized => progress,
+        _ => progress,
     }
 }
 
 // A TRB held has its turn as the completion ends so: it is dropped, realized, or passed over.
+#[tactic(auto, using(call_log::proofs::LogLaws::logged_none))]
 pub fn next_trb(
     log: &mut [u8],
     ending: Ending,
@@ -62,15 +61,8 @@ pub fn next_trb(
     ensures { Meets (next_trb ending info progress t) progress.records log.old result log.new }
 {
     match ending {
-        Ending::KeepCollecting => progress,
+        Ending::KeepCollecting | Ending::Fail(_, _) => progress,
         Ending::ReportBadTrb(_) => control_dropped::report_dropped(log, info, progress, t),
-        Ending::Fail(_, _) => progress,
-        Ending::Realize(input, _) => {
-            let td = ControlTd {
-                info: info,
-                input: input,
-            };
-            realize_trb(log, td, progress, t)
-        }
+        Ending::Realize(input, _) => realize_trb(log, ControlTd { info, input }, progress, t),
     }
 }

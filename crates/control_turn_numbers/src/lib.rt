@@ -20,7 +20,7 @@ fn data_stage(flags: u8, value: u64, transfer_length: u32) -> DataStageTrb
 {
     DataStageTrb {
         data_pointer: value,
-        transfer_length: transfer_length,
+        transfer_length,
         chain: held_bytes::bit(flags, 2),
         interrupt_on_completion: held_bytes::bit(flags, 4),
         interrupt_on_short: held_bytes::bit(flags, 8),
@@ -49,29 +49,30 @@ fn realize_trb(
     requires { (record_length * (progress.records + 2) ≤ length log.old) × Within td.info progress }
     ensures { Meets (realize_trb td progress (trb_of numbers)) progress.records log.old result log.new }
 {
-    let info = td.info;
-    let number = numbers.kind as u32;
     let flags = numbers.flags;
     let addr = numbers.addr;
-    if number == raw_trb::SETUP_STAGE {
-        return control_chain::realize_stage(log, info, progress, held_bytes::bit(flags, 4), addr);
+    match numbers.kind {
+        raw_trb::SETUP_STAGE | raw_trb::STATUS_STAGE => control_chain::realize_stage(
+            log,
+            td.info,
+            progress,
+            held_bytes::bit(flags, 4),
+            addr,
+        ),
+        raw_trb::DATA_STAGE => {
+            let stage = data_stage(flags, numbers.value, numbers.transfer_length);
+            control_chain::realize_data_stage(log, td, progress, stage, addr)
+        }
+        raw_trb::NORMAL => {
+            let normal = held_bytes::normal(flags, numbers.value, numbers.transfer_length);
+            control_chain::realize_normal(log, td, progress, normal, addr)
+        }
+        raw_trb::EVENT_DATA => {
+            let event = event_data(flags, numbers.value);
+            td_data::handle_event_data_trb(log, td.info, progress, event)
+        }
+        _ => progress,
     }
-    if number == raw_trb::STATUS_STAGE {
-        return control_chain::realize_stage(log, info, progress, held_bytes::bit(flags, 4), addr);
-    }
-    if number == raw_trb::DATA_STAGE {
-        let stage = data_stage(flags, numbers.value, numbers.transfer_length);
-        return control_chain::realize_data_stage(log, td, progress, stage, addr);
-    }
-    if number == raw_trb::NORMAL {
-        let normal = held_bytes::normal(flags, numbers.value, numbers.transfer_length);
-        return control_chain::realize_normal(log, td, progress, normal, addr);
-    }
-    if number == raw_trb::EVENT_DATA {
-        let event = event_data(flags, numbers.value);
-        return td_data::handle_event_data_trb(log, info, progress, event);
-    }
-    progress
 }
 
 // A TRB held has its turn as the completion ends so: it is dropped, realized, or passed over.
@@ -93,11 +94,7 @@ pub fn next_trb(
         }
         Ending::Fail(_, _) => progress,
         Ending::Realize(input, _) => {
-            let td = ControlTd {
-                info: info,
-                input: input,
-            };
-            realize_trb(log, td, progress, numbers)
+            realize_trb(log, ControlTd { info, input }, progress, numbers)
         }
     }
 }

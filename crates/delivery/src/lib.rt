@@ -8,12 +8,12 @@ ghost use Rattle.trb.specs.Questions.{first_no};
 ghost use Rattle.guest_memory.specs.Places.{memory_of, range_inside};
 ghost use Rattle.carry_out.specs.CarryOut.{Carried};
 ghost use Rattle.in_td.specs.Normals.{normal_of, length_of};
-ghost use Rattle.in_block.specs.Facts.{held_test, awaits_device};
+ghost use Rattle.in_block.specs.Facts.{awaits_device};
 ghost use Rattle.delivery_laws.specs.Ranges.{pointer_of, writes_inside};
 ghost use Rattle.delivery.specs.Completing.{delivery_questions, Delivers};
 
 use guest_memory::Regions;
-use in_block::{BlockFacts, HeldTest, InBlock};
+use in_block::InBlock;
 use in_endpoint::Completed;
 use trb::{
     Answer, InTrbProcessingResult, Refusal, TdBasedNormalSubmissionState, TransferTrb,
@@ -27,44 +27,16 @@ fn normal_pointer(variant: TransferTrbVariant) -> u64
     ensures { result ≡ pointer_of (normal_of variant) }
 {
     match variant {
-        TransferTrbVariant::SetupStage(_) => 0,
-        TransferTrbVariant::DataStage(_) => 0,
-        TransferTrbVariant::StatusStage(_) => 0,
         TransferTrbVariant::Normal(normal) => normal.data_pointer,
-        TransferTrbVariant::EventData(_) => 0,
-        TransferTrbVariant::NoOp(_) => 0,
-        TransferTrbVariant::Isoch => 0,
-        TransferTrbVariant::Unrecognized => 0,
+        _ => 0,
     }
-}
-
-// How long it is.
-fn normal_length(variant: TransferTrbVariant) -> u32
-    ensures { result ≡ length_of (normal_of variant) }
-{
-    match variant {
-        TransferTrbVariant::SetupStage(_) => 0,
-        TransferTrbVariant::DataStage(_) => 0,
-        TransferTrbVariant::StatusStage(_) => 0,
-        TransferTrbVariant::Normal(normal) => normal.transfer_length,
-        TransferTrbVariant::EventData(_) => 0,
-        TransferTrbVariant::NoOp(_) => 0,
-        TransferTrbVariant::Isoch => 0,
-        TransferTrbVariant::Unrecognized => 0,
-    }
-}
-
-fn smaller(a: u32, b: u32) -> u32
-    ensures { result ≡ min a b }
-{
-    if a < b { a } else { b }
 }
 
 // How many bytes a TRB writes, where so many are left of the device's.
 pub fn bytes_taken(variant: TransferTrbVariant, left: u32) -> u32
     ensures { result ≡ min (length_of (normal_of variant)) left }
 {
-    smaller(normal_length(variant), left)
+    in_request::normal_length(variant).min(left)
 }
 
 // Does a TRB's write of so many bytes lie in one of the regions?
@@ -74,50 +46,22 @@ pub fn write_inside(variant: TransferTrbVariant, count: u32, regions: Regions) -
     guest_memory::range_inside(regions, normal_pointer(variant), count)
 }
 
-// Do the writes of the first `held` TRBs lie in one of the regions each, where the device has given so many bytes?
-fn writes_inside(
-    trbs: [TransferTrb; trb::MAX_HELD],
-    held: usize,
-    given: u32,
-    regions: Regions,
-) -> bool
-    ensures { result ≡ writes_inside regions given (take held trbs) }
+// Do the writes of these TRBs lie in one of the regions each, where the device has given so many bytes?
+fn writes_inside(trbs: &[TransferTrb], given: u32, regions: Regions) -> bool
+    ensures { result ≡ writes_inside regions given trbs.now }
 {
-    let places = held::places_held(held);
     let mut left = given;
-    let mut i = 0;
-    while i < places {
-        let one = trbs[i];
-        let variant = one.variant;
-        let count = bytes_taken(variant, left);
-        if !write_inside(variant, count, regions) {
+    for t in trbs {
+        let count = bytes_taken(t.variant, left);
+        if !write_inside(t.variant, count, regions) {
             return false;
         }
-        left = left - count;
-        i += 1;
+        left -= count;
     }
     true
 }
 
 // ---- The questions
-
-// What question 2 asks of the TRBs held.
-fn find_held(trbs: [TransferTrb; trb::MAX_HELD], held: usize) -> HeldTest
-    ensures { result ≡ held_test (take held trbs) }
-{
-    let places = held::places_held(held);
-    let mut found = HeldTest {
-        sound: true,
-        normals: 0,
-    };
-    let mut i = 0;
-    while i < places {
-        let one = trbs[i];
-        found = in_block::test_trb(found, one);
-        i += 1;
-    }
-    found
-}
 
 // How many of the device's bytes a completion writes: only where the device was awaited.
 pub fn bytes_given(state: TdBasedNormalSubmissionState, data_length: u32) -> u32
@@ -133,38 +77,30 @@ pub fn bytes_given(state: TdBasedNormalSubmissionState, data_length: u32) -> u32
 // Questions 1, 13, 2, 3, 8, 9 and 11, of a log and device data of these lengths and guest memory in these regions.
 fn ask(
     log_length: usize,
-    block: InBlock,
+    block: &InBlock,
     res: InTrbProcessingResult,
     data_length: usize,
     regions: Regions,
 ) -> Answer
-    ensures { number_of result ≡ first_no (delivery_questions log_length block res data_length regions) }
+    ensures { number_of result ≡ first_no (delivery_questions log_length block.now res data_length regions) }
 {
-    let state = block.state;
-    let held = block.held;
-    let trbs = block.trbs;
     if log_length < trb::MIN_LOG {
         return Answer::Refused(Refusal::BufferTooShort);
     }
     if guest_memory::share_an_address(regions) {
         return Answer::Refused(Refusal::RegionsOverlap);
     }
-    let found = find_held(trbs, held);
-    let endpoint_id = block.endpoint_id;
-    let slot_id = block.slot_id;
-    let facts = BlockFacts {
-        endpoint_id: endpoint_id,
-        slot_id: slot_id,
-        state: state,
-        held: held,
-        found: found,
-    };
-    let completion = in_questions::ask_completion(log_length, facts, res, data_length);
+    let completion = in_questions::ask_completion(
+        log_length,
+        in_block::facts_of(block),
+        res,
+        data_length,
+    );
     if !trb::is_accepted(completion) {
         return completion;
     }
-    let given = bytes_given(state, data_length as u32);
-    if !writes_inside(trbs, held, given, regions) {
+    let given = bytes_given(block.state, data_length as u32);
+    if !writes_inside(in_block::held_of(block), given, regions) {
         return Answer::Refused(Refusal::WriteOutOfRange);
     }
     Answer::Accepted
@@ -204,17 +140,15 @@ pub fn complete_and_carry_out(
     ensures { Delivers block res «data».now log.old (memory_of low_base low.old high_base high.old) result log.new (memory_of low_base low.new high_base high.new) }
 {
     let regions = guest_memory::guest_regions(low_base, low.len(), high_base, high.len());
-    let asked = ask(log.len(), block, res, data.len(), regions);
+    let asked = ask(log.len(), &block, res, data.len(), regions);
     if !trb::is_accepted(asked) {
-        let answer = in_endpoint::completion_answer(asked, TrbProcessingResult::Ok);
         return Completed {
-            answer: answer,
+            answer: in_endpoint::completion_answer(asked, TrbProcessingResult::Ok),
             records: 0,
-            block: block,
+            block,
         };
     }
     let done = in_completion::next_completion(log, block, res, data);
-    let records = done.records;
-    carry_out_first(log, records, data, low_base, low, high_base, high);
+    carry_out_first(log, done.records, data, low_base, low, high_base, high);
     done
 }

@@ -9,12 +9,12 @@ use capture_record::{CaptureEvent, InPipe, TransferError, UsbDevice, UsbHeader, 
 use trb::{InTrbProcessingStatus, UsbRequest};
 
 // The event type E.
-const FAILURE: u8 = 69;
+const FAILURE: u8 = b'E';
 
 // The setup flag of a header without setup bytes, and the data flag of an error.
-const WITHOUT_SETUP: u8 = 45;
+const WITHOUT_SETUP: u8 = b'-';
 
-const ERROR_FLAG: u8 = 69;
+const ERROR_FLAG: u8 = b'E';
 
 const TRB_ERROR_STATUS: u32 = 4294967274;
 
@@ -30,38 +30,25 @@ fn no_setup() -> UsbSetup
     }
 }
 
-fn usb_header(
-    device: UsbDevice,
-    seconds: u32,
-    microseconds: u32,
-    id: u64,
-    event_type: u8,
-    transfer_type: u8,
-    endpoint_address: u8,
-    setup_flag: u8,
-    data_flag: u8,
-    status: u32,
-    length: u32,
-    delivered: u32,
-    setup: UsbSetup,
-) -> UsbHeader
-    ensures { result ≡ usb_header device seconds microseconds id event_type transfer_type endpoint_address setup_flag data_flag status length delivered setup }
+// What every header has: whose transfer it is of, when, and its identifier. It has no setup bytes, and all else is 0.
+fn blank(device: UsbDevice, seconds: u32, microseconds: u32, id: u64) -> UsbHeader
+    ensures { result ≡ usb_header device seconds microseconds id 0 0 0 without_setup 0 0 0 0 no_setup }
 {
     UsbHeader {
-        id: id,
-        event_type: event_type,
-        transfer_type: transfer_type,
-        endpoint_address: endpoint_address,
+        id,
+        event_type: 0,
+        transfer_type: 0,
+        endpoint_address: 0,
         device_address: device.device_address,
         bus_number: device.bus_number,
-        setup_flag: setup_flag,
-        data_flag: data_flag,
+        setup_flag: WITHOUT_SETUP,
+        data_flag: 0,
         seconds: seconds as u64,
-        microseconds: microseconds,
-        status: status,
-        length: length,
-        delivered: delivered,
-        setup: setup,
+        microseconds,
+        status: 0,
+        length: 0,
+        delivered: 0,
+        setup: no_setup(),
     }
 }
 
@@ -70,13 +57,7 @@ fn usb_header(
 fn rotated_right(byte: u8) -> u8
     ensures { result ≡ rotated_right byte }
 {
-    byte / 2 + 128 * (byte % 2)
-}
-
-fn chosen(first: bool, yes: u32, no: u32) -> u32
-    ensures { result ≡ cond first yes no }
-{
-    if first { yes } else { no }
+    byte.rotate_right(1)
 }
 
 fn transfer_type(pipe: InPipe) -> u8
@@ -88,13 +69,13 @@ fn transfer_type(pipe: InPipe) -> u8
 fn submission_flag(to_host: bool) -> u8
     ensures { result ≡ submission_flag to_host }
 {
-    if to_host { 60 } else { 0 }
+    if to_host { b'<' } else { 0 }
 }
 
 fn completion_flag(to_host: bool) -> u8
     ensures { result ≡ completion_flag to_host }
 {
-    if to_host { 0 } else { 62 }
+    if to_host { 0 } else { b'>' }
 }
 
 fn endpoint_zero(to_host: bool) -> u8
@@ -150,21 +131,14 @@ fn in_submission_header(
     ensures { result ≡ header_of device seconds microseconds (CaptureEvent.InSubmission pipe id length) 0 }
 {
     let endpoint = pipe.endpoint_id.0;
-    usb_header(
-        device,
-        seconds,
-        microseconds,
-        id,
-        capture_record::SUBMISSION,
-        transfer_type(pipe),
-        rotated_right(endpoint),
-        WITHOUT_SETUP,
-        submission_flag(capture_record::is_odd(endpoint)),
-        0,
+    UsbHeader {
+        event_type: capture_record::SUBMISSION,
+        transfer_type: transfer_type(pipe),
+        endpoint_address: rotated_right(endpoint),
+        data_flag: submission_flag(capture_record::is_odd(endpoint)),
         length,
-        0,
-        no_setup(),
-    )
+        ..blank(device, seconds, microseconds, id)
+    }
 }
 
 fn in_completion_header(
@@ -180,21 +154,16 @@ fn in_completion_header(
 {
     let endpoint = pipe.endpoint_id.0;
     let input = capture_record::is_odd(endpoint);
-    usb_header(
-        device,
-        seconds,
-        microseconds,
-        id,
-        capture_record::COMPLETION,
-        transfer_type(pipe),
-        rotated_right(endpoint),
-        WITHOUT_SETUP,
-        completion_flag(input),
-        in_status(status),
-        count,
-        chosen(input, count, 0),
-        no_setup(),
-    )
+    UsbHeader {
+        event_type: capture_record::COMPLETION,
+        transfer_type: transfer_type(pipe),
+        endpoint_address: rotated_right(endpoint),
+        data_flag: completion_flag(input),
+        status: in_status(status),
+        length: count,
+        delivered: if input { count } else { 0 },
+        ..blank(device, seconds, microseconds, id)
+    }
 }
 
 fn control_submission_header(
@@ -207,21 +176,17 @@ fn control_submission_header(
     ensures { result ≡ header_of device seconds microseconds (CaptureEvent.ControlSubmission request) count }
 {
     let input = capture_record::to_host(request);
-    usb_header(
-        device,
-        seconds,
-        microseconds,
-        request.address,
-        capture_record::SUBMISSION,
-        capture_record::CONTROL,
-        endpoint_zero(input),
-        capture_record::WITH_SETUP,
-        submission_flag(input),
-        0,
-        chosen(input, request.length, 0),
-        chosen(input, 0, count),
-        setup_of(request),
-    )
+    UsbHeader {
+        event_type: capture_record::SUBMISSION,
+        transfer_type: capture_record::CONTROL,
+        endpoint_address: endpoint_zero(input),
+        setup_flag: capture_record::WITH_SETUP,
+        data_flag: submission_flag(input),
+        length: if input { request.length } else { 0 },
+        delivered: if input { 0 } else { count },
+        setup: setup_of(request),
+        ..blank(device, seconds, microseconds, request.address)
+    }
 }
 
 // Of a control transfer that ended well.
@@ -236,21 +201,15 @@ fn control_completion_header(
 ) -> UsbHeader
     ensures { result ≡ usb_header device seconds microseconds id completion control (endpoint_zero to_host) without_setup (completion_flag to_host) 0 length delivered no_setup }
 {
-    usb_header(
-        device,
-        seconds,
-        microseconds,
-        id,
-        capture_record::COMPLETION,
-        capture_record::CONTROL,
-        endpoint_zero(to_host),
-        WITHOUT_SETUP,
-        completion_flag(to_host),
-        0,
+    UsbHeader {
+        event_type: capture_record::COMPLETION,
+        transfer_type: capture_record::CONTROL,
+        endpoint_address: endpoint_zero(to_host),
+        data_flag: completion_flag(to_host),
         length,
         delivered,
-        no_setup(),
-    )
+        ..blank(device, seconds, microseconds, id)
+    }
 }
 
 fn control_error_header(
@@ -264,41 +223,29 @@ fn control_error_header(
 ) -> UsbHeader
     ensures { result ≡ header_of device seconds microseconds (CaptureEvent.ControlError to_host error request collected) 0 }
 {
-    usb_header(
-        device,
-        seconds,
-        microseconds,
-        request.address,
-        FAILURE,
-        capture_record::CONTROL,
-        endpoint_zero(to_host),
-        capture_record::WITH_SETUP,
-        ERROR_FLAG,
-        error_status(error),
-        collected,
-        0,
-        setup_of(request),
-    )
+    UsbHeader {
+        event_type: FAILURE,
+        transfer_type: capture_record::CONTROL,
+        endpoint_address: endpoint_zero(to_host),
+        setup_flag: capture_record::WITH_SETUP,
+        data_flag: ERROR_FLAG,
+        status: error_status(error),
+        length: collected,
+        setup: setup_of(request),
+        ..blank(device, seconds, microseconds, request.address)
+    }
 }
 
 fn trb_error_header(device: UsbDevice, seconds: u32, microseconds: u32, id: u64) -> UsbHeader
     ensures { result ≡ header_of device seconds microseconds (CaptureEvent.TrbError id) 0 }
 {
-    usb_header(
-        device,
-        seconds,
-        microseconds,
-        id,
-        FAILURE,
-        capture_record::CONTROL,
-        0,
-        WITHOUT_SETUP,
-        ERROR_FLAG,
-        TRB_ERROR_STATUS,
-        0,
-        0,
-        no_setup(),
-    )
+    UsbHeader {
+        event_type: FAILURE,
+        transfer_type: capture_record::CONTROL,
+        data_flag: ERROR_FLAG,
+        status: TRB_ERROR_STATUS,
+        ..blank(device, seconds, microseconds, id)
+    }
 }
 
 // The usbmon header of an event with a payload of `count` bytes; ports `log_packet`.

@@ -6,7 +6,7 @@ use native.Mathlib.Omega.{arith}
 use lib.Dec.{leb, eqb}
 use lib.ListN.{length, drop, length-take, length-drop}
 use lib.Seq.{length-take-le}
-use borrow.Author.Tests.{le-leb, lt-leb, leb-true, leb-false, eqb-true}
+use borrow.Author.Tests.{le-leb, lt-leb, leb-true, eqb-true}
 use Rattle.guest_memory.specs.declared.Place.{Place}
 use Rattle.guest_memory.specs.declared.Place.TheVariants.{Outside, InLow, InHigh}
 use Rattle.guest_memory.specs.declared.Region.{Region}
@@ -35,16 +35,6 @@ module _ (r : Region) (pointer n : ℕ) where
       outside : (t : Bool) → (t && false) ≡ false
       outside true = refl
       outside false = refl
-
-  -- counted from the region's base
-  pub in_region-from : r.start_addr ≤ pointer → pointer - r.start_addr ≤ r.len → in_region r pointer n ≡ leb n (r.len - (pointer - r.start_addr))
-  unfolding in_region
-  in_region-from low near =
-      rw (le-leb r.start_addr pointer low) (by-test (leb n (r.len - (pointer - r.start_addr))) refl)
-    where
-      by-test : (t : Bool) → leb n (r.len - (pointer - r.start_addr)) ≡ t → leb (pointer + n) (end_of r) ≡ t
-      by-test true e = le-leb (pointer + n) (end_of r) (omega (arith, leb-true n (r.len - (pointer - r.start_addr)) e))
-      by-test false e = lt-leb (pointer + n) (end_of r) (omega (arith, leb-false n (r.len - (pointer - r.start_addr)) e))
 
   pub in_region-in : r.start_addr ≤ pointer → pointer + n ≤ end_of r → in_region r pointer n ≡ true
   unfolding in_region

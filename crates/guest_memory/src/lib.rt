@@ -27,57 +27,46 @@ pub struct Regions {
 pub fn guest_regions(low_base: u64, low_len: usize, high_base: u64, high_len: usize) -> Regions
     ensures { result ≡ guest_regions low_base low_len high_base high_len }
 {
-    let low = Region {
-        start_addr: low_base,
-        len: low_len,
-    };
-    let high = Region {
-        start_addr: high_base,
-        len: high_len,
-    };
     Regions {
-        low: low,
-        high: high,
+        low: Region {
+            start_addr: low_base,
+            len: low_len,
+        },
+        high: Region {
+            start_addr: high_base,
+            len: high_len,
+        },
     }
 }
 
 // Is the address one of the region's?
+#[tactic(auto, unfolding(crate::specs::Regions::holds))]
 fn holds(region: Region, address: u64) -> bool
     ensures { result ≡ holds region address }
 {
-    if address < region.start_addr {
-        return false;
-    }
-    address - region.start_addr < region.len as u64
+    region.start_addr <= address && address - region.start_addr < region.len as u64
 }
 
 // Do both regions hold the address?
+#[tactic(auto, unfolding(crate::specs::Regions::shares_at))]
 fn shares_at(regions: Regions, address: u64) -> bool
     ensures { result ≡ shares_at «regions» address }
 {
-    let low = regions.low;
-    let high = regions.high;
-    if !holds(low, address) {
-        return false;
-    }
-    holds(high, address)
+    holds(regions.low, address) && holds(regions.high, address)
 }
 
 // Question 13: do the regions share an address?
+#[tactic(auto, unfolding(crate::specs::Regions::share_an_address))]
 pub fn share_an_address(regions: Regions) -> bool
     ensures { result ≡ share_an_address «regions» }
 {
-    let low = regions.low;
-    let high = regions.high;
-    if shares_at(regions, low.start_addr) {
-        return true;
-    }
-    shares_at(regions, high.start_addr)
+    shares_at(regions, regions.low.start_addr) || shares_at(regions, regions.high.start_addr)
 }
 
 // ---- Places
 
-// Where a range lies: outside, or in one of the regions from this index of its bytes on.
+// Where a range lies: outside, or in one of the regions from this index of its bytes on. Three cases and no Option of two: who asks where it lies takes
+// each of the three.
 #[derive(Clone, Copy)]
 pub enum Place {
     Outside,
@@ -86,57 +75,43 @@ pub enum Place {
 }
 
 // Does the range lie in this region? Nothing but this and `holds` compares guest addresses.
+#[tactic(auto, unfolding(crate::specs::Places::in_region))]
 fn in_region(region: Region, pointer: u64, count: u32) -> bool
     ensures { result ≡ in_region region pointer count }
 {
-    if pointer < region.start_addr {
-        return false;
-    }
-    let offset = pointer - region.start_addr;
     let whole = region.len as u64;
-    if whole < offset {
-        return false;
-    }
-    count as u64 <= whole - offset
+    region.start_addr <= pointer
+        && pointer - region.start_addr <= whole
+        && count as u64 <= whole - (pointer - region.start_addr)
 }
 
 // Places the `count` bytes from the address `pointer` on: the `find_region` and `to_region_addr` of a range.
+#[tactic(auto, unfolding(crate::specs::Places::in_region, crate::specs::Places::place_of))]
 pub fn place_range(regions: Regions, pointer: u64, count: u32) -> Place
     ensures { result ≡ place_of «regions» pointer count }
 {
-    let low = regions.low;
-    let high = regions.high;
-    if in_region(low, pointer, count) {
-        let offset = pointer - low.start_addr;
-        return Place::InLow(offset as usize);
+    if in_region(regions.low, pointer, count) {
+        Place::InLow((pointer - regions.low.start_addr) as usize)
+    } else if in_region(regions.high, pointer, count) {
+        Place::InHigh((pointer - regions.high.start_addr) as usize)
+    } else {
+        Place::Outside
     }
-    if in_region(high, pointer, count) {
-        let offset = pointer - high.start_addr;
-        return Place::InHigh(offset as usize);
-    }
-    Place::Outside
 }
 
 // Does the range lie in one of the regions?
 pub fn check_range(regions: Regions, pointer: u64, count: u32) -> bool
     ensures { result ≡ is_inside (place_of «regions» pointer count) }
 {
-    let place = place_range(regions, pointer, count);
-    match place {
-        Place::Outside => false,
-        Place::InLow(_) => true,
-        Place::InHigh(_) => true,
-    }
+    !matches!(place_range(regions, pointer, count), Place::Outside)
 }
 
 // Question 6: does the range, if it has any bytes, lie in one of the regions?
+#[tactic(auto, unfolding(crate::specs::Places::range_inside))]
 pub fn range_inside(regions: Regions, pointer: u64, count: u32) -> bool
     ensures { result ≡ range_inside «regions» pointer count }
 {
-    if count == 0 {
-        return true;
-    }
-    check_range(regions, pointer, count)
+    count == 0 || check_range(regions, pointer, count)
 }
 
 // ---- Bytes
@@ -152,12 +127,8 @@ pub fn get_slice<'a>(
 ) -> &'a [u8]
     ensures { result.now ≡ bytes_at (memory_of low_base low.now high_base high.now) pointer count }
 {
-    let place = place_range(
-        guest_regions(low_base, low.len(), high_base, high.len()),
-        pointer,
-        count,
-    );
-    match place {
+    let regions = guest_regions(low_base, low.len(), high_base, high.len());
+    match place_range(regions, pointer, count) {
         Place::Outside => &low[0..0],
         Place::InLow(start) => &low[start..start + (count as usize)],
         Place::InHigh(start) => &high[start..start + (count as usize)],
@@ -169,6 +140,5 @@ pub fn write_bulk(region: &mut [u8], offset: usize, data: &[u8], start: usize, c
     requires { (offset + count ≤ length region.old) × (start + count ≤ length «data».now) }
     ensures { region.new ≡ patch region.old offset (take count (drop start «data».now)) }
 {
-    let end = start + count;
-    buffers::copy_into(region, offset, &data[start..end]);
+    buffers::copy_into(region, offset, &data[start..start + count]);
 }

@@ -1,10 +1,10 @@
 // The places of a block for the TRBs that it holds: blank ones, clearing, and whether what is held is sound.
 #![tactic(auto)]
 
-ghost use Rattle.std.specs.Prelude.{◌≡◌, ◌&&◌, ◌≤◌, min};
+ghost use Rattle.std.specs.Prelude.{◌≡◌, min};
 ghost use Rattle.trb.specs.Limits.{max_held};
 ghost use Rattle.held.specs.Places.{blank_trb, cleared};
-ghost use Rattle.held.specs.Sound.{supported, sound_trb};
+ghost use Rattle.held.specs.Sound.{supported, sound_trb, held_sound};
 
 use trb::{NoOpTrb, TransferTrb, TransferTrbVariant};
 
@@ -29,31 +29,11 @@ pub fn blank() -> TransferTrb
     }
 }
 
-// The first `held` places become blank.
-fn clear_first(trbs: [TransferTrb; trb::MAX_HELD], held: usize) -> [TransferTrb; trb::MAX_HELD]
-    requires { held ≤ max_held }
-    ensures { result ≡ cleared held trbs }
-{
-    let blank_trb = blank();
-    let mut next = trbs;
-    let mut i = 0;
-    while i < held {
-        next[i] = blank_trb;
-        i += 1;
-    }
-    next
-}
-
 // The places that are held become blank: all of them, where more are said to be held than there are.
-pub fn clear(trbs: [TransferTrb; trb::MAX_HELD], held: usize) -> [TransferTrb; trb::MAX_HELD]
-    ensures { result ≡ cleared held trbs }
+pub fn clear(trbs: &mut [TransferTrb; trb::MAX_HELD], held: usize)
+    ensures { trbs.new ≡ cleared held trbs.old }
 {
-    if held <= trb::MAX_HELD {
-        clear_first(trbs, held)
-    } else {
-        let blank_trb = blank();
-        [blank_trb; trb::MAX_HELD]
-    }
+    trbs[..places_held(held)].fill(blank());
 }
 
 // Is the TRB of a kind that the endpoint holds?
@@ -61,50 +41,41 @@ pub fn supports(kind: EndpointKind, variant: TransferTrbVariant) -> bool
     ensures { result ≡ supported kind variant }
 {
     match kind {
-        EndpointKind::In => match variant {
-            TransferTrbVariant::SetupStage(_) => false,
-            TransferTrbVariant::DataStage(_) => false,
-            TransferTrbVariant::StatusStage(_) => false,
-            TransferTrbVariant::Normal(_) => true,
-            TransferTrbVariant::EventData(_) => true,
-            TransferTrbVariant::NoOp(_) => true,
-            TransferTrbVariant::Isoch => false,
-            TransferTrbVariant::Unrecognized => false,
-        },
-        EndpointKind::Control => match variant {
-            TransferTrbVariant::SetupStage(_) => true,
-            TransferTrbVariant::DataStage(_) => true,
-            TransferTrbVariant::StatusStage(_) => true,
-            TransferTrbVariant::Normal(_) => true,
-            TransferTrbVariant::EventData(_) => true,
-            TransferTrbVariant::NoOp(_) => false,
-            TransferTrbVariant::Isoch => false,
-            TransferTrbVariant::Unrecognized => false,
-        },
+        EndpointKind::In => matches!(
+            variant,
+            TransferTrbVariant::Normal(_)
+                | TransferTrbVariant::EventData(_)
+                | TransferTrbVariant::NoOp(_)
+        ),
+        EndpointKind::Control => matches!(
+            variant,
+            TransferTrbVariant::SetupStage(_)
+                | TransferTrbVariant::DataStage(_)
+                | TransferTrbVariant::StatusStage(_)
+                | TransferTrbVariant::Normal(_)
+                | TransferTrbVariant::EventData(_)
+        ),
     }
 }
 
-// Is this TRB sound too, after those before?
-pub fn and_sound(so_far: bool, kind: EndpointKind, t: TransferTrb) -> bool
-    ensures { result ≡ so_far && sound_trb kind t }
+// Is the TRB of a kind that the endpoint holds, and its length within the limit?
+#[tactic(auto, unfolding(crate::specs::Sound::sound_trb))]
+pub fn is_sound(kind: EndpointKind, t: TransferTrb) -> bool
+    ensures { result ≡ sound_trb kind t }
 {
-    let variant = t.variant;
-    if !so_far {
-        return false;
-    }
-    if !supports(kind, variant) {
-        return false;
-    }
-    trb::transfer_length(variant) <= trb::MAX_TRANSFER_LENGTH
+    supports(kind, t.variant) && trb::transfer_length(t.variant) <= trb::MAX_TRANSFER_LENGTH
+}
+
+// Are all of these TRBs?
+pub fn are_sound(kind: EndpointKind, trbs: &[TransferTrb]) -> bool
+    ensures { result ≡ held_sound kind trbs.now }
+{
+    trbs.iter().all(|t| is_sound(kind, *t))
 }
 
 // How many places are tested: those that are held, and no more than there are.
 pub fn places_held(held: usize) -> usize
     ensures { result ≡ min held max_held }
 {
-    if held < trb::MAX_HELD {
-        held
-    } else {
-        trb::MAX_HELD
-    }
+    held.min(trb::MAX_HELD)
 }

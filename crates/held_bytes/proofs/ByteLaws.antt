@@ -1,4 +1,4 @@
--- Laws of bytes laid over a buffer: the parts before and behind them, and zeros. Assumes nothing.
+-- Laws of bytes laid over a buffer: the parts before and behind them. Assumes nothing.
 use Prim.Native.Nat.{ℕ, zero, suc, ◌+◌, ◌-◌, ◌<◌, ◌≤◌}
 use mathlib.Core.Path.{◌≡◌, refl, sym, ap, ◌∙◌}
 use mathlib.Core.List.{List, [], ◌∷◌, ◌++◌, append_assoc}
@@ -33,13 +33,3 @@ module _ (l : List ℕ) (at : ℕ) (vs : List ℕ) (fits : at + length vs ≤ le
       ap (λ (m : ℕ). drop m (patch l at vs)) (sym e) ∙ sym (drop-drop (length vs + j) at (patch l at vs))
       ∙ ap (drop (length vs + j)) (drop-patch l at vs (omega arith)) ∙ drop-append-add vs (drop (at + length vs) l) j
       ∙ drop-drop j (at + length vs) l ∙ ap (λ (m : ℕ). drop m l) f
-
--- one more zero
-pub zeros-more : (l : List ℕ) (at k : ℕ) → at + k < length l → set (patch l at (replicate k 0)) (at + k) 0 ≡ patch l at (replicate (k + 1) 0)
-zeros-more l at k h =
-    let len : length {A = ℕ} (replicate k 0) ≡ k = length-replicate k 0 in
-    let long : length (patch l at (replicate k 0)) ≡ length l = length-patch l at (replicate k 0) (omega arith) in
-    set-patch (patch l at (replicate k 0)) (at + k) 0 (omega arith)
-    ∙ ap (λ (j : ℕ). patch (patch l at (replicate k 0)) (at + j) (0 ∷ [])) (sym len)
-    ∙ patch-append l at (replicate k 0) (0 ∷ []) (omega arith)
-    ∙ ap (λ (vs : List ℕ). patch l at vs) (replicate-append-replicate k 1 0)

@@ -4,7 +4,6 @@
 ghost use Rattle.std.specs.Prelude.{◌≡◌, ◌+◌, ◌*◌, ◌<◌, ◌≤◌, length, drop, replicate};
 ghost use Rattle.buffers.specs.Patch.{patch};
 ghost use Rattle.trb.specs.declared.TransferTrbVariant.TheVariants.{SetupStage};
-ghost use Rattle.raw_trb.specs.Fields.{bit_number};
 ghost use Rattle.held_bytes.specs.Numbers.{bit_of, normal_of, setup_stage_of, data_stage_of, variant_of, trb_of, flags_of, setup_value, SetupFits, numbers_of};
 ghost use Rattle.held_bytes.specs.Places.{place_length, numbers_at, place_bytes};
 
@@ -48,7 +47,7 @@ pub fn normal(flags: u8, value: u64, transfer_length: u32) -> NormalTrb
 {
     NormalTrb {
         data_pointer: value,
-        transfer_length: transfer_length,
+        transfer_length,
         interrupt_on_short: bit(flags, 8),
         chain: bit(flags, 2),
         interrupt_on_completion: bit(flags, 4),
@@ -74,7 +73,7 @@ fn data_stage(flags: u8, value: u64, transfer_length: u32) -> DataStageTrb
 {
     DataStageTrb {
         data_pointer: value,
-        transfer_length: transfer_length,
+        transfer_length,
         chain: bit(flags, 2),
         interrupt_on_completion: bit(flags, 4),
         interrupt_on_short: bit(flags, 8),
@@ -83,68 +82,52 @@ fn data_stage(flags: u8, value: u64, transfer_length: u32) -> DataStageTrb
     }
 }
 
+#[tactic(auto, unfolding(crate::specs::Numbers::variant_of))]
 fn variant(kind: u8, flags: u8, value: u64, transfer_length: u32) -> TransferTrbVariant
     ensures { result ≡ variant_of kind flags value transfer_length }
 {
-    let number = kind as u32;
-    if number == raw_trb::NORMAL {
-        return TransferTrbVariant::Normal(normal(flags, value, transfer_length));
-    }
-    if number == raw_trb::SETUP_STAGE {
-        return TransferTrbVariant::SetupStage(setup_stage(flags, value));
-    }
-    if number == raw_trb::DATA_STAGE {
-        return TransferTrbVariant::DataStage(data_stage(flags, value, transfer_length));
-    }
-    let chain = bit(flags, 2);
-    let interrupt_on_completion = bit(flags, 4);
-    if number == raw_trb::STATUS_STAGE {
-        return TransferTrbVariant::StatusStage(StatusStageTrb {
-            chain: chain,
-            interrupt_on_completion: interrupt_on_completion,
+    match kind {
+        raw_trb::NORMAL => TransferTrbVariant::Normal(normal(flags, value, transfer_length)),
+        raw_trb::SETUP_STAGE => TransferTrbVariant::SetupStage(setup_stage(flags, value)),
+        raw_trb::DATA_STAGE => {
+            TransferTrbVariant::DataStage(data_stage(flags, value, transfer_length))
+        }
+        raw_trb::STATUS_STAGE => TransferTrbVariant::StatusStage(StatusStageTrb {
+            chain: bit(flags, 2),
+            interrupt_on_completion: bit(flags, 4),
             direction: bit(flags, 32),
-        });
-    }
-    if number == raw_trb::ISOCH {
-        return TransferTrbVariant::Isoch;
-    }
-    if number == raw_trb::EVENT_DATA {
-        return TransferTrbVariant::EventData(EventDataTrb {
+        }),
+        raw_trb::ISOCH => TransferTrbVariant::Isoch,
+        raw_trb::EVENT_DATA => TransferTrbVariant::EventData(EventDataTrb {
             event_data: value,
-            chain: chain,
-            interrupt_on_completion: interrupt_on_completion,
-        });
+            chain: bit(flags, 2),
+            interrupt_on_completion: bit(flags, 4),
+        }),
+        raw_trb::NO_OP => TransferTrbVariant::NoOp(NoOpTrb {
+            chain: bit(flags, 2),
+            interrupt_on_completion: bit(flags, 4),
+        }),
+        _ => TransferTrbVariant::Unrecognized,
     }
-    if number == raw_trb::NO_OP {
-        return TransferTrbVariant::NoOp(NoOpTrb {
-            chain: chain,
-            interrupt_on_completion: interrupt_on_completion,
-        });
-    }
-    TransferTrbVariant::Unrecognized
 }
 
 // The TRB that the numbers are.
 pub fn trb_of(numbers: TrbNumbers) -> TransferTrb
     ensures { result ≡ trb_of numbers }
 {
-    let flags = numbers.flags;
-    let variant = variant(numbers.kind, flags, numbers.value, numbers.transfer_length);
-    let cycle_bit = bit(flags, 1);
     TransferTrb {
-        variant: variant,
+        variant: variant(
+            numbers.kind,
+            numbers.flags,
+            numbers.value,
+            numbers.transfer_length,
+        ),
         addr: numbers.addr,
-        cycle_bit: cycle_bit,
+        cycle_bit: bit(numbers.flags, 1),
     }
 }
 
 // ---- To numbers
-
-fn weighed(on: bool, weight: u8) -> u8
-    ensures { (result ≡ weight * bit_number on) × (result ≤ weight) }
-{
-    if on { weight } else { 0 }
-}
 
 fn flags_of(
     cycle: bool,
@@ -156,12 +139,12 @@ fn flags_of(
 ) -> u8
     ensures { result ≡ flags_of cycle chain completion short immediate direction }
 {
-    weighed(cycle, 1)
-        + weighed(chain, 2)
-        + weighed(completion, 4)
-        + weighed(short, 8)
-        + weighed(immediate, 16)
-        + weighed(direction, 32)
+    cycle as u8
+        + 2 * chain as u8
+        + 4 * completion as u8
+        + 8 * short as u8
+        + 16 * immediate as u8
+        + 32 * direction as u8
 }
 
 fn setup_value(t: SetupStageTrb) -> u64
@@ -178,12 +161,17 @@ fn setup_value(t: SetupStageTrb) -> u64
 pub fn numbers_of(t: TransferTrb) -> TrbNumbers
     ensures { (result ≡ numbers_of t) × (trb_of result ≡ t) }
 {
-    let addr = t.addr;
     let cycle = t.cycle_bit;
-    let variant = t.variant;
-    match variant {
+    let bare = TrbNumbers {
+        kind: 0,
+        flags: flags_of(cycle, false, false, false, false, false),
+        addr: t.addr,
+        value: 0,
+        transfer_length: 0,
+    };
+    match t.variant {
         TransferTrbVariant::SetupStage(setup) => TrbNumbers {
-            kind: raw_trb::SETUP_STAGE as u8,
+            kind: raw_trb::SETUP_STAGE,
             flags: flags_of(
                 cycle,
                 false,
@@ -192,12 +180,11 @@ pub fn numbers_of(t: TransferTrb) -> TrbNumbers
                 false,
                 false,
             ),
-            addr: addr,
             value: setup_value(setup),
-            transfer_length: 0,
+            ..bare
         },
         TransferTrbVariant::DataStage(data) => TrbNumbers {
-            kind: raw_trb::DATA_STAGE as u8,
+            kind: raw_trb::DATA_STAGE,
             flags: flags_of(
                 cycle,
                 data.chain,
@@ -206,12 +193,12 @@ pub fn numbers_of(t: TransferTrb) -> TrbNumbers
                 data.immediate_data,
                 data.direction,
             ),
-            addr: addr,
             value: data.data_pointer,
             transfer_length: data.transfer_length,
+            ..bare
         },
         TransferTrbVariant::StatusStage(status) => TrbNumbers {
-            kind: raw_trb::STATUS_STAGE as u8,
+            kind: raw_trb::STATUS_STAGE,
             flags: flags_of(
                 cycle,
                 status.chain,
@@ -220,12 +207,10 @@ pub fn numbers_of(t: TransferTrb) -> TrbNumbers
                 false,
                 status.direction,
             ),
-            addr: addr,
-            value: 0,
-            transfer_length: 0,
+            ..bare
         },
         TransferTrbVariant::Normal(normal) => TrbNumbers {
-            kind: raw_trb::NORMAL as u8,
+            kind: raw_trb::NORMAL,
             flags: flags_of(
                 cycle,
                 normal.chain,
@@ -234,12 +219,12 @@ pub fn numbers_of(t: TransferTrb) -> TrbNumbers
                 normal.immediate_data,
                 false,
             ),
-            addr: addr,
             value: normal.data_pointer,
             transfer_length: normal.transfer_length,
+            ..bare
         },
         TransferTrbVariant::EventData(event) => TrbNumbers {
-            kind: raw_trb::EVENT_DATA as u8,
+            kind: raw_trb::EVENT_DATA,
             flags: flags_of(
                 cycle,
                 event.chain,
@@ -248,12 +233,11 @@ pub fn numbers_of(t: TransferTrb) -> TrbNumbers
                 false,
                 false,
             ),
-            addr: addr,
             value: event.event_data,
-            transfer_length: 0,
+            ..bare
         },
         TransferTrbVariant::NoOp(no_op) => TrbNumbers {
-            kind: raw_trb::NO_OP as u8,
+            kind: raw_trb::NO_OP,
             flags: flags_of(
                 cycle,
                 no_op.chain,
@@ -262,24 +246,13 @@ pub fn numbers_of(t: TransferTrb) -> TrbNumbers
                 false,
                 false,
             ),
-            addr: addr,
-            value: 0,
-            transfer_length: 0,
+            ..bare
         },
         TransferTrbVariant::Isoch => TrbNumbers {
-            kind: raw_trb::ISOCH as u8,
-            flags: flags_of(cycle, false, false, false, false, false),
-            addr: addr,
-            value: 0,
-            transfer_length: 0,
+            kind: raw_trb::ISOCH,
+            ..bare
         },
-        TransferTrbVariant::Unrecognized => TrbNumbers {
-            kind: 0,
-            flags: flags_of(cycle, false, false, false, false, false),
-            addr: addr,
-            value: 0,
-            transfer_length: 0,
-        },
+        TransferTrbVariant::Unrecognized => bare,
     }
 }
 
@@ -290,66 +263,25 @@ pub fn numbers_at(block: &[u8], at: usize) -> TrbNumbers
     requires { at + place_length ≤ length block.now }
     ensures { result ≡ numbers_at (drop at block.now) }
 {
-    let addr = buffers::le64(block, at);
-    let value = buffers::le64(block, at + 8);
-    let transfer_length = buffers::le32(block, at + 16) % (trb::MAX_TRANSFER_LENGTH + 1);
-    let kind = block[at + 20];
-    let flags = block[at + 21];
     TrbNumbers {
-        kind: kind,
-        flags: flags,
-        addr: addr,
-        value: value,
-        transfer_length: transfer_length,
+        kind: block[at + 20],
+        flags: block[at + 21],
+        addr: buffers::le64(block, at),
+        value: buffers::le64(block, at + 8),
+        transfer_length: buffers::le32(block, at + 16) % (trb::MAX_TRANSFER_LENGTH + 1),
     }
 }
 
-fn encoded(addr: u64, value: u64, transfer_length: u32, kind: u8, flags: u8) -> [u8; 24]
-    ensures { result ≡ place_bytes (record { kind = kind; flags = flags; addr = addr; value = value; transfer_length = transfer_length }) }
+fn encoded(numbers: TrbNumbers) -> [u8; PLACE]
+    ensures { result ≡ place_bytes numbers }
 {
-    let a1 = addr / 256;
-    let a2 = a1 / 256;
-    let a3 = a2 / 256;
-    let a4 = a3 / 256;
-    let a5 = a4 / 256;
-    let a6 = a5 / 256;
-    let a7 = a6 / 256;
-    let v1 = value / 256;
-    let v2 = v1 / 256;
-    let v3 = v2 / 256;
-    let v4 = v3 / 256;
-    let v5 = v4 / 256;
-    let v6 = v5 / 256;
-    let v7 = v6 / 256;
-    let n1 = transfer_length / 256;
-    let n2 = n1 / 256;
-    let n3 = n2 / 256;
-    [
-        (addr % 256) as u8,
-        (a1 % 256) as u8,
-        (a2 % 256) as u8,
-        (a3 % 256) as u8,
-        (a4 % 256) as u8,
-        (a5 % 256) as u8,
-        (a6 % 256) as u8,
-        (a7 % 256) as u8,
-        (value % 256) as u8,
-        (v1 % 256) as u8,
-        (v2 % 256) as u8,
-        (v3 % 256) as u8,
-        (v4 % 256) as u8,
-        (v5 % 256) as u8,
-        (v6 % 256) as u8,
-        (v7 % 256) as u8,
-        (transfer_length % 256) as u8,
-        (n1 % 256) as u8,
-        (n2 % 256) as u8,
-        (n3 % 256) as u8,
-        kind,
-        flags,
-        0,
-        0,
-    ]
+    let mut cells = [0; PLACE];
+    cells[..8].copy_from_slice(&numbers.addr.to_le_bytes());
+    cells[8..16].copy_from_slice(&numbers.value.to_le_bytes());
+    cells[16..20].copy_from_slice(&numbers.transfer_length.to_le_bytes());
+    cells[20] = numbers.kind;
+    cells[21] = numbers.flags;
+    cells
 }
 
 // Stores the numbers in the place that starts at `at`.
@@ -357,14 +289,7 @@ pub fn put_place(block: &mut [u8], at: usize, numbers: TrbNumbers)
     requires { at + place_length ≤ length block.old }
     ensures { block.new ≡ patch block.old at (place_bytes numbers) }
 {
-    let cells = encoded(
-        numbers.addr,
-        numbers.value,
-        numbers.transfer_length,
-        numbers.kind,
-        numbers.flags,
-    );
-    buffers::copy_into(block, at, &cells);
+    buffers::copy_into(block, at, &encoded(numbers));
 }
 
 // The `count` bytes from index `at` on become zero: blank places, where they are places.
@@ -372,10 +297,5 @@ pub fn blank_bytes(block: &mut [u8], at: usize, count: usize)
     requires { at + count ≤ length block.old }
     ensures { block.new ≡ patch block.old at (replicate count 0) }
 {
-    let end = at + count;
-    let mut i = at;
-    while i < end {
-        block[i] = 0;
-        i += 1;
-    }
+    block[at..at + count].fill(0);
 }

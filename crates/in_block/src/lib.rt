@@ -2,11 +2,11 @@
 // that is submitted, and what a completion does.
 #![tactic(auto)]
 
-ghost use Rattle.std.specs.Prelude.{◌≡◌, ◌&&◌, ◌+◌, ◌<◌, min};
+ghost use Rattle.std.specs.Prelude.{◌≡◌, ◌+◌, ◌<◌, min};
 ghost use Rattle.trb.specs.Limits.{max_held};
 ghost use Rattle.in_td.specs.Td.{is_normal, normal_count};
-ghost use Rattle.in_block.specs.Blocks.{fresh_block, with_state, stored, emptied};
-ghost use Rattle.in_block.specs.Facts.{in_sound, trb_test, submission_due, awaits_device, sound_block};
+ghost use Rattle.in_block.specs.Blocks.{held_of, fresh_block, with_state, stored, emptied};
+ghost use Rattle.in_block.specs.Facts.{trb_test, held_test, submission_due, awaits_device, facts_of, sound_block};
 ghost use Rattle.in_block.specs.Outcomes.{outcome_of, state_after, ending_of};
 
 use held::EndpointKind;
@@ -26,19 +26,24 @@ pub struct InBlock {
     pub trbs: [TransferTrb; trb::MAX_HELD],
 }
 
+// The TRBs that are held: no more than there are places.
+pub fn held_of(block: &InBlock) -> &[TransferTrb]
+    ensures { result.now ≡ held_of block.now }
+{
+    &block.trbs[..held::places_held(block.held)]
+}
+
 // A block that holds nothing, a submission due.
 pub fn fresh(endpoint_id: EndpointId, slot_id: SlotId, mode: InMode) -> InBlock
     ensures { result ≡ fresh_block endpoint_id slot_id mode }
 {
-    let blank = held::blank();
-    let trbs = [blank; trb::MAX_HELD];
     InBlock {
-        endpoint_id: endpoint_id,
-        slot_id: slot_id,
-        mode: mode,
+        endpoint_id,
+        slot_id,
+        mode,
         state: TdBasedNormalSubmissionState::SubmissionDue,
         held: 0,
-        trbs: trbs,
+        trbs: [held::blank(); trb::MAX_HELD],
     }
 }
 
@@ -46,18 +51,7 @@ pub fn fresh(endpoint_id: EndpointId, slot_id: SlotId, mode: InMode) -> InBlock
 pub fn with_state(block: InBlock, state: TdBasedNormalSubmissionState) -> InBlock
     ensures { result ≡ with_state block state }
 {
-    let endpoint_id = block.endpoint_id;
-    let slot_id = block.slot_id;
-    let mode = block.mode;
-    let trbs = block.trbs;
-    InBlock {
-        endpoint_id: endpoint_id,
-        slot_id: slot_id,
-        mode: mode,
-        state: state,
-        held: block.held,
-        trbs: trbs,
-    }
+    InBlock { state, ..block }
 }
 
 // One TRB more is held.
@@ -65,10 +59,9 @@ pub fn store(block: InBlock, t: TransferTrb) -> InBlock
     requires { block.held < max_held }
     ensures { result ≡ stored block t }
 {
-    let at = block.held;
     let mut next = block;
-    next.trbs[at] = t;
-    next.held = at + 1;
+    next.trbs[block.held] = t;
+    next.held += 1;
     next
 }
 
@@ -76,61 +69,32 @@ pub fn store(block: InBlock, t: TransferTrb) -> InBlock
 pub fn empty(block: InBlock, state: TdBasedNormalSubmissionState) -> InBlock
     ensures { result ≡ emptied block state }
 {
-    let endpoint_id = block.endpoint_id;
-    let slot_id = block.slot_id;
-    let mode = block.mode;
-    let trbs = block.trbs;
-    let cleared = held::clear(trbs, block.held);
-    InBlock {
-        endpoint_id: endpoint_id,
-        slot_id: slot_id,
-        mode: mode,
-        state: state,
-        held: 0,
-        trbs: cleared,
-    }
+    let mut next = block;
+    next.state = state;
+    held::clear(&mut next.trbs, next.held);
+    next.held = 0;
+    next
 }
 
 // Is a submission due in this state?
 pub fn submission_due(state: TdBasedNormalSubmissionState) -> bool
     ensures { result ≡ submission_due state }
 {
-    match state {
-        TdBasedNormalSubmissionState::SubmissionDue => true,
-        TdBasedNormalSubmissionState::CollectingTd => false,
-        TdBasedNormalSubmissionState::AwaitingRealTransfer => false,
-        TdBasedNormalSubmissionState::AwaitingLocalCompletion => false,
-        TdBasedNormalSubmissionState::UnsupportedTrb(_) => false,
-    }
+    matches!(state, TdBasedNormalSubmissionState::SubmissionDue)
 }
 
 // Does a block in this state await the device's result?
 pub fn awaits_device(state: TdBasedNormalSubmissionState) -> bool
     ensures { result ≡ awaits_device state }
 {
-    match state {
-        TdBasedNormalSubmissionState::SubmissionDue => false,
-        TdBasedNormalSubmissionState::CollectingTd => false,
-        TdBasedNormalSubmissionState::AwaitingRealTransfer => true,
-        TdBasedNormalSubmissionState::AwaitingLocalCompletion => false,
-        TdBasedNormalSubmissionState::UnsupportedTrb(_) => false,
-    }
+    matches!(state, TdBasedNormalSubmissionState::AwaitingRealTransfer)
 }
 
 // Is it a Normal?
 pub fn is_normal(variant: TransferTrbVariant) -> bool
     ensures { result ≡ is_normal variant }
 {
-    match variant {
-        TransferTrbVariant::SetupStage(_) => false,
-        TransferTrbVariant::DataStage(_) => false,
-        TransferTrbVariant::StatusStage(_) => false,
-        TransferTrbVariant::Normal(_) => true,
-        TransferTrbVariant::EventData(_) => false,
-        TransferTrbVariant::NoOp(_) => false,
-        TransferTrbVariant::Isoch => false,
-        TransferTrbVariant::Unrecognized => false,
-    }
+    matches!(variant, TransferTrbVariant::Normal(_))
 }
 
 // What question 2 asks of each TRB held: is every one sound, and how many are Normals? No more are counted than a block has places.
@@ -140,46 +104,35 @@ pub struct HeldTest {
     pub normals: usize,
 }
 
-// Is the TRB of a kind that an IN endpoint holds, and its length within the limit?
-fn is_sound_trb(variant: TransferTrbVariant) -> bool
-    ensures { result ≡ in_sound variant }
-{
-    if !held::supports(EndpointKind::In, variant) {
-        return false;
-    }
-    trb::transfer_length(variant) <= trb::MAX_TRANSFER_LENGTH
-}
-
-fn both(a: bool, b: bool) -> bool
-    ensures { result ≡ a && b }
-{
-    if a { b } else { false }
-}
-
 // The Normals counted, with this TRB.
 fn count_normal(so_far: usize, variant: TransferTrbVariant) -> usize
     ensures { result ≡ min (so_far + normal_count variant) max_held }
 {
-    if trb::MAX_HELD <= so_far {
-        return trb::MAX_HELD;
-    }
-    if is_normal(variant) {
-        return so_far + 1;
-    }
     so_far
+        .saturating_add(usize::from(is_normal(variant)))
+        .min(trb::MAX_HELD)
 }
 
 // One TRB more is tested.
+#[tactic(auto, unfolding(held::specs::Sound::sound_trb))]
 pub fn test_trb(so_far: HeldTest, t: TransferTrb) -> HeldTest
     ensures { result ≡ trb_test so_far t }
 {
-    let variant = t.variant;
-    let sound = both(so_far.sound, is_sound_trb(variant));
-    let normals = count_normal(so_far.normals, variant);
     HeldTest {
-        sound: sound,
-        normals: normals,
+        sound: so_far.sound && held::is_sound(EndpointKind::In, t),
+        normals: count_normal(so_far.normals, t.variant),
     }
+}
+
+// What it asks of these TRBs.
+pub fn test_held(trbs: &[TransferTrb]) -> HeldTest
+    ensures { result ≡ held_test trbs.now }
+{
+    let untested = HeldTest {
+        sound: true,
+        normals: 0,
+    };
+    trbs.iter().fold(untested, |so_far, t| test_trb(so_far, *t))
 }
 
 // What the questions ask about: the block's own values, and what one loop over the TRBs held found.
@@ -192,30 +145,28 @@ pub struct BlockFacts {
     pub found: HeldTest,
 }
 
+// The facts of a block.
+pub fn facts_of(block: &InBlock) -> BlockFacts
+    ensures { result ≡ facts_of block.now }
+{
+    BlockFacts {
+        endpoint_id: block.endpoint_id,
+        slot_id: block.slot_id,
+        state: block.state,
+        held: block.held,
+        found: test_held(held_of(block)),
+    }
+}
+
 // Question 2: is the block sound?
+#[tactic(auto, unfolding(crate::specs::Facts::sound_block))]
 pub fn is_sound(facts: BlockFacts) -> bool
     ensures { result ≡ sound_block facts }
 {
-    let endpoint_id = facts.endpoint_id;
-    let slot_id = facts.slot_id;
-    let state = facts.state;
-    let held = facts.held;
-    let found = facts.found;
-    let sound = found.sound;
-    let normals = found.normals;
-    if !trb::ids_in_range(endpoint_id, slot_id) {
-        return false;
-    }
-    if trb::MAX_HELD < held {
-        return false;
-    }
-    if !sound {
-        return false;
-    }
-    if !awaits_device(state) {
-        return true;
-    }
-    normals != 0
+    trb::ids_in_range(facts.endpoint_id, facts.slot_id)
+        && facts.held <= trb::MAX_HELD
+        && facts.found.sound
+        && (!awaits_device(facts.state) || facts.found.normals != 0)
 }
 
 // ---- What becomes of a TRB that is taken
@@ -233,21 +184,19 @@ pub enum Outcome {
 }
 
 // Of a TRB behind those held, of which the loop found this.
+#[tactic(auto, unfolding(crate::specs::Outcomes::outcome_of))]
 pub fn outcome_of(found: HeldTest, t: TransferTrb) -> Outcome
     ensures { result ≡ outcome_of found t }
 {
-    let variant = t.variant;
-    if !held::supports(EndpointKind::In, variant) {
-        return Outcome::Drop;
+    if !held::supports(EndpointKind::In, t.variant) {
+        Outcome::Drop
+    } else if trb::chain_of(t.variant) {
+        Outcome::Collect
+    } else if test_trb(found, t).normals == 0 {
+        Outcome::CompleteLocally
+    } else {
+        Outcome::Request
     }
-    if trb::chain_of(variant) {
-        return Outcome::Collect;
-    }
-    let of_td = test_trb(found, t);
-    if of_td.normals == 0 {
-        return Outcome::CompleteLocally;
-    }
-    Outcome::Request
 }
 
 // The state that a TRB at `addr` leaves.
@@ -283,8 +232,8 @@ pub fn ending_of(
     ensures { result ≡ ending_of state res data_length }
 {
     match state {
-        TdBasedNormalSubmissionState::SubmissionDue => Ending::KeepCollecting,
-        TdBasedNormalSubmissionState::CollectingTd => Ending::KeepCollecting,
+        TdBasedNormalSubmissionState::SubmissionDue | TdBasedNormalSubmissionState::CollectingTd =>
+            { Ending::KeepCollecting }
         TdBasedNormalSubmissionState::AwaitingRealTransfer => match res {
             InTrbProcessingResult::NoneGiven => Ending::KeepCollecting,
             InTrbProcessingResult::Given(status) => Ending::Transfer(status, data_length),

@@ -25,6 +25,17 @@ pub const HEAD: usize = 16;
 
 pub const BLOCK: usize = HEAD + held_bytes::PLACE * trb::MAX_HELD;
 
+// States by number: constants and no enum, since any byte is a state.
+pub const DUE: u8 = 0;
+
+pub const COLLECTING: u8 = 1;
+
+pub const AWAITING: u8 = 2;
+
+pub const LOCAL: u8 = 3;
+
+pub const UNSUPPORTED: u8 = 4;
+
 // ---- Reading
 
 // An id of a block in this layout; of one in another, 0.
@@ -59,49 +70,43 @@ pub fn mode_of(number: u8) -> InMode
     ensures { result ≡ mode_of number }
 {
     if number == 0 {
-        return InMode::AsPorted;
+        InMode::AsPorted
+    } else {
+        InMode::Strict
     }
-    InMode::Strict
 }
 
 // The state by its number, and the address of an unsupported TRB.
 pub fn state_of(number: u8, addr: u64) -> TdBasedNormalSubmissionState
     ensures { result ≡ state_of number addr }
 {
-    if number == 0 {
-        return TdBasedNormalSubmissionState::SubmissionDue;
+    match number {
+        DUE => TdBasedNormalSubmissionState::SubmissionDue,
+        COLLECTING => TdBasedNormalSubmissionState::CollectingTd,
+        AWAITING => TdBasedNormalSubmissionState::AwaitingRealTransfer,
+        LOCAL => TdBasedNormalSubmissionState::AwaitingLocalCompletion,
+        _ => TdBasedNormalSubmissionState::UnsupportedTrb(addr),
     }
-    if number == 1 {
-        return TdBasedNormalSubmissionState::CollectingTd;
-    }
-    if number == 2 {
-        return TdBasedNormalSubmissionState::AwaitingRealTransfer;
-    }
-    if number == 3 {
-        return TdBasedNormalSubmissionState::AwaitingLocalCompletion;
-    }
-    TdBasedNormalSubmissionState::UnsupportedTrb(addr)
 }
 
+#[tactic(auto, unfolding(held_bytes::specs::Numbers::variant_of))]
 fn held_variant(kind: u8, flags: u8, value: u64, transfer_length: u32) -> TransferTrbVariant
     ensures { result ≡ variant_of (held_type In kind) flags value transfer_length }
 {
-    if kind as u32 == raw_trb::NORMAL {
-        return TransferTrbVariant::Normal(held_bytes::normal(flags, value, transfer_length));
-    }
-    let chain = held_bytes::bit(flags, 2);
-    let interrupt_on_completion = held_bytes::bit(flags, 4);
-    if kind as u32 == raw_trb::EVENT_DATA {
-        return TransferTrbVariant::EventData(EventDataTrb {
+    match kind {
+        raw_trb::NORMAL => {
+            TransferTrbVariant::Normal(held_bytes::normal(flags, value, transfer_length))
+        }
+        raw_trb::EVENT_DATA => TransferTrbVariant::EventData(EventDataTrb {
             event_data: value,
-            chain: chain,
-            interrupt_on_completion: interrupt_on_completion,
-        });
+            chain: held_bytes::bit(flags, 2),
+            interrupt_on_completion: held_bytes::bit(flags, 4),
+        }),
+        _ => TransferTrbVariant::NoOp(NoOpTrb {
+            chain: held_bytes::bit(flags, 2),
+            interrupt_on_completion: held_bytes::bit(flags, 4),
+        }),
     }
-    TransferTrbVariant::NoOp(NoOpTrb {
-        chain: chain,
-        interrupt_on_completion: interrupt_on_completion,
-    })
 }
 
 // The TRB in the place that starts at `at`.
@@ -110,13 +115,15 @@ pub fn trb_from(block: &[u8], at: usize) -> TransferTrb
     ensures { result ≡ place_of In (drop at block.now) }
 {
     let numbers = held_bytes::numbers_at(block, at);
-    let flags = numbers.flags;
-    let variant = held_variant(numbers.kind, flags, numbers.value, numbers.transfer_length);
-    let cycle_bit = held_bytes::bit(flags, 1);
     TransferTrb {
-        variant: variant,
+        variant: held_variant(
+            numbers.kind,
+            numbers.flags,
+            numbers.value,
+            numbers.transfer_length,
+        ),
         addr: numbers.addr,
-        cycle_bit: cycle_bit,
+        cycle_bit: held_bytes::bit(numbers.flags, 1),
     }
 }
 
@@ -141,8 +148,7 @@ fn normal_at(block: &[u8], i: usize) -> bool
     requires { head_length + place_length * (i + 1) ≤ length block.now }
     ensures { result ≡ is_normal (place_of In (drop (head_length + place_length * i) block.now)).variant }
 {
-    let kind = block[HEAD + held_bytes::PLACE * i + 20];
-    kind as u32 == raw_trb::NORMAL
+    block[HEAD + held_bytes::PLACE * i + 20] == raw_trb::NORMAL
 }
 
 // Is none of the first `held` TRBs a Normal? The first Normal ends the search.
@@ -150,12 +156,10 @@ fn no_normal(block: &[u8], held: usize) -> bool
     requires { (held ≤ max_held) × (block_length ≤ length block.now) }
     ensures { result ≡ eqb (normals (take held (places block.now))) 0 }
 {
-    let mut i = 0;
-    while i < held {
+    for i in 0..held {
         if normal_at(block, i) {
             return false;
         }
-        i += 1;
     }
     true
 }
@@ -165,19 +169,7 @@ pub fn normals_seen(asked: bool, block: &[u8], held: usize) -> usize
     requires { (held ≤ max_held) × (block_length ≤ length block.now) }
     ensures { asked ≡ true → eqb result 0 ≡ eqb (normals (take held (places block.now))) 0 }
 {
-    if !asked {
-        return 0;
-    }
-    if no_normal(block, held) {
-        return 0;
-    }
-    1
-}
-
-fn one_if(so: bool) -> usize
-    ensures { result ≡ cond so 1 0 }
-{
-    if so { 1 } else { 0 }
+    (asked && !no_normal(block, held)) as usize
 }
 
 // How many of the first `held` TRBs are Normals.
@@ -186,11 +178,8 @@ pub fn count_normals(block: &[u8], held: usize) -> usize
     ensures { result ≡ normals (take held (places block.now)) }
 {
     let mut count = 0;
-    let mut i = 0;
-    while i < held {
-        let normal = normal_at(block, i);
-        count = count + one_if(normal);
-        i += 1;
+    for i in 0..held {
+        count += normal_at(block, i) as usize;
     }
     count
 }
@@ -201,9 +190,10 @@ fn normal_length_at(block: &[u8], i: usize) -> u32
     ensures { result ≡ length_of (normal_of (place_of In (drop (head_length + place_length * i) block.now)).variant) }
 {
     if normal_at(block, i) {
-        return length_at(block, HEAD + held_bytes::PLACE * i);
+        length_at(block, HEAD + held_bytes::PLACE * i)
+    } else {
+        0
     }
-    0
 }
 
 // S, the sum of the Normal lengths of the first `held` TRBs.
@@ -211,11 +201,9 @@ pub fn requested_length(block: &[u8], held: usize) -> u32
     requires { (held ≤ max_held) × (block_length ≤ length block.now) }
     ensures { result ≡ requested (take held (places block.now)) }
 {
-    let mut sum: u32 = 0;
-    let mut i = 0;
-    while i < held {
-        sum = sum + normal_length_at(block, i);
-        i += 1;
+    let mut sum = 0;
+    for i in 0..held {
+        sum += normal_length_at(block, i);
     }
     sum
 }
@@ -245,8 +233,7 @@ pub fn put_address(block: &mut [u8], addr: u64)
     requires { head_length ≤ length block.old }
     ensures { block.new ≡ patch block.old 8 (le_bytes 8 addr) }
 {
-    let cells = buffers::le64_bytes(addr);
-    buffers::copy_into(block, 8, &cells);
+    buffers::copy_into(block, 8, &addr.to_le_bytes());
 }
 
 // The first `held` places become blank.
@@ -262,6 +249,9 @@ pub fn put_ids(block: &mut [u8], endpoint_id: u8, slot_id: u8, mode: u8)
     requires { head_length ≤ length block.old }
     ensures { block.new ≡ patch block.old 0 (in_layout ∷ endpoint_id ∷ slot_id ∷ mode ∷ []) }
 {
-    let cells = [held_bytes::IN_LAYOUT, endpoint_id, slot_id, mode];
-    buffers::copy_into(block, 0, &cells);
+    buffers::copy_into(
+        block,
+        0,
+        &[held_bytes::IN_LAYOUT, endpoint_id, slot_id, mode],
+    );
 }

@@ -17,7 +17,7 @@ use Rattle.held.specs.declared.EndpointKind.TheVariants.{In}
 use Rattle.in_td.specs.Normals.{normal_of, length_of, requested}
 use Rattle.in_block.specs.Blocks.{held_of, stored}
 use Rattle.in_block.specs.Facts.{trb_test, facts_of, sound_block}
-use Rattle.in_block.specs.Outcomes.{endedTd, outcome_of}
+use Rattle.in_block.specs.Outcomes.{outcome_of}
 use Rattle.in_block.specs.declared.HeldTest.{HeldTest}
 use Rattle.in_block.specs.declared.InBlock.{InBlock}
 use Rattle.in_block.specs.declared.Outcome.{Outcome}

@@ -37,20 +37,19 @@ pub struct Completed {
 // ---- Creation
 
 // A fresh block for this endpoint of this slot, in this mode.
+#[tactic(auto, unfolding(crate::specs::Creation::creation, trb::specs::Questions::first_no, trb::specs::Answers::refusal_of))]
 pub fn create(endpoint_id: EndpointId, slot_id: SlotId, mode: InMode) -> Created
     ensures { Creates endpoint_id slot_id mode result }
 {
     if trb::ids_in_range(endpoint_id, slot_id) {
-        let block = in_block::fresh(endpoint_id, slot_id, mode);
         Created {
             answer: Answer::Accepted,
-            block: block,
+            block: in_block::fresh(endpoint_id, slot_id, mode),
         }
     } else {
-        let block = in_block::fresh(EndpointId(0), SlotId(0), mode);
         Created {
             answer: Answer::Refused(Refusal::IdOutOfRange),
-            block: block,
+            block: in_block::fresh(EndpointId(0), SlotId(0), mode),
         }
     }
 }

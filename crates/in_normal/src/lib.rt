@@ -8,7 +8,7 @@ ghost use Rattle.td_part.specs.Parts.{Within, of_normal, put_dma};
 ghost use Rattle.in_td.specs.Td.{ends_with, ending_normal, handle_normal};
 
 use in_td::{InTd, TdProcessed};
-use td_part::{TdInfo, TdProcessingState, TdProgress};
+use td_part::{TdInfo, TdProcessingState, TdProgress, TrbDmaInfo};
 use trb::{CompletionCode, InTrbProcessingStatus, NormalTrb, TrbProcessingResult};
 
 // The Normal at which a transfer failed.
@@ -17,19 +17,16 @@ fn fail(
     info: TdInfo,
     normals_left: usize,
     progress: TdProgress,
-    normal: NormalTrb,
-    addr: u64,
+    dma: TrbDmaInfo,
     code: CompletionCode,
     res: TrbProcessingResult,
 ) -> TdProcessed
     requires { (record_length * (progress.records + 2) ≤ length log.old) × Within info progress }
-    ensures { Meets (ends_with res normals_left (put_dma info progress (of_normal normal addr) true code)) progress.records log.old result log.new }
+    ensures { Meets (ends_with res normals_left (put_dma info progress dma true code)) progress.records log.old result log.new }
 {
-    let dma = td_part::of_normal(normal, addr);
-    let next = td_data::put_dma(log, info, progress, dma, true, code);
     TdProcessed {
-        progress: next,
-        normals_left: normals_left,
+        progress: td_data::put_dma(log, info, progress, dma, true, code),
+        normals_left,
         result: res,
     }
 }
@@ -47,48 +44,44 @@ fn ending_normal(
     requires { (record_length * (progress.records + 2) ≤ length log.old) × Within td.info progress }
     ensures { Meets (ending_normal td.status td.info normals_left progress normal addr cycle_bit) progress.records log.old result log.new }
 {
-    let info = td.info;
-    let status = td.status;
-    match status {
+    let dma = td_part::of_normal(normal, addr);
+    match td.status {
         InTrbProcessingStatus::Disconnect => fail(
             log,
-            info,
+            td.info,
             normals_left,
             progress,
-            normal,
-            addr,
+            dma,
             CompletionCode::UsbTransactionError,
             TrbProcessingResult::Disconnect,
         ),
         InTrbProcessingStatus::Stall => fail(
             log,
-            info,
+            td.info,
             normals_left,
             progress,
-            normal,
-            addr,
+            dma,
             CompletionCode::StallError,
             TrbProcessingResult::StallAt(addr, cycle_bit),
         ),
         InTrbProcessingStatus::TransactionError => fail(
             log,
-            info,
+            td.info,
             normals_left,
             progress,
-            normal,
-            addr,
+            dma,
             CompletionCode::UsbTransactionError,
             TrbProcessingResult::TransactionErrorAt(addr, cycle_bit),
         ),
-        InTrbProcessingStatus::Success => {
-            let dma = td_part::of_normal(normal, addr);
-            let next = td_data::realize_dma_trb(log, info, progress, dma);
-            in_td::going_on(normals_left, next)
-        }
+        InTrbProcessingStatus::Success => in_td::going_on(
+            normals_left,
+            td_data::realize_dma_trb(log, td.info, progress, dma),
+        ),
     }
 }
 
 // Ports `handle_normal_trb`.
+#[tactic(auto, unfolding(in_td::specs::Td::handle_normal))]
 pub fn handle_normal_trb(
     log: &mut [u8],
     td: InTd,
@@ -100,17 +93,14 @@ pub fn handle_normal_trb(
     requires { (record_length * (so_far.progress.records + 2) ≤ length log.old) × Within td.info so_far.progress }
     ensures { Meets (handle_normal td so_far normal addr cycle_bit) so_far.progress.records log.old result log.new }
 {
-    let info = td.info;
     let progress = so_far.progress;
-    let normals_left = so_far.normals_left;
-    let state = progress.state;
-    let behind = in_td::one_less(normals_left);
-    match state {
+    let behind = in_td::one_less(so_far.normals_left);
+    match progress.state {
         TdProcessingState::Default => {
-            let residual = td_part::residual_of(info, progress, normal.transfer_length);
-            if in_td::is_done(td, normals_left, residual) {
+            let residual = td_part::residual_of(td.info, progress, normal.transfer_length);
+            if in_td::is_done(td, so_far.normals_left, residual) {
                 let dma = td_part::of_normal(normal, addr);
-                let next = td_data::realize_dma_trb(log, info, progress, dma);
+                let next = td_data::realize_dma_trb(log, td.info, progress, dma);
                 in_td::going_on(behind, next)
             } else {
                 ending_normal(log, td, behind, progress, normal, addr, cycle_bit)
@@ -119,7 +109,7 @@ pub fn handle_normal_trb(
         TdProcessingState::ShortTransfer(missing) => {
             let next = td_report::repeat_short(
                 log,
-                info,
+                td.info,
                 progress,
                 missing,
                 normal.interrupt_on_completion,

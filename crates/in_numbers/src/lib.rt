@@ -19,6 +19,7 @@ use in_block::{BlockFacts, HeldTest, Outcome};
 use trb::{Answer, Refusal};
 
 // Questions 4, 21, 5 and 6, of a Normal behind `held` others.
+#[tactic(auto, unfolding(trb::specs::Questions::first_no))]
 pub fn ask_of_normal(
     held: usize,
     flags: u8,
@@ -45,6 +46,7 @@ pub fn ask_of_normal(
 }
 
 // Questions 4, 21, 5 and 6, of a TRB behind `held` others. Of any other than a Normal or Data Stage there is no length to ask about.
+#[tactic(auto, unfolding(held_bytes::specs::Numbers::variant_of, trb::specs::Questions::first_no))]
 fn ask_of_trb(
     held: usize,
     kind: u8,
@@ -56,29 +58,22 @@ fn ask_of_trb(
     requires { held ≤ max_held }
     ensures { number_of result ≡ first_no (trb_questions held (variant_of kind flags value transfer_length) regions) }
 {
-    let number = kind as u32;
-    if number == raw_trb::NORMAL {
-        return ask_of_normal(held, flags, value, transfer_length, regions);
-    }
-    if number == raw_trb::DATA_STAGE {
-        if trb::MAX_TRANSFER_LENGTH < transfer_length {
-            return Answer::Refused(Refusal::TransferTooLong);
+    match kind {
+        raw_trb::NORMAL => ask_of_normal(held, flags, value, transfer_length, regions),
+        raw_trb::DATA_STAGE => {
+            if trb::MAX_TRANSFER_LENGTH < transfer_length {
+                return Answer::Refused(Refusal::TransferTooLong);
+            }
+            Answer::Accepted
         }
-        return Answer::Accepted;
-    }
-    if number == raw_trb::EVENT_DATA {
-        if trb::MAX_HELD < held + 1 {
-            return Answer::Refused(Refusal::TooManyHeld);
+        raw_trb::EVENT_DATA | raw_trb::NO_OP => {
+            if trb::MAX_HELD < held + 1 {
+                return Answer::Refused(Refusal::TooManyHeld);
+            }
+            Answer::Accepted
         }
-        return Answer::Accepted;
+        _ => Answer::Accepted,
     }
-    if number == raw_trb::NO_OP {
-        if trb::MAX_HELD < held + 1 {
-            return Answer::Refused(Refusal::TooManyHeld);
-        }
-        return Answer::Accepted;
-    }
-    Answer::Accepted
 }
 
 // Questions 1, 13, 2 to 4, 21, 5 and 6, of a log of this length and guest memory in these regions.
@@ -90,8 +85,6 @@ pub fn ask_submission(
 ) -> Answer
     ensures { number_of result ≡ first_no (submission_questions log_length facts (trb_of numbers) regions) }
 {
-    let state = facts.state;
-    let held = facts.held;
     if log_length < trb::MIN_LOG {
         return Answer::Refused(Refusal::BufferTooShort);
     }
@@ -101,11 +94,11 @@ pub fn ask_submission(
     if !in_block::is_sound(facts) {
         return Answer::Refused(Refusal::UnsoundBlock);
     }
-    if !in_block::submission_due(state) {
+    if !in_block::submission_due(facts.state) {
         return Answer::Refused(Refusal::OutOfTurn);
     }
     ask_of_trb(
-        held,
+        facts.held,
         numbers.kind,
         numbers.flags,
         numbers.value,
@@ -117,27 +110,19 @@ pub fn ask_submission(
 // ---- What becomes of the TRB
 
 // The chain bit; of a kind without one, off.
+#[tactic(auto, unfolding(held_bytes::specs::Numbers::variant_of))]
 pub fn chain_of(numbers: TrbNumbers) -> bool
     ensures { result ≡ chain_of (trb_of numbers).variant }
 {
-    let number = numbers.kind as u32;
-    let chain = held_bytes::bit(numbers.flags, 2);
-    if number == raw_trb::NORMAL {
-        return chain;
-    }
-    if number == raw_trb::EVENT_DATA {
-        return chain;
-    }
-    if number == raw_trb::NO_OP {
-        return chain;
-    }
-    if number == raw_trb::DATA_STAGE {
-        return chain;
-    }
-    if number == raw_trb::STATUS_STAGE {
-        return chain;
-    }
-    false
+    let known = matches!(
+        numbers.kind,
+        raw_trb::NORMAL
+            | raw_trb::EVENT_DATA
+            | raw_trb::NO_OP
+            | raw_trb::DATA_STAGE
+            | raw_trb::STATUS_STAGE
+    );
+    known && held_bytes::bit(numbers.flags, 2)
 }
 
 // Of a TRB that is held: with chain off it ends a TD with so many Normals.
@@ -145,28 +130,23 @@ fn outcome_of_held(chain: bool, normals: usize) -> Outcome
     ensures { result ≡ cond chain Collect (cond (eqb normals 0) CompleteLocally Request) }
 {
     if chain {
-        return Outcome::Collect;
+        Outcome::Collect
+    } else if normals == 0 {
+        Outcome::CompleteLocally
+    } else {
+        Outcome::Request
     }
-    if normals == 0 {
-        return Outcome::CompleteLocally;
-    }
-    Outcome::Request
 }
 
 // Of a TRB behind those held, of which the loop found this.
+#[tactic(auto, unfolding(held_bytes::specs::Numbers::variant_of, in_block::specs::Outcomes::outcome_of))]
 pub fn outcome_of(found: HeldTest, numbers: TrbNumbers) -> Outcome
     ensures { result ≡ outcome_of found (trb_of numbers) }
 {
-    let number = numbers.kind as u32;
     let chain = held_bytes::bit(numbers.flags, 2);
-    if number == raw_trb::NORMAL {
-        return outcome_of_held(chain, 1);
+    match numbers.kind {
+        raw_trb::NORMAL => outcome_of_held(chain, 1),
+        raw_trb::EVENT_DATA | raw_trb::NO_OP => outcome_of_held(chain, found.normals),
+        _ => Outcome::Drop,
     }
-    if number == raw_trb::EVENT_DATA {
-        return outcome_of_held(chain, found.normals);
-    }
-    if number == raw_trb::NO_OP {
-        return outcome_of_held(chain, found.normals);
-    }
-    Outcome::Drop
 }

@@ -33,35 +33,29 @@ pub fn complete(
         return answer_numbers::completed_as(refused, 0);
     }
     let state = in_place_questions::state_of(block);
-    let ending = in_block::ending_of(state, res, data_length as u32);
-    match ending {
+    match in_block::ending_of(state, res, data_length as u32) {
         Ending::KeepCollecting => {
             in_place_store::keep(block);
-            return answer_numbers::completed_as(
-                CompletionAnswer::Completed(TrbProcessingResult::Ok),
-                0,
-            );
+            answer_numbers::completed_as(CompletionAnswer::Completed(TrbProcessingResult::Ok), 0)
         }
         Ending::Transfer(status, device_length) => {
             let td = in_place_walk::td_of(block, status, device_length);
             let processed = in_place_walk::walk(log, block, held as usize, td);
             in_place_store::free(block, held);
-            let progress = processed.progress;
-            let walked = processed.result;
-            return answer_numbers::completed_as(
-                CompletionAnswer::Completed(walked),
-                progress.records,
-            );
+            answer_numbers::completed_as(
+                CompletionAnswer::Completed(processed.result),
+                processed.progress.records,
+            )
         }
         Ending::ReportUnsupported(addr) => {
             let endpoint_id = in_bytes::endpoint_id(block);
             let slot_id = in_bytes::slot_id(block);
             in_endpoint::report_unsupported(log, addr, endpoint_id, slot_id);
             in_place_store::free(block, held);
-            return answer_numbers::completed_as(
+            answer_numbers::completed_as(
                 CompletionAnswer::Completed(TrbProcessingResult::TrbError),
                 1,
-            );
+            )
         }
     }
 }
@@ -70,19 +64,13 @@ pub fn complete(
 pub fn result_of(status: u8) -> InTrbProcessingResult
     ensures { result ≡ result_of status }
 {
-    if status == 0 {
-        return InTrbProcessingResult::Given(InTrbProcessingStatus::Success);
+    match status {
+        0 => InTrbProcessingResult::Given(InTrbProcessingStatus::Success),
+        1 => InTrbProcessingResult::Given(InTrbProcessingStatus::Stall),
+        2 => InTrbProcessingResult::Given(InTrbProcessingStatus::TransactionError),
+        3 => InTrbProcessingResult::Given(InTrbProcessingStatus::Disconnect),
+        _ => InTrbProcessingResult::NoneGiven,
     }
-    if status == 1 {
-        return InTrbProcessingResult::Given(InTrbProcessingStatus::Stall);
-    }
-    if status == 2 {
-        return InTrbProcessingResult::Given(InTrbProcessingStatus::TransactionError);
-    }
-    if status == 3 {
-        return InTrbProcessingResult::Given(InTrbProcessingStatus::Disconnect);
-    }
-    InTrbProcessingResult::NoneGiven
 }
 
 // Is a TD collected, no device result given, and does every question say yes? So it is behind every TRB of a TD but the last.
@@ -93,7 +81,7 @@ fn goes_on(log_length: usize, block: &[u8], status: u8, data_length: usize) -> b
     if status < 4 {
         return false;
     }
-    if !in_place_questions::is_sound_in(in_place_store::COLLECTING, block) {
+    if !in_place_questions::is_sound_in(in_bytes::COLLECTING, block) {
         return false;
     }
     if log_length < trb::MIN_LOG {
@@ -122,8 +110,7 @@ pub fn next_completion(
             0,
         );
     }
-    let result = result_of(status);
-    complete(log, block, result, data_length)
+    complete(log, block, result_of(status), data_length)
 }
 
 // ---- Creation and cancel
@@ -136,9 +123,7 @@ pub fn create(block: &mut [u8], endpoint_id: u8, slot_id: u8, mode: u8) -> u32
     if block.len() < in_bytes::BLOCK {
         return 1;
     }
-    let endpoint = EndpointId(endpoint_id);
-    let slot = SlotId(slot_id);
-    if trb::ids_in_range(endpoint, slot) {
+    if trb::ids_in_range(EndpointId(endpoint_id), SlotId(slot_id)) {
         in_place_store::make(block, endpoint_id, slot_id, mode);
         return 0;
     }

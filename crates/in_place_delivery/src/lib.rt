@@ -23,16 +23,13 @@ fn writes_inside(block: &[u8], held: usize, given: u32, regions: Regions) -> boo
     ensures { result ≡ writes_inside regions given (take held (places block.now)) }
 {
     let mut left = given;
-    let mut i = 0;
-    while i < held {
+    for i in 0..held {
         let one = in_bytes::trb_at(block, i);
-        let variant = one.variant;
-        let count = delivery::bytes_taken(variant, left);
-        if !delivery::write_inside(variant, count, regions) {
+        let count = delivery::bytes_taken(one.variant, left);
+        if !delivery::write_inside(one.variant, count, regions) {
             return false;
         }
-        left = left - count;
-        i += 1;
+        left -= count;
     }
     true
 }
@@ -88,8 +85,7 @@ fn deliver(
         return answer_numbers::completed_as(refused, 0);
     }
     let done = in_place::complete(log, block, res, data.len());
-    let records = done.records;
-    delivery::carry_out_first(log, records, data, low_base, low, high_base, high);
+    delivery::carry_out_first(log, done.records, data, low_base, low, high_base, high);
     done
 }
 
@@ -110,6 +106,14 @@ pub fn complete_and_carry_out(
     if block.len() < in_bytes::BLOCK {
         return answer_numbers::completed_as(CompletionAnswer::Refused(Refusal::BufferTooShort), 0);
     }
-    let result = in_place::result_of(status);
-    deliver(log, block, result, data, low_base, low, high_base, high)
+    deliver(
+        log,
+        block,
+        in_place::result_of(status),
+        data,
+        low_base,
+        low,
+        high_base,
+        high,
+    )
 }

@@ -20,8 +20,7 @@ pub fn state_of(block: &[u8]) -> TdBasedNormalSubmissionState
     requires { block_length ≤ length block.now }
     ensures { result ≡ (block_of block.now).state }
 {
-    let addr = buffers::le64(block, 8);
-    in_bytes::state_of(block[6], addr)
+    in_bytes::state_of(block[6], buffers::le64(block, 8))
 }
 
 // What the questions ask about. Of the TRBs held it is enough to know whether a block that awaits the device has a Normal.
@@ -32,18 +31,15 @@ pub fn facts_of(block: &[u8], state: TdBasedNormalSubmissionState) -> BlockFacts
     let held = buffers::le16(block, 4) as usize;
     let places = held::places_held(held);
     let normals = in_bytes::normals_seen(in_block::awaits_device(state), block, places);
-    let found = HeldTest {
-        sound: true,
-        normals: normals,
-    };
-    let endpoint_id = in_bytes::endpoint_id(block);
-    let slot_id = in_bytes::slot_id(block);
     BlockFacts {
-        endpoint_id: endpoint_id,
-        slot_id: slot_id,
-        state: state,
-        held: held,
-        found: found,
+        endpoint_id: in_bytes::endpoint_id(block),
+        slot_id: in_bytes::slot_id(block),
+        state,
+        held,
+        found: HeldTest {
+            sound: true,
+            normals,
+        },
     }
 }
 
@@ -52,15 +48,9 @@ pub fn is_sound_in(number: u8, block: &[u8]) -> bool
     requires { (block_length ≤ length block.now) × (number < 2) }
     ensures { result ≡ true → SoundIn number block.now }
 {
-    if block[6] != number {
-        return false;
-    }
-    if trb::MAX_HELD < buffers::le16(block, 4) as usize {
-        return false;
-    }
-    let endpoint_id = in_bytes::endpoint_id(block);
-    let slot_id = in_bytes::slot_id(block);
-    trb::ids_in_range(endpoint_id, slot_id)
+    block[6] == number
+        && buffers::le16(block, 4) as usize <= trb::MAX_HELD
+        && trb::ids_in_range(in_bytes::endpoint_id(block), in_bytes::slot_id(block))
 }
 
 // Questions 1, 13, 2 to 4, 21, 5 and 6, of the block that the bytes are.
@@ -73,8 +63,7 @@ pub fn ask_submission(
     requires { block_length ≤ length block.now }
     ensures { number_of result ≡ first_no (submission_questions log_length (facts_of (block_of block.now)) (trb_of numbers) regions) }
 {
-    let state = state_of(block);
-    let facts = facts_of(block, state);
+    let facts = facts_of(block, state_of(block));
     in_numbers::ask_submission(log_length, facts, numbers, regions)
 }
 
@@ -88,7 +77,6 @@ pub fn ask_completion(
     requires { block_length ≤ length block.now }
     ensures { number_of result ≡ first_no (completion_questions log_length (facts_of (block_of block.now)) res data_length) }
 {
-    let state = state_of(block);
-    let facts = facts_of(block, state);
+    let facts = facts_of(block, state_of(block));
     in_questions::ask_completion(log_length, facts, res, data_length)
 }

@@ -62,15 +62,11 @@ fn look_at_td(row: &[u8], first: usize) -> TdLooked
     let mut more = true;
     while more {
         let t = row_bytes::trb_at(row, end);
-        let variant = t.variant;
         asked = row_walk::asked_more(asked, t);
-        more = trb::chain_of(variant);
+        more = trb::chain_of(t.variant);
         end += 1;
     }
-    TdLooked {
-        asked: asked,
-        end: end,
-    }
+    TdLooked { asked, end }
 }
 
 // Walks the TDs of a row, until one fails.
@@ -87,9 +83,8 @@ fn walk_row(
 {
     let tds = row_bytes::result_count(results);
     let mut so_far = row_walk::at_start_of_row();
-    let mut first: usize = 0;
-    let mut i: usize = 0;
-    while i < tds {
+    let mut first = 0;
+    for i in 0..tds {
         let given = row_bytes::result_at(results, i);
         let looked = look_at_td(row, first);
         let asked = looked.asked;
@@ -114,12 +109,10 @@ fn walk_row(
             from,
         );
         so_far = row_walk::td_done(so_far, given, processed);
-        let result = processed.result;
-        if in_td::is_error(result) {
+        if in_td::is_error(processed.result) {
             return so_far;
         }
         first = end;
-        i += 1;
     }
     so_far
 }
@@ -132,23 +125,13 @@ fn is_taken(row: &[u8], at: usize, regions: Regions) -> bool
     requires { at + place_length ≤ length row.now }
     ensures { result ≡ true → Taken (drop at row.now) regions }
 {
-    let kind = row[at + 20];
     let flags = row[at + 21];
-    if kind as u32 != raw_trb::NORMAL {
-        return false;
-    }
-    if !held_bytes::bit(flags, 2) {
-        return false;
-    }
-    if held_bytes::bit(flags, 16) {
-        return false;
-    }
     let length = buffers::le32(row, at + 16);
-    if trb::MAX_TRANSFER_LENGTH < length {
-        return false;
-    }
-    let value = buffers::le64(row, at + 8);
-    guest_memory::check_range(regions, value, length)
+    row[at + 20] == raw_trb::NORMAL
+        && held_bytes::bit(flags, 2)
+        && !held_bytes::bit(flags, 16)
+        && length <= trb::MAX_TRANSFER_LENGTH
+        && guest_memory::check_range(regions, buffers::le64(row, at + 8), length)
 }
 
 // With one Normal more, chained and taken.
@@ -159,11 +142,8 @@ fn with_normal(test: RowTest) -> RowTest
     RowTest {
         asked: Answer::Accepted,
         held: test.held + 1,
-        supported: test.supported,
-        tds: test.tds,
         has_normal: true,
-        given_rightly: test.given_rightly,
-        given: test.given,
+        ..test
     }
 }
 
@@ -172,11 +152,8 @@ fn test_at(test: RowTest, row: &[u8], j: usize, results: &[u8], regions: Regions
     requires { (j < length (trbs_in row.now)) × ((test.held < max_held) × ((test.tds ≤ max_row) × (test.given ≤ max_row * 2 ^ 32))) }
     ensures { (result ≡ tested_trb regions test (get_or (trbs_in row.now) j past_end) (get_or (results_in results.now) test.tds past_results)) × (result.given ≤ test.given + 2 ^ 32) }
 {
-    let asked = test.asked;
-    if trb::is_accepted(asked) {
-        if is_taken(row, held_bytes::PLACE * j, regions) {
-            return with_normal(test);
-        }
+    if trb::is_accepted(test.asked) && is_taken(row, held_bytes::PLACE * j, regions) {
+        return with_normal(test);
     }
     let t = row_bytes::trb_at(row, j);
     let given = row_bytes::result_at(results, test.tds);
@@ -189,10 +166,8 @@ fn test_row(row: &[u8], results: &[u8], count: usize, regions: Regions) -> RowTe
     ensures { result ≡ tested_row regions (results_in results.now) untested (take count (trbs_in row.now)) }
 {
     let mut test = row_questions::untested();
-    let mut j: usize = 0;
-    while j < count {
+    for j in 0..count {
         test = test_at(test, row, j, results, regions);
-        j += 1;
     }
     test
 }
@@ -230,7 +205,7 @@ fn answered_as(answer: CompletionAnswer, finished: usize, records: usize) -> Row
         code: answered.code,
         located: answered.located,
         cycle_bit: answered.cycle_bit,
-        finished: finished,
+        finished,
         records: answered.records,
         address: answered.address,
     }
@@ -257,8 +232,7 @@ fn complete(
     let slot_id = in_bytes::slot_id(block);
     let mode = in_bytes::mode_of(block[3]);
     let walked = walk_row(log, endpoint_id, slot_id, mode, row, results);
-    let result = walked.result;
-    let answer = in_endpoint::completion_answer(asked, result);
+    let answer = in_endpoint::completion_answer(asked, walked.result);
     answered_as(answer, walked.finished, walked.records)
 }
 

@@ -16,18 +16,6 @@ ghost use Rattle.in_place_store.specs.Becomes.{Becomes};
 
 use held_bytes::TrbNumbers;
 
-// ---- States by number
-
-pub const DUE: u8 = 0;
-
-pub const COLLECTING: u8 = 1;
-
-pub const AWAITING: u8 = 2;
-
-pub const LOCAL: u8 = 3;
-
-pub const UNSUPPORTED: u8 = 4;
-
 // The TRB is held too, and the block in this state.
 pub fn store(block: &mut [u8], held: u16, numbers: TrbNumbers, state: u8)
     requires block_length_in_bounds { (block_length ≤ length block.old) × ((held ≡ held_count block.old) × (held < max_held)) }
@@ -43,10 +31,9 @@ pub fn drop_held(block: &mut [u8], held: u16, addr: u64)
     requires { (block_length ≤ length block.old) × (held ≡ held_count block.old) }
     ensures { Becomes block.old (emptied (block_of block.old) (UnsupportedTrb addr)) block.new }
 {
-    let places = held::places_held(held as usize);
     in_bytes::put_address(block, addr);
-    in_bytes::blank_places(block, places);
-    in_bytes::put_head(block, UNSUPPORTED, 0);
+    in_bytes::blank_places(block, held::places_held(held as usize));
+    in_bytes::put_head(block, in_bytes::UNSUPPORTED, 0);
 }
 
 // Nothing is held any more, and a submission is due.
@@ -54,9 +41,8 @@ pub fn free(block: &mut [u8], held: u16)
     requires { (block_length ≤ length block.old) × (held ≡ held_count block.old) }
     ensures { Becomes block.old (emptied (block_of block.old) SubmissionDue) block.new }
 {
-    let places = held::places_held(held as usize);
-    in_bytes::blank_places(block, places);
-    in_bytes::put_head(block, DUE, 0);
+    in_bytes::blank_places(block, held::places_held(held as usize));
+    in_bytes::put_head(block, in_bytes::DUE, 0);
 }
 
 // The TRBs held are kept, and a submission is due.
@@ -64,7 +50,7 @@ pub fn keep(block: &mut [u8])
     requires { block_length ≤ length block.old }
     ensures { Becomes block.old (with_state (block_of block.old) SubmissionDue) block.new }
 {
-    block[6] = DUE;
+    block[6] = in_bytes::DUE;
 }
 
 // The bytes become a fresh block with these ids, in this mode.
@@ -74,5 +60,5 @@ pub fn make(block: &mut [u8], endpoint_id: u8, slot_id: u8, mode: u8)
 {
     in_bytes::put_ids(block, endpoint_id, slot_id, mode);
     in_bytes::blank_places(block, trb::MAX_HELD);
-    in_bytes::put_head(block, DUE, 0);
+    in_bytes::put_head(block, in_bytes::DUE, 0);
 }

@@ -28,7 +28,7 @@ fn outcome_of(block: &[u8], held: usize, numbers: TrbNumbers) -> Outcome
     let normals = in_bytes::normals_seen(ends, block, held);
     let found = HeldTest {
         sound: true,
-        normals: normals,
+        normals,
     };
     in_numbers::outcome_of(found, numbers)
 }
@@ -40,9 +40,12 @@ fn log_request(log: &mut [u8], block: &[u8], held: usize)
 {
     let first = in_bytes::trb_at(block, 0);
     let length = in_bytes::requested_length(block, held);
-    let endpoint_id = in_bytes::endpoint_id(block);
-    let slot_id = in_bytes::slot_id(block);
-    let request = call_log::in_request(first.addr, length, endpoint_id, slot_id);
+    let request = call_log::in_request(
+        first.addr,
+        length,
+        in_bytes::endpoint_id(block),
+        in_bytes::slot_id(block),
+    );
     call_log::put_record(log, 0, request);
 }
 
@@ -56,24 +59,23 @@ fn submit(log: &mut [u8], block: &mut [u8], numbers: TrbNumbers, regions: Region
     if !trb::is_accepted(answer) {
         return answer_numbers::answered_as(answer, 0);
     }
-    let outcome = outcome_of(block, held as usize, numbers);
-    match outcome {
+    match outcome_of(block, held as usize, numbers) {
         Outcome::Drop => {
             in_place_store::drop_held(block, held, numbers.addr);
-            return answer_numbers::answered_as(answer, 0);
+            answer_numbers::answered_as(answer, 0)
         }
         Outcome::Collect => {
-            in_place_store::store(block, held, numbers, in_place_store::COLLECTING);
-            return answer_numbers::answered_as(answer, 0);
+            in_place_store::store(block, held, numbers, in_bytes::COLLECTING);
+            answer_numbers::answered_as(answer, 0)
         }
         Outcome::CompleteLocally => {
-            in_place_store::store(block, held, numbers, in_place_store::LOCAL);
-            return answer_numbers::answered_as(answer, 0);
+            in_place_store::store(block, held, numbers, in_bytes::LOCAL);
+            answer_numbers::answered_as(answer, 0)
         }
         Outcome::Request => {
-            in_place_store::store(block, held, numbers, in_place_store::AWAITING);
+            in_place_store::store(block, held, numbers, in_bytes::AWAITING);
             log_request(log, block, held as usize + 1);
-            return answer_numbers::answered_as(answer, 1);
+            answer_numbers::answered_as(answer, 1)
         }
     }
 }
@@ -84,11 +86,7 @@ fn submit(log: &mut [u8], block: &mut [u8], numbers: TrbNumbers, regions: Region
 fn share_none(regions: Regions) -> bool
     ensures { result ≡ not (share_an_address regions) }
 {
-    let high = regions.high;
-    if high.len == 0 {
-        return true;
-    }
-    !guest_memory::share_an_address(regions)
+    regions.high.len == 0 || !guest_memory::share_an_address(regions)
 }
 
 // Is it a Normal with chain on, and does every question say yes? So it is of every TRB of a long TD but the last, in a few tests.
@@ -96,13 +94,13 @@ fn is_collected(log_length: usize, block: &[u8], numbers: TrbNumbers, regions: R
     requires { block_length ≤ length block.now }
     ensures { result ≡ true → Collected log_length block.now (trb_of numbers) regions }
 {
-    if numbers.kind as u32 != raw_trb::NORMAL {
+    if numbers.kind != raw_trb::NORMAL {
         return false;
     }
     if !held_bytes::bit(numbers.flags, 2) {
         return false;
     }
-    if !in_place_questions::is_sound_in(in_place_store::DUE, block) {
+    if !in_place_questions::is_sound_in(in_bytes::DUE, block) {
         return false;
     }
     if log_length < trb::MIN_LOG {
@@ -140,7 +138,7 @@ pub fn submit_trb(
     let regions = guest_memory::guest_regions(low_base, low_len, high_base, high_len);
     if is_collected(log.len(), block, numbers, regions) {
         let held = buffers::le16(block, 4);
-        in_place_store::store(block, held, numbers, in_place_store::COLLECTING);
+        in_place_store::store(block, held, numbers, in_bytes::COLLECTING);
         return answer_numbers::answered_as(Answer::Accepted, 0);
     }
     submit(log, block, numbers, regions)

@@ -24,8 +24,11 @@ pub fn td_of(block: &[u8], status: InTrbProcessingStatus, data_length: u32) -> I
     requires { block_length ≤ length block.now }
     ensures { result ≡ in_td (endpoint_of block.now) (slot_of block.now) (block_of block.now).mode status data_length }
 {
-    let endpoint_id = in_bytes::endpoint_id(block);
-    let slot_id = in_bytes::slot_id(block);
-    let mode = in_bytes::mode_of(block[3]);
-    in_td::td_of(endpoint_id, slot_id, mode, status, data_length)
+    in_td::td_of(
+        in_bytes::endpoint_id(block),
+        in_bytes::slot_id(block),
+        in_bytes::mode_of(block[3]),
+        status,
+        data_length,
+    )
 }

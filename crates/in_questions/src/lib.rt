@@ -13,6 +13,7 @@ use in_block::BlockFacts;
 use trb::{Answer, InTrbProcessingResult, Refusal, TransferTrb, TransferTrbVariant};
 
 // Questions 4, 21, 5 and 6, of a TRB behind `held` others.
+#[tactic(auto, unfolding(trb::specs::Questions::first_no))]
 pub fn ask_of_trb(held: usize, variant: TransferTrbVariant, regions: Regions) -> Answer
     requires { held ≤ max_held }
     ensures { number_of result ≡ first_no (trb_questions held variant regions) }
@@ -36,6 +37,7 @@ pub fn ask_of_trb(held: usize, variant: TransferTrbVariant, regions: Regions) ->
 }
 
 // Questions 1, 13, 2 to 4, 21, 5 and 6, of a log of this length and guest memory in these regions.
+#[tactic(auto, unfolding(trb::specs::Questions::first_no, crate::specs::Questions::submission_questions))]
 pub fn ask_submission(
     log_length: usize,
     facts: BlockFacts,
@@ -44,9 +46,6 @@ pub fn ask_submission(
 ) -> Answer
     ensures { number_of result ≡ first_no (submission_questions log_length facts t regions) }
 {
-    let state = facts.state;
-    let held = facts.held;
-    let variant = t.variant;
     if log_length < trb::MIN_LOG {
         return Answer::Refused(Refusal::BufferTooShort);
     }
@@ -56,23 +55,21 @@ pub fn ask_submission(
     if !in_block::is_sound(facts) {
         return Answer::Refused(Refusal::UnsoundBlock);
     }
-    if !in_block::submission_due(state) {
+    if !in_block::submission_due(facts.state) {
         return Answer::Refused(Refusal::OutOfTurn);
     }
-    ask_of_trb(held, variant, regions)
+    ask_of_trb(facts.held, t.variant, regions)
 }
 
 // Is a device result given?
 fn is_given(res: InTrbProcessingResult) -> bool
     ensures { result ≡ is_given res }
 {
-    match res {
-        InTrbProcessingResult::NoneGiven => false,
-        InTrbProcessingResult::Given(_) => true,
-    }
+    matches!(res, InTrbProcessingResult::Given(_))
 }
 
 // Questions 1, 2, 3, 8 and 9, of a log and device data of these lengths.
+#[tactic(auto, unfolding(trb::specs::Questions::first_no, crate::specs::Questions::completion_questions))]
 pub fn ask_completion(
     log_length: usize,
     facts: BlockFacts,
@@ -81,17 +78,16 @@ pub fn ask_completion(
 ) -> Answer
     ensures { number_of result ≡ first_no (completion_questions log_length facts res data_length) }
 {
-    let state = facts.state;
     if log_length < trb::MIN_LOG {
         return Answer::Refused(Refusal::BufferTooShort);
     }
     if !in_block::is_sound(facts) {
         return Answer::Refused(Refusal::UnsoundBlock);
     }
-    if in_block::submission_due(state) {
+    if in_block::submission_due(facts.state) {
         return Answer::Refused(Refusal::OutOfTurn);
     }
-    if !trb::agree(is_given(res), in_block::awaits_device(state)) {
+    if is_given(res) != in_block::awaits_device(facts.state) {
         return Answer::Refused(Refusal::DeviceResultMismatch);
     }
     if trb::MAX_DATA < data_length {

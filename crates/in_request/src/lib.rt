@@ -1,8 +1,7 @@
 // What an IN submission asks of a TRB and of the TD that it ends: its guest range, and S, the bytes to request.
 #![tactic(auto)]
 
-ghost use Rattle.std.specs.Prelude.{◌≡◌, ◌<◌, ◌≤◌, ◌^◌, take};
-ghost use Rattle.trb.specs.Limits.{max_held};
+ghost use Rattle.std.specs.Prelude.{◌≡◌, ◌<◌, ◌^◌};
 ghost use Rattle.in_td.specs.Normals.{normal_of, length_of, requested};
 ghost use Rattle.in_request.specs.Requests.{in_guest_memory};
 
@@ -14,18 +13,12 @@ pub fn in_guest_memory(variant: TransferTrbVariant, regions: Regions) -> bool
     ensures { result ≡ in_guest_memory variant regions }
 {
     match variant {
-        TransferTrbVariant::SetupStage(_) => true,
-        TransferTrbVariant::DataStage(_) => true,
-        TransferTrbVariant::StatusStage(_) => true,
         TransferTrbVariant::Normal(normal) => guest_memory::range_inside(
             regions,
             normal.data_pointer,
             normal.transfer_length,
         ),
-        TransferTrbVariant::EventData(_) => true,
-        TransferTrbVariant::NoOp(_) => true,
-        TransferTrbVariant::Isoch => true,
-        TransferTrbVariant::Unrecognized => true,
+        _ => true,
     }
 }
 
@@ -34,29 +27,19 @@ pub fn normal_length(variant: TransferTrbVariant) -> u32
     ensures { result ≡ length_of (normal_of variant) }
 {
     match variant {
-        TransferTrbVariant::SetupStage(_) => 0,
-        TransferTrbVariant::DataStage(_) => 0,
-        TransferTrbVariant::StatusStage(_) => 0,
         TransferTrbVariant::Normal(normal) => normal.transfer_length,
-        TransferTrbVariant::EventData(_) => 0,
-        TransferTrbVariant::NoOp(_) => 0,
-        TransferTrbVariant::Isoch => 0,
-        TransferTrbVariant::Unrecognized => 0,
+        _ => 0,
     }
 }
 
-// S, the sum of the Normal lengths of the first `held` TRBs.
-pub fn requested_length(trbs: [TransferTrb; trb::MAX_HELD], held: usize) -> u32
-    requires { (held ≤ max_held) × (requested (take held trbs) < 2 ^ 32) }
-    ensures { result ≡ requested (take held trbs) }
+// S, the sum of the Normal lengths of these TRBs.
+pub fn requested_length(trbs: &[TransferTrb]) -> u32
+    requires { requested trbs.now < 2 ^ 32 }
+    ensures { result ≡ requested trbs.now }
 {
-    let mut sum: u32 = 0;
-    let mut i = 0;
-    while i < held {
-        let t = trbs[i];
-        let variant = t.variant;
-        sum = sum + normal_length(variant);
-        i += 1;
+    let mut sum = 0;
+    for t in trbs {
+        sum += normal_length(t.variant);
     }
     sum
 }

@@ -35,8 +35,8 @@ pub fn going_on(normals_left: usize, progress: TdProgress) -> TdProcessed
     ensures { result ≡ going_on normals_left progress }
 {
     TdProcessed {
-        progress: progress,
-        normals_left: normals_left,
+        progress,
+        normals_left,
         result: TrbProcessingResult::Ok,
     }
 }
@@ -47,12 +47,7 @@ fn fails_at_last(mode: InMode, status: InTrbProcessingStatus, normals_left: usiz
 {
     match mode {
         InMode::AsPorted => false,
-        InMode::Strict => match status {
-            InTrbProcessingStatus::Disconnect => normals_left == 1,
-            InTrbProcessingStatus::Stall => normals_left == 1,
-            InTrbProcessingStatus::TransactionError => normals_left == 1,
-            InTrbProcessingStatus::Success => false,
-        },
+        InMode::Strict => { normals_left == 1 && !matches!(status, InTrbProcessingStatus::Success) }
     }
 }
 
@@ -60,39 +55,21 @@ fn fails_at_last(mode: InMode, status: InTrbProcessingStatus, normals_left: usiz
 pub fn is_done(td: InTd, normals_left: usize, residual: u32) -> bool
     ensures { result ≡ is_done td normals_left residual }
 {
-    let mode = td.mode;
-    let status = td.status;
-    if residual == 0 {
-        !fails_at_last(mode, status, normals_left)
-    } else {
-        false
-    }
+    residual == 0 && !fails_at_last(td.mode, td.status, normals_left)
 }
 
 // The Normals behind this one.
 pub fn one_less(normals_left: usize) -> usize
     ensures { result ≡ normals_left - 1 }
 {
-    if normals_left == 0 {
-        0
-    } else {
-        normals_left - 1
-    }
+    normals_left.saturating_sub(1)
 }
 
 // Has processing ended with an error?
 pub fn is_error(res: TrbProcessingResult) -> bool
     ensures { result ≡ is_error res }
 {
-    match res {
-        TrbProcessingResult::Ok => false,
-        TrbProcessingResult::Stall => true,
-        TrbProcessingResult::StallAt(_, _) => true,
-        TrbProcessingResult::TrbError => true,
-        TrbProcessingResult::TransactionError => true,
-        TrbProcessingResult::TransactionErrorAt(_, _) => true,
-        TrbProcessingResult::Disconnect => true,
-    }
+    !matches!(res, TrbProcessingResult::Ok)
 }
 
 // The TD of a completion.
@@ -105,15 +82,14 @@ pub fn td_of(
 ) -> InTd
     ensures { result ≡ in_td endpoint_id slot_id mode status data_length }
 {
-    let info = TdInfo {
-        endpoint_id: endpoint_id,
-        slot_id: slot_id,
-        data_length: data_length,
-    };
     InTd {
-        info: info,
-        status: status,
-        mode: mode,
+        info: TdInfo {
+            endpoint_id,
+            slot_id,
+            data_length,
+        },
+        status,
+        mode,
     }
 }
 

@@ -11,54 +11,39 @@ use call_log::Record;
 const LENGTH_END: u64 = 4294967296;
 
 // Is the record a write of 0 bytes?
+#[tactic(auto, unfolding(crate::specs::Compact::empty_write))]
 pub fn is_empty_write(record: Record) -> bool
     ensures { result ≡ empty_write «record» }
 {
-    if record.kind == call_log::KIND_WRITE {
-        record.length == 0
-    } else {
-        false
-    }
+    record.kind == call_log::KIND_WRITE && record.length == 0
 }
 
 // Are both records writes, of the same endpoint and slot?
+#[tactic(auto, unfolding(crate::specs::Compact::same_endpoint_writes))]
 fn same_endpoint_writes(first: Record, second: Record) -> bool
     ensures { result ≡ same_endpoint_writes first second }
 {
-    if first.kind != call_log::KIND_WRITE {
-        return false;
-    }
-    if second.kind != call_log::KIND_WRITE {
-        return false;
-    }
-    if first.endpoint_id.0 != second.endpoint_id.0 {
-        return false;
-    }
-    first.slot_id.0 == second.slot_id.0
+    first.kind == call_log::KIND_WRITE
+        && second.kind == call_log::KIND_WRITE
+        && first.endpoint_id.0 == second.endpoint_id.0
+        && first.slot_id.0 == second.slot_id.0
 }
 
 // Does the second write go on where the first ends, in guest address and in data start? No sum leaves its 64 bits.
+#[tactic(auto, unfolding(crate::specs::Compact::goes_on))]
 fn goes_on(first: Record, second: Record) -> bool
     ensures { result ≡ goes_on first second }
 {
-    if second.address < first.address {
-        return false;
-    }
-    if second.address - first.address != first.length as u64 {
-        return false;
-    }
-    first.start as u64 + first.length as u64 == second.start as u64
+    first.address.checked_add(first.length as u64) == Some(second.address)
+        && first.start as u64 + first.length as u64 == second.start as u64
 }
 
 // Is the second record to be joined to the first?
+#[tactic(auto, unfolding(crate::specs::Compact::joins))]
 pub fn joins(first: Record, second: Record) -> bool
     ensures { result ≡ joins first second }
 {
-    if !same_endpoint_writes(first, second) {
-        return false;
-    }
-    if !goes_on(first, second) {
-        return false;
-    }
-    (first.length as u64 + second.length as u64) < LENGTH_END
+    same_endpoint_writes(first, second)
+        && goes_on(first, second)
+        && first.length as u64 + (second.length as u64) < LENGTH_END
 }

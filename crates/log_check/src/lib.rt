@@ -5,16 +5,14 @@ ghost use Rattle.std.specs.Prelude.{◌≡◌};
 ghost use Rattle.log_check.specs.WellFormed.{kind_known, well_formed};
 
 // Is the kind of a record 1, 2 or 3?
+#[tactic(auto, unfolding(crate::specs::WellFormed::kind_known))]
 fn kind_known(kind: u8) -> bool
     ensures { result ≡ kind_known kind }
 {
-    if kind == call_log::KIND_WRITE {
-        return true;
-    }
-    if kind == call_log::KIND_EVENT {
-        return true;
-    }
-    kind == call_log::KIND_REQUEST
+    matches!(
+        kind,
+        call_log::KIND_WRITE | call_log::KIND_EVENT | call_log::KIND_REQUEST
+    )
 }
 
 // Is the log a multiple of 32 bytes with every kind 1, 2 or 3?
@@ -24,13 +22,10 @@ pub fn well_formed(log: &[u8]) -> bool
     if log.len() % trb::RECORD_LENGTH != 0 {
         return false;
     }
-    let records = log.len() / trb::RECORD_LENGTH;
-    let mut index = 0;
-    while index < records {
+    for index in 0..log.len() / trb::RECORD_LENGTH {
         if !kind_known(log[trb::RECORD_LENGTH * index]) {
             return false;
         }
-        index += 1;
     }
     true
 }

@@ -1,12 +1,11 @@
 -- 02, R-9: what compacting a log in its own buffer answers, and the buffer afterwards. Assumes nothing.
-use Rattle.std.specs.Prelude.{ℕ, ◌*◌, ◌-◌, ◌≤◌, Bool, ◌≡◌, List, [], ◌∷◌, ◌++◌, length, replicate}
+use Rattle.std.specs.Prelude.{ℕ, ◌*◌, ◌-◌, ◌≤◌, Bool, ◌≡◌, List, [], ◌∷◌, ◌++◌, length, replicate, Result, Ok, Err}
 use Rattle.trb.specs.Answers.{refusal_of}
 use Rattle.trb.specs.Limits.{record_length}
 use Rattle.trb.specs.Questions.{first_no, after_questions}
 use Rattle.trb.specs.Refusals.{refusal_number}
 use Rattle.log_check.specs.WellFormed.{well_formed}
-use Rattle.log_compact.specs.declared.CompactAnswer.{CompactAnswer}
-use Rattle.log_compact.specs.declared.CompactAnswer.TheVariants.{Kept, Refused}
+use Rattle.trb.specs.declared.Refusal.{Refusal}
 use Rattle.kept_records.specs.Rows.{rows_in, rows_of, bytes_of}
 use Rattle.kept_records.specs.Compact.{compacted}
 
@@ -25,24 +24,24 @@ unfoldable pub padded_to : ℕ → List (List ℕ) → List ℕ
 padded_to n rs = bytes_of rs ++ replicate (n - record_length * length rs) 0
 
 -- the number of an answer: 0 where the log is compacted
-abbrev pub compact_number : CompactAnswer → ℕ
-compact_number (Kept n) = 0
-compact_number (Refused r) = refusal_number r
+abbrev pub compact_number : Result ℕ Refusal → ℕ
+compact_number (Ok n) = 0
+compact_number (Err r) = refusal_number r
 
 -- 02, R-9: a malformed log is refused with 10
 abbrev pub compact_questions : List ℕ → List (Bool × ℕ)
 compact_questions log = (well_formed log, 10) ∷ []
 
 -- 02, R-9: the new count is returned
-abbrev pub answer_of : List ℕ → CompactAnswer
-answer_of log = after_questions (compact_questions log) (λ n. Refused (refusal_of n)) (Kept (length (compacted (rows_of log))))
+abbrev pub answer_of : List ℕ → Result ℕ Refusal
+answer_of log = after_questions (compact_questions log) (λ n. Err (refusal_of n)) (Ok (length (compacted (rows_of log))))
 
 -- 02, R-9: freed records at the end are zeroed; a log that is refused is unchanged
 abbrev pub log_after : List ℕ → List ℕ
 log_after log = after_questions (compact_questions log) (λ n. log) (padded_to (length log) (compacted (rows_of log)))
 
 -- of a call of compact with a log: it answered r and left log'
-pub record Compacts (log : List ℕ) (r : CompactAnswer) (log' : List ℕ) : Type 0 where
+pub record Compacts (log : List ℕ) (r : Result ℕ Refusal) (log' : List ℕ) : Type 0 where
   pub number : compact_number r ≡ first_no (compact_questions log)
   pub answer : r ≡ answer_of log
   pub after : log' ≡ log_after log

@@ -14,22 +14,12 @@ use trb::Refusal;
 // Where a record's length stands in its row.
 const LENGTH_OFFSET: usize = 16;
 
-// What compacting answers: how many records are kept.
-#[derive(Clone, Copy)]
-pub enum CompactAnswer {
-    Kept(usize),
-    Refused(Refusal),
-}
-
 // Is the record to be joined to the last of the first `kept` rows?
 fn joins_last(log: &[u8], kept: usize, record: Record) -> bool
     requires { record_length * kept ≤ length log.now }
     ensures { result ≡ joins_last (rows_in kept log.now) «record» }
 {
-    if kept == 0 {
-        return false;
-    }
-    kept_records::joins(call_log::read_record(log, kept - 1), record)
+    0 < kept && kept_records::joins(call_log::read_record(log, kept - 1), record)
 }
 
 // The bytes of row number `index`.
@@ -40,7 +30,7 @@ fn row_at(log: &[u8], index: usize) -> [u8; 32]
     let start = trb::RECORD_LENGTH * index;
     let end = start + trb::RECORD_LENGTH;
     let mut row = [0u8; 32];
-    buffers::copy_into(&mut row, 0, &log[start..end]);
+    row.copy_from_slice(&log[start..end]);
     row
 }
 
@@ -58,17 +48,11 @@ fn set_length(log: &mut [u8], index: usize, count: u32)
     requires { record_length * (index + 1) ≤ length log.old }
     ensures { log.new ≡ patch log.old (record_length * index) (with_length count (row_at log.old index)) }
 {
-    let n0 = count;
-    let n1 = n0 / 256;
-    let n2 = n1 / 256;
-    let n3 = n2 / 256;
-    let cells = [
-        (n0 % 256) as u8,
-        (n1 % 256) as u8,
-        (n2 % 256) as u8,
-        (n3 % 256) as u8,
-    ];
-    buffers::copy_into(log, trb::RECORD_LENGTH * index + LENGTH_OFFSET, &cells);
+    buffers::copy_into(
+        log,
+        trb::RECORD_LENGTH * index + LENGTH_OFFSET,
+        &count.to_le_bytes(),
+    );
 }
 
 // Joins the record to the last of the first `kept` rows.
@@ -102,37 +86,31 @@ fn take_row(log: &mut [u8], kept: usize, index: usize) -> usize
 fn keep_rows(log: &mut [u8]) -> usize
     ensures { RowsKept log.old result log.new }
 {
-    let records = log.len() / trb::RECORD_LENGTH;
     let mut kept = 0;
-    let mut index = 0;
-    while index < records {
+    for index in 0..log.len() / trb::RECORD_LENGTH {
         kept = take_row(log, kept, index);
-        index += 1;
     }
     kept
 }
 
 // Zeroes the bytes from `start` on.
+#[tactic(auto, unfolding(kept_records::specs::Rows::zeroed_from))]
 fn clear_from(log: &mut [u8], start: usize)
     requires { start ≤ length log.old }
     ensures { log.new ≡ zeroed_from start log.old }
 {
-    let mut at = start;
-    while at < log.len() {
-        log[at] = 0;
-        at += 1;
-    }
+    log[start..].fill(0);
 }
 
 // Compacts a log in its own buffer: drops writes of 0 bytes, joins writes to those that they go on from, zeroes the rows that
 // are freed, and returns how many are kept.
-pub fn compact(log: &mut [u8]) -> CompactAnswer
+pub fn compact(log: &mut [u8]) -> Result<usize, Refusal>
     ensures { Compacts log.old result log.new }
 {
     if !log_check::well_formed(log) {
-        return CompactAnswer::Refused(Refusal::MalformedLog);
+        return Err(Refusal::MalformedLog);
     }
     let kept = keep_rows(log);
     clear_from(log, trb::RECORD_LENGTH * kept);
-    CompactAnswer::Kept(kept)
+    Ok(kept)
 }

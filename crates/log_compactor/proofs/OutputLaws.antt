@@ -13,7 +13,7 @@ use Rattle.trb.specs.Questions.{first_no, after_questions}
 use Rattle.trb.specs.declared.Refusal.{Refusal}
 use Rattle.log_check.specs.WellFormed.{well_formed}
 use Rattle.log_print.specs.LogText.{refused_text}
-use Rattle.log_compact.specs.declared.CompactAnswer.TheVariants.{Kept, Refused}
+use Rattle.std.proofs.Common.{Ok, Err}
 use Rattle.kept_records.specs.Rows.{rows_of}
 use Rattle.kept_records.specs.Compact.{compacted}
 use Rattle.log_compact.specs.Compacting.{kept_bytes, padded_to, answer_of, log_after}
@@ -36,21 +36,21 @@ module _ (log : List ℕ) where
   output-long h = simp (lt-leb (length log) max_log h)
 
   module _ (short : length log ≤ max_log) where
-    pub output-refused : (q : Refusal) → Refused q ≡ answer_of log → output_of log ≡ refused_text
+    pub output-refused : (q : Refusal) → Err q ≡ answer_of log → output_of log ≡ refused_text
     unfolding output_of is_taken first_no
     output-refused q e = by (well_formed log) refl e
       where
-        by : (t : Bool) → well_formed log ≡ t → Refused q ≡ after_questions ((t, 10) ∷ []) (λ k. Refused (refusal_of k)) (Kept (length (compacted (rows_of log))))
+        by : (t : Bool) → well_formed log ≡ t → Err q ≡ after_questions ((t, 10) ∷ []) (λ k. Err (refusal_of k)) (Ok (length (compacted (rows_of log))))
             → output_of log ≡ refused_text
         by true ok e = let z : ◌≡◌ {A = ℕ} 0 1 = cc in absurd (omega arith)
         by false off e = simp (le-leb (length log) max_log short, off)
 
     -- whatever stands behind the log in its buffer
-    pub output-kept : (n : ℕ) → Kept n ≡ answer_of log → (rest : List ℕ) → Leads (output_of log) (record_length * n) (log_after log ++ rest)
+    pub output-kept : (n : ℕ) → Ok n ≡ answer_of log → (rest : List ℕ) → Leads (output_of log) (record_length * n) (log_after log ++ rest)
     unfolding output_of is_taken first_no padded_to
     output-kept n e rest = by (well_formed log) refl e
       where
-        by : (t : Bool) → well_formed log ≡ t → Kept n ≡ after_questions ((t, 10) ∷ []) (λ k. Refused (refusal_of k)) (Kept (length (compacted (rows_of log))))
+        by : (t : Bool) → well_formed log ≡ t → Ok n ≡ after_questions ((t, 10) ∷ []) (λ k. Err (refusal_of k)) (Ok (length (compacted (rows_of log))))
             → Leads (output_of log) (record_length * n) (log_after log ++ rest)
         by true ok e =
             let count : n ≡ length (compacted (rows_of log)) = cc in

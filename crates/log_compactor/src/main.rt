@@ -6,7 +6,6 @@ ghost use Rattle.input_bytes.specs.Outputs.{WritesFor};
 ghost use Rattle.log_print.specs.LogText.{refused_text};
 ghost use Rattle.log_compactor.specs.Output.{max_log, output_of, Leads};
 
-use log_compact::CompactAnswer;
 use std::io;
 use std::io::{Read, Write};
 
@@ -39,10 +38,9 @@ fn put_output(buffer: &mut [u8], read: usize) -> usize
     if MAX_LOG < read {
         return put_refused(buffer);
     }
-    let answer = log_compact::compact(&mut buffer[..read]);
-    match answer {
-        CompactAnswer::Kept(kept) => trb::RECORD_LENGTH * kept,
-        CompactAnswer::Refused(refusal) => put_refused(buffer),
+    match log_compact::compact(&mut buffer[..read]) {
+        Ok(kept) => trb::RECORD_LENGTH * kept,
+        Err(_) => put_refused(buffer),
     }
 }
 

@@ -19,12 +19,13 @@ length-refused_text : length refused_text ≤ max_text
 unfolding digit_char digits trimmed decimal_of refused_text
 length-refused_text = omega arith
 
+pub length-printable : (l : List ℕ) → printable l ≡ true → length l ≤ max_printed_log
+unfolding printable
+length-printable l e = leb-true (length l) max_printed_log (and_left _ (well_formed l) e)
+
 -- by whether the log is printable
 length-text : (l : List ℕ) (b : Bool) → printable l ≡ b → length (cond b (lines_in (length l / record_length) l) refused_text) ≤ max_text
-unfolding printable
-length-text l true e =
-    let short : length l ≤ max_printed_log = leb-true (length l) max_printed_log (and_left _ (well_formed l) e) in
-    omega (arith, length-lines_in (length l / record_length) l)
+length-text l true e = omega (arith, length-printable l e, length-lines_in (length l / record_length) l)
 length-text l false e = length-refused_text
 
 -- a text buffer of max_text bytes has room for the text of any log

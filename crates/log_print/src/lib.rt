@@ -4,11 +4,12 @@
 ghost use Rattle.std.specs.Prelude.{◌≡◌, ◌≤◌, length};
 ghost use Rattle.numerals.specs.Written.{Written};
 ghost use Rattle.log_text.specs.Widths.{max_text};
-ghost use Rattle.log_print.specs.LogText.{refused_text, log_text, Prints};
+ghost use Rattle.log_print.specs.LogText.{refused_text, printable, log_text, Prints};
 
 use trb::{Answer, Refusal};
 
 // Writes what a log that is refused prints.
+#[tactic(auto, unfolding(numerals::specs::Digits::digit_char, numerals::specs::Digits::digits, numerals::specs::Digits::trimmed, numerals::specs::Digits::decimal_of, crate::specs::LogText::refused_text))]
 fn put_refused(text: &mut [u8]) -> usize
     requires { max_text ≤ length text.old }
     ensures { Written max_text text.old 0 refused_text result text.new }
@@ -18,18 +19,24 @@ fn put_refused(text: &mut [u8]) -> usize
     refused.len()
 }
 
+// Is the log one that is printed?
+#[tactic(auto, unfolding(crate::specs::LogText::printable))]
+fn printable(log: &[u8]) -> bool
+    ensures { result ≡ printable log.now }
+{
+    log.len() <= trb::MAX_PRINTED_LOG && log_check::well_formed(log)
+}
+
 // Writes the text of a log.
 fn put_log(text: &mut [u8], log: &[u8]) -> usize
     requires { max_text ≤ length text.old }
     ensures { Written max_text text.old 0 (log_text log.now) result text.new }
 {
-    if trb::MAX_PRINTED_LOG < log.len() {
-        return put_refused(text);
+    if printable(log) {
+        log_text::put_lines(text, 0, log)
+    } else {
+        put_refused(text)
     }
-    if !log_check::well_formed(log) {
-        return put_refused(text);
-    }
-    log_text::put_lines(text, 0, log)
 }
 
 // Room for the text of any log.
@@ -47,6 +54,7 @@ pub struct Printed {
 }
 
 // Prints a log into a text buffer of at least MAX_TEXT bytes.
+#[tactic(auto, unfolding(crate::specs::LogText::printed, crate::specs::LogText::text_after, trb::specs::Questions::first_no, trb::specs::Answers::refusal_of))]
 pub fn print_log(log: &[u8], text: &mut [u8]) -> Printed
     ensures { Prints log.now text.old result text.new }
 {
@@ -59,6 +67,6 @@ pub fn print_log(log: &[u8], text: &mut [u8]) -> Printed
     let length = put_log(text, log);
     Printed {
         answer: Answer::Accepted,
-        length: length,
+        length,
     }
 }

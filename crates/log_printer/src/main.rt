@@ -24,8 +24,7 @@ fn print_input<R: Read, W: Write>(reader: &mut R, writer: &mut W) -> io::Result<
     let read = input_bytes::read_full(reader, &mut log)?;
     let mut text = log_print::text_buffer();
     let printed = log_print::print_log(&log[..read], &mut text);
-    let end = printed.length;
-    writer.write_all(&text[..end])
+    writer.write_all(&text[..printed.length])
 }
 
 fn main(rt: HostRuntime) -> io::Result<()> {

@@ -70,10 +70,8 @@ fn put_ids(text: &mut [u8], at: usize, record: Record) -> usize
     requires { at + max_ids ≤ length text.old }
     ensures { Written max_ids text.old at (id_fields «record») result text.new }
 {
-    let endpoint_id = record.endpoint_id;
-    let slot_id = record.slot_id;
-    let slot_at = put_decimal_field(text, at, endpoint_id.0 as u32);
-    put_decimal_field(text, slot_at, slot_id.0 as u32)
+    let slot_at = put_decimal_field(text, at, record.endpoint_id.0 as u32);
+    put_decimal_field(text, slot_at, record.slot_id.0 as u32)
 }
 
 // Writes address, length and start.
@@ -117,10 +115,8 @@ pub fn put_lines(text: &mut [u8], at: usize, log: &[u8]) -> usize
 {
     let records = log.len() / trb::RECORD_LENGTH;
     let mut next = at;
-    let mut index = 0;
-    while index < records {
+    for index in 0..records {
         next = put_line(text, next, log, index);
-        index += 1;
     }
     next
 }

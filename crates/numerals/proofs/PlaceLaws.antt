@@ -2,7 +2,7 @@
 use Prim.Native.Nat.{ℕ, zero, suc, ◌+◌, ◌-◌, ◌*◌, ◌/◌, ◌%◌, ◌<◌, ◌≤◌, ◌^◌}
 use mathlib.Core.Path.{◌≡◌, refl, sym, ap, ◌∙◌}
 use mathlib.Core.List.{List, [], ◌∷◌, map}
-use native.Mathlib.Nat.{add-zero, zero-add, add-suc, suc-add, pow-succ', pow-le-pow_right, one-le-pow, mod-lt, mod-eq_of_lt, div-one, div-eq_of_lt, zero-mod, add-mul, one-mul, zero-mul, lt_of_mul-lt-mul_right}
+use native.Mathlib.Nat.{add-zero, zero-add, add-suc, suc-add, pow-succ', pow-le-pow_right, one-le-pow, mod-lt, mod-eq_of_lt, div-eq_of_lt, zero-mod, add-mul, one-mul, zero-mul, lt_of_mul-lt-mul_right}
 use native.Mathlib.Omega.{arith}
 use lib.Arith.{digits_div, digits_mod, mod-mul}
 use lib.ListN.{get_or}
@@ -47,14 +47,6 @@ digit-at-place k n r p e = e ∙ rw (r, p) (digit-of-rest 10 k n (omega arith))
 
 pub rest-below-place : {rest power low : ℕ} (k n : ℕ) → rest ≡ n % 10 ^ suc k → power ≡ 10 ^ k → low ≡ rest % power → low ≡ n % 10 ^ k
 rest-below-place k n r p e = e ∙ rw (r, p) (rest-of-rest 10 k n (omega arith))
-
--- at the lowest place it is the digit
-pub rest-at-lowest : {rest : ℕ} (k n : ℕ) → k ≤ 0 → rest ≡ n % 10 ^ suc k → rest ≡ n / 10 ^ k % 10
-rest-at-lowest zero n h r = r ∙ rw div-one
-rest-at-lowest (suc k) n h r = absurd (omega arith)
-
-pub last-below : {rest : ℕ} (k n : ℕ) → k ≤ 0 → rest ≡ n % 10 ^ suc k → rest < 10
-last-below k n h r = rw (rest-at-lowest k n h r) (mod-lt (n / 10 ^ k) (omega arith))
 
 -- ---- The first digit
 

@@ -33,6 +33,7 @@ pub fn widths() -> WidthTable
 // ---- Digits
 
 // The character of a digit.
+#[tactic(auto, unfolding(crate::specs::Digits::digit_char))]
 pub fn digit_char(digit: u8) -> u8
     requires { digit < 16 }
     ensures { result ≡ digit_char digit }
@@ -57,14 +58,13 @@ pub fn put_char(text: &mut [u8], at: usize, character: u8) -> usize
 pub fn leading_zeros(digits: &[u8]) -> usize
     ensures { (result ≤ length digits.now) × (drop result digits.now ≡ trimmed digits.now) }
 {
-    let mut skipped = 0;
-    while skipped + 1 < digits.len() {
+    let last = digits.len().saturating_sub(1);
+    for skipped in 0..last {
         if digits[skipped] != 0 {
             return skipped;
         }
-        skipped += 1;
     }
-    skipped
+    last
 }
 
 // ---- Decimal. 02, R-3: the digit at a place is how often its power of ten can be subtracted; nothing is divided.
@@ -86,14 +86,12 @@ pub fn power_of_ten(place: usize) -> u32
 pub fn first_place(n: u32) -> usize
     ensures { FirstPlace n result }
 {
-    let mut place = 0;
-    while place + 1 < DECIMAL_PLACES {
+    for place in 0..DECIMAL_PLACES - 1 {
         if n < power_of_ten(place + 1) {
             return place;
         }
-        place += 1;
     }
-    place
+    DECIMAL_PLACES - 1
 }
 
 // The digit that a number has at a place, and what is left of the number below that place.
@@ -114,16 +112,5 @@ pub fn subtract_power(n: u32, power: u32) -> Place
         rest -= power;
         digit += 1;
     }
-    Place {
-        digit: digit,
-        rest: rest,
-    }
-}
-
-// The character of a decimal digit.
-pub fn decimal_char(digit: u8) -> u8
-    requires { digit < 10 }
-    ensures { result ≡ digit_char digit }
-{
-    b'0' + digit
+    Place { digit, rest }
 }

@@ -29,10 +29,7 @@ struct FullWalked {
 fn is_default(state: TdProcessingState) -> bool
     ensures { result ≡ true → state ≡ Default }
 {
-    match state {
-        TdProcessingState::Default => true,
-        TdProcessingState::ShortTransfer(_) => false,
-    }
+    matches!(state, TdProcessingState::Default)
 }
 
 // Is the TRB in the place that starts at `at` a Normal that is full, of so many bytes left, and reports nothing?
@@ -40,14 +37,9 @@ fn is_silent_normal(places: &[u8], at: usize, left: u32) -> bool
     requires { at + place_length ≤ length places.now }
     ensures { result ≡ true → SilentNormal (drop at places.now) left }
 {
-    let kind = places[at + 20];
-    if kind as u32 != raw_trb::NORMAL {
-        return false;
-    }
-    if held_bytes::bit(places[at + 21], 4) {
-        return false;
-    }
-    in_bytes::length_at(places, at) <= left
+    places[at + 20] == raw_trb::NORMAL
+        && !held_bytes::bit(places[at + 21], 4)
+        && in_bytes::length_at(places, at) <= left
 }
 
 fn full_walked(
@@ -61,15 +53,14 @@ fn full_walked(
     ensures { result ≡ record { processed = going_on normals_left (record { start = start; edtla = edtla; state = state; records = records }); count = count } }
 {
     let progress = TdProgress {
-        start: start,
-        edtla: edtla,
-        state: state,
-        records: records,
+        start,
+        edtla,
+        state,
+        records,
     };
-    let processed = in_td::going_on(normals_left, progress);
     FullWalked {
-        processed: processed,
-        count: count,
+        processed: in_td::going_on(normals_left, progress),
+        count,
     }
 }
 
@@ -87,8 +78,6 @@ fn walk_full(
     ensures { (result.count ≤ count) × Reached td from (take count (places_of In max_held (drop at places.now))) log.old log.new result.processed result.count }
 {
     let info = td.info;
-    let endpoint_id = info.endpoint_id;
-    let slot_id = info.slot_id;
     let progress = from.progress;
     let state = progress.state;
     if !is_default(state) {
@@ -101,8 +90,7 @@ fn walk_full(
     let mut edtla = progress.edtla;
     let mut records = progress.records;
     let mut normals_left = from.normals_left;
-    let mut j: usize = 0;
-    while j < count {
+    for j in 0..count {
         let place = at + held_bytes::PLACE * j;
         if normals_left == 1 {
             return full_walked(start, edtla, state, records, normals_left, j);
@@ -112,15 +100,14 @@ fn walk_full(
         }
         let length = in_bytes::length_at(places, place);
         let pointer = buffers::le64(places, place + 8);
-        let write = call_log::guest_write(pointer, length, start, endpoint_id, slot_id);
+        let write = call_log::guest_write(pointer, length, start, info.endpoint_id, info.slot_id);
         call_log::put_record(log, records, write);
-        start = start + length;
+        start += length;
         edtla = td_part::edtla_after(edtla, length);
         records += 1;
         normals_left = in_td::one_less(normals_left);
-        j += 1;
     }
-    full_walked(start, edtla, state, records, normals_left, j)
+    full_walked(start, edtla, state, records, normals_left, count)
 }
 
 // ---- Any TRBs
@@ -140,13 +127,10 @@ pub fn walk_places(
 {
     let full = walk_full(log, places, at, count, td, from);
     let mut processed = full.processed;
-    let mut j: usize = full.count;
-    while j < count {
+    for j in full.count..count {
         let t = in_bytes::trb_from(places, at + held_bytes::PLACE * j);
         processed = in_turn::process_trb(log, td, processed, t);
-        j += 1;
-        let result = processed.result;
-        if in_td::is_error(result) {
+        if in_td::is_error(processed.result) {
             return processed;
         }
     }

@@ -1,5 +1,5 @@
 -- 02, R-6, for C and Rust: a raw TRB decoded to plain numbers and encoded from them. Assumes nothing.
-use Rattle.std.specs.Prelude.{ℕ, Bool, ◌≡◌, List, [], ◌∷◌, leb, length}
+use Rattle.std.specs.Prelude.{ℕ, Bool, ◌≡◌, List, ◌∷◌, leb, length}
 use Rattle.trb.specs.Questions.{first_no, after_questions}
 use Rattle.trb.specs.declared.TransferTrb.{TransferTrb}
 use Rattle.buffers.specs.Patch.{patch}

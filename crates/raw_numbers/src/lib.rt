@@ -15,37 +15,25 @@ pub fn decode_trb(raw: [u8; 16], addr: u64) -> TrbNumbers
     ensures { trb_of result ≡ raw_trb raw addr }
 {
     let decoded = raw_trb_decoder::decode(raw);
-    let variant = decoded.variant;
-    let t = TransferTrb {
-        variant: variant,
-        addr: addr,
+    held_bytes::numbers_of(TransferTrb {
+        variant: decoded.variant,
+        addr,
         cycle_bit: decoded.cycle_bit,
-    };
-    held_bytes::numbers_of(t)
+    })
 }
 
 // Bytes of a raw TRB.
 const RAW: usize = 16;
-
-fn put_raw(raw: &mut [u8], bytes: [u8; RAW])
-    requires { raw_length ≤ length raw.old }
-    ensures { raw.new ≡ patch raw.old 0 bytes }
-{
-    buffers::copy_into(raw, 0, &bytes);
-}
 
 // Questions 23 and 4, and the bytes of a TRB that passes them.
 fn put_encoded(raw: &mut [u8], t: TransferTrb) -> u8
     requires { raw_length ≤ length raw.old }
     ensures { Encodes (encode_questions t.variant) t raw.old result raw.new }
 {
-    let variant = t.variant;
-    let encoded = raw_trb_encoder::encode(variant, t.cycle_bit);
-    let bytes = encoded.bytes;
-    let answer = encoded.answer;
-    match answer {
+    let encoded = raw_trb_encoder::encode(t.variant, t.cycle_bit);
+    match encoded.answer {
         Answer::Accepted => {
-            put_raw(raw, bytes);
+            buffers::copy_into(raw, 0, &encoded.bytes);
             0
         }
         Answer::Refused(refusal) => trb::refusal_number(refusal),
@@ -56,16 +44,15 @@ fn put_encoded(raw: &mut [u8], t: TransferTrb) -> u8
 pub fn encode_trb(kind: u8, flags: u8, value: u64, transfer_length: u32, raw: &mut [u8]) -> u8
     ensures { Encodes (room_questions (numbered_trb kind flags value transfer_length) raw.old) (numbered_trb kind flags value transfer_length) raw.old result raw.new }
 {
-    let room = raw.len();
-    if room < RAW {
+    if raw.len() < RAW {
         return trb::refusal_number(Refusal::BufferTooShort);
     }
     let t = held_bytes::trb_of(TrbNumbers {
-        kind: kind,
-        flags: flags,
+        kind,
+        flags,
         addr: 0,
-        value: value,
-        transfer_length: transfer_length,
+        value,
+        transfer_length,
     });
     put_encoded(raw, t)
 }

@@ -70,6 +70,7 @@ fn flags(
         + flag(direction, script_trb::DIRECTION)
 }
 
+#[tactic(auto, unfolding(crate::specs::RawLines::flags_of))]
 fn flags_of(variant: TransferTrbVariant, cycle_bit: bool) -> u64
     ensures { result ≡ flags_of variant cycle_bit }
 {
@@ -122,8 +123,9 @@ fn flags_of(variant: TransferTrbVariant, cycle_bit: bool) -> u64
             false,
             false,
         ),
-        TransferTrbVariant::Isoch => flags(cycle_bit, false, false, false, false, false),
-        TransferTrbVariant::Unrecognized => flags(cycle_bit, false, false, false, false, false),
+        TransferTrbVariant::Isoch | TransferTrbVariant::Unrecognized => flags(
+            cycle_bit, false, false, false, false, false,
+        ),
     }
 }
 
@@ -137,18 +139,16 @@ fn setup_number(t: SetupStageTrb) -> u64
         + 0x1000000000000 * (t.length as u64)
 }
 
+#[tactic(auto, unfolding(crate::specs::RawLines::a_of))]
 fn a_of(variant: TransferTrbVariant) -> u64
     ensures { result ≡ a_of variant }
 {
     match variant {
         TransferTrbVariant::SetupStage(t) => setup_number(t),
         TransferTrbVariant::DataStage(t) => t.data_pointer,
-        TransferTrbVariant::StatusStage(_) => 0,
         TransferTrbVariant::Normal(t) => t.data_pointer,
         TransferTrbVariant::EventData(t) => t.event_data,
-        TransferTrbVariant::NoOp(_) => 0,
-        TransferTrbVariant::Isoch => 0,
-        TransferTrbVariant::Unrecognized => 0,
+        _ => 0,
     }
 }
 
@@ -158,9 +158,8 @@ pub fn put_decoded(text: &mut [u8], at: usize, decoded: DecodedTrb) -> usize
     ensures { Written max_raw_answer text.old at (trb_line decoded.variant decoded.cycle_bit (transfer_length decoded.variant)) result text.new }
 {
     let variant = decoded.variant;
-    let cycle_bit = decoded.cycle_bit;
     let flags_at = written_numbers::put_hex(text, at, kind_of(variant));
-    let a_at = call_text::put_hex_behind(text, flags_at, flags_of(variant, cycle_bit));
+    let a_at = call_text::put_hex_behind(text, flags_at, flags_of(variant, decoded.cycle_bit));
     let b_at = call_text::put_hex_behind(text, a_at, a_of(variant));
     let length = trb::transfer_length(variant);
     let end = call_text::put_hex_behind(text, b_at, length as u64);
@@ -169,6 +168,7 @@ pub fn put_decoded(text: &mut [u8], at: usize, decoded: DecodedTrb) -> usize
 
 // ---- An encoded TRB
 
+#[tactic(auto, unfolding(crate::specs::RawLines::bytes_line))]
 fn put_bytes_line(text: &mut [u8], at: usize, bytes: [u8; 16]) -> usize
     requires { at + max_raw_answer ≤ length text.old }
     ensures { Written max_raw_answer text.old at (bytes_line bytes) result text.new }
@@ -182,10 +182,8 @@ pub fn put_encoded(text: &mut [u8], at: usize, encoded: EncodedTrb) -> usize
     requires { at + max_raw_answer ≤ length text.old }
     ensures { Written max_raw_answer text.old at (encoded_line encoded.answer encoded.bytes) result text.new }
 {
-    let answer = encoded.answer;
-    let bytes = encoded.bytes;
-    match answer {
-        Answer::Accepted => put_bytes_line(text, at, bytes),
+    match encoded.answer {
+        Answer::Accepted => put_bytes_line(text, at, encoded.bytes),
         Answer::Refused(refusal) => call_text::put_refused(text, at, trb::refusal_number(refusal)),
     }
 }

@@ -1,10 +1,8 @@
 -- Worked bytes, computed by the definitions: decoded TRBs, reserved bits, unknown types. Assumes nothing.
-use Prim.Native.Nat.{ℕ}
-use mathlib.Core.Bool.{Bool, true, false}
-use mathlib.Core.List.{List, [], ◌∷◌}
+use mathlib.Core.Bool.{true, false}
+use mathlib.Core.List.{[], ◌∷◌}
 use mathlib.Core.Path.{◌≡◌, refl}
 use Rattle.trb.specs.declared.TransferTrbVariant.TheVariants.{SetupStage, Normal, Isoch, Unrecognized}
-use Rattle.raw_trb.specs.declared.DecodedTrb.{DecodedTrb}
 use Rattle.raw_trb.specs.Raw.{of_type, decode_trb}
 
 -- Normal: 512 bytes at 0x1000, interrupt on completion, cycle bit on, interrupter target 1

@@ -8,7 +8,6 @@ use Rattle.trb.specs.declared.EventDataTrb.{EventDataTrb}
 use Rattle.trb.specs.declared.NoOpTrb.{NoOpTrb}
 use Rattle.trb.specs.declared.TransferTrbVariant.{TransferTrbVariant}
 use Rattle.trb.specs.declared.TransferTrbVariant.TheVariants.{SetupStage, DataStage, StatusStage, Normal, EventData, NoOp, Isoch, Unrecognized}
-use Rattle.trb.specs.declared.Answer.{Answer}
 use Rattle.trb.specs.declared.Answer.TheVariants.{Accepted, Refused}
 use Rattle.trb.specs.declared.Refusal.{Refusal}
 use Rattle.trb.specs.Answers.{number_of, refusal_of}
@@ -18,7 +17,7 @@ use Rattle.trb.specs.Trbs.{transfer_length}
 use Rattle.raw_trb.specs.declared.Dwords.{Dwords}
 use Rattle.raw_trb.specs.declared.DecodedTrb.{DecodedTrb}
 use Rattle.raw_trb.specs.declared.EncodedTrb.{EncodedTrb}
-use Rattle.raw_trb.specs.Fields.{Field, Placed, ◌⇒◌, field_of, is_set, all_zero, bit_number, dwords_of, dwords_with, bytes_of}
+use Rattle.raw_trb.specs.Fields.{Placed, ◌⇒◌, field_of, is_set, all_zero, bit_number, dwords_of, dwords_with, bytes_of}
 use Rattle.raw_trb.specs.Layouts.{cycle_bit, interrupt_on_short, chain_bit, interrupt_on_completion, immediate_data, trb_type, direction, pointer_low, pointer_high, trb_transfer_length, request_type, request_code, setup_value, setup_index, setup_length, normal_type, setup_stage_type, data_stage_type, status_stage_type, isoch_type, event_data_type, no_op_type, Row, reserved_of, normal_table, setup_stage_table, data_stage_table, status_stage_table, event_data_table, no_op_table}
 
 -- what the fields say, by kind

@@ -4,21 +4,22 @@
 
 use trb::{Answer, TransferTrbVariant};
 
-// ---- TRB types by number (xHCI 1.2, table 6-91)
+// ---- TRB types by number (xHCI 1.2, table 6-91): constants and no enum, since a TRB comes with any number as its type, and each TRB would be matched
+// a second time to make the enum
 
-pub const NORMAL: u32 = 1;
+pub const NORMAL: u8 = 1;
 
-pub const SETUP_STAGE: u32 = 2;
+pub const SETUP_STAGE: u8 = 2;
 
-pub const DATA_STAGE: u32 = 3;
+pub const DATA_STAGE: u8 = 3;
 
-pub const STATUS_STAGE: u32 = 4;
+pub const STATUS_STAGE: u8 = 4;
 
-pub const ISOCH: u32 = 5;
+pub const ISOCH: u8 = 5;
 
-pub const EVENT_DATA: u32 = 7;
+pub const EVENT_DATA: u8 = 7;
 
-pub const NO_OP: u32 = 8;
+pub const NO_OP: u8 = 8;
 
 // The four dwords of a TRB.
 #[derive(Clone, Copy)]

@@ -5,7 +5,7 @@ ghost use Rattle.std.specs.Prelude.{◌≡◌, cond};
 ghost use Rattle.trb.specs.declared.TransferTrbVariant.TheVariants.{Unrecognized};
 ghost use Rattle.raw_trb.specs.Fields.{all_zero, dwords_of};
 ghost use Rattle.raw_trb.specs.Layouts.{reserved_of, normal_table, setup_stage_table, data_stage_table, status_stage_table, event_data_table, no_op_table};
-ghost use Rattle.raw_trb.specs.Raw.{normal_of, setup_stage_of, data_stage_of, status_stage_of, event_data_of, no_op_of, variant_of, decode_trb};
+ghost use Rattle.raw_trb.specs.Raw.{pointer_of, normal_of, setup_stage_of, data_stage_of, status_stage_of, event_data_of, no_op_of, variant_of, decode_trb};
 
 use raw_trb::{DecodedTrb, Dwords};
 use trb::{
@@ -15,19 +15,25 @@ use trb::{
 
 // ---- Of each type, whether its reserved bits are zero, and its fields
 
+// The number in the first two dwords.
+fn pointer(d: Dwords) -> u64
+    ensures { result ≡ pointer_of d }
+{
+    d.d0 as u64 + 4294967296 * d.d1 as u64
+}
+
 fn normal_clear(d: Dwords) -> bool
     ensures { result ≡ all_zero (reserved_of normal_table) d }
 {
-    (d.d3 / 128 % 4 == 0) & (d.d3 / 65536 % 65536 == 0)
+    d.d3 / 128 % 4 == 0 && d.d3 / 65536 % 65536 == 0
 }
 
 fn normal(d: Dwords) -> NormalTrb
     ensures { result ≡ normal_of d }
 {
     NormalTrb {
-        data_pointer: (d.d0 as u64) / 1 % 4294967296
-            + 4294967296 * ((d.d1 as u64) / 1 % 4294967296),
-        transfer_length: d.d2 / 1 % 131072,
+        data_pointer: pointer(d),
+        transfer_length: d.d2 % 131072,
         interrupt_on_short: d.d3 / 4 % 2 == 1,
         chain: d.d3 / 16 % 2 == 1,
         interrupt_on_completion: d.d3 / 32 % 2 == 1,
@@ -38,20 +44,20 @@ fn normal(d: Dwords) -> NormalTrb
 fn setup_stage_clear(d: Dwords) -> bool
     ensures { result ≡ all_zero (reserved_of setup_stage_table) d }
 {
-    (d.d2 / 131072 % 32 == 0)
-        & (d.d3 / 2 % 16 == 0)
-        & (d.d3 / 128 % 8 == 0)
-        & (d.d3 / 262144 % 16384 == 0)
+    d.d2 / 131072 % 32 == 0
+        && d.d3 / 2 % 16 == 0
+        && d.d3 / 128 % 8 == 0
+        && d.d3 / 262144 % 16384 == 0
 }
 
 fn setup_stage(d: Dwords) -> SetupStageTrb
     ensures { result ≡ setup_stage_of d }
 {
     SetupStageTrb {
-        request_type: (d.d0 / 1 % 256) as u8,
+        request_type: (d.d0 % 256) as u8,
         request: (d.d0 / 256 % 256) as u8,
         value: (d.d0 / 65536 % 65536) as u16,
-        index: (d.d1 / 1 % 65536) as u16,
+        index: (d.d1 % 65536) as u16,
         length: (d.d1 / 65536 % 65536) as u16,
         interrupt_on_completion: d.d3 / 32 % 2 == 1,
     }
@@ -60,16 +66,15 @@ fn setup_stage(d: Dwords) -> SetupStageTrb
 fn data_stage_clear(d: Dwords) -> bool
     ensures { result ≡ all_zero (reserved_of data_stage_table) d }
 {
-    (d.d3 / 128 % 8 == 0) & (d.d3 / 131072 % 32768 == 0)
+    d.d3 / 128 % 8 == 0 && d.d3 / 131072 % 32768 == 0
 }
 
 fn data_stage(d: Dwords) -> DataStageTrb
     ensures { result ≡ data_stage_of d }
 {
     DataStageTrb {
-        data_pointer: (d.d0 as u64) / 1 % 4294967296
-            + 4294967296 * ((d.d1 as u64) / 1 % 4294967296),
-        transfer_length: d.d2 / 1 % 131072,
+        data_pointer: pointer(d),
+        transfer_length: d.d2 % 131072,
         chain: d.d3 / 16 % 2 == 1,
         interrupt_on_completion: d.d3 / 32 % 2 == 1,
         interrupt_on_short: d.d3 / 4 % 2 == 1,
@@ -81,12 +86,12 @@ fn data_stage(d: Dwords) -> DataStageTrb
 fn status_stage_clear(d: Dwords) -> bool
     ensures { result ≡ all_zero (reserved_of status_stage_table) d }
 {
-    ((d.d0 as u64) / 1 % 4294967296 == 0)
-        & ((d.d1 as u64) / 1 % 4294967296 == 0)
-        & (d.d2 / 1 % 4194304 == 0)
-        & (d.d3 / 4 % 4 == 0)
-        & (d.d3 / 64 % 16 == 0)
-        & (d.d3 / 131072 % 32768 == 0)
+    d.d0 == 0
+        && d.d1 == 0
+        && d.d2 % 4194304 == 0
+        && d.d3 / 4 % 4 == 0
+        && d.d3 / 64 % 16 == 0
+        && d.d3 / 131072 % 32768 == 0
 }
 
 fn status_stage(d: Dwords) -> StatusStageTrb
@@ -102,17 +107,14 @@ fn status_stage(d: Dwords) -> StatusStageTrb
 fn event_data_clear(d: Dwords) -> bool
     ensures { result ≡ all_zero (reserved_of event_data_table) d }
 {
-    (d.d2 / 1 % 4194304 == 0)
-        & (d.d3 / 4 % 4 == 0)
-        & (d.d3 / 64 % 8 == 0)
-        & (d.d3 / 65536 % 65536 == 0)
+    d.d2 % 4194304 == 0 && d.d3 / 4 % 4 == 0 && d.d3 / 64 % 8 == 0 && d.d3 / 65536 % 65536 == 0
 }
 
 fn event_data(d: Dwords) -> EventDataTrb
     ensures { result ≡ event_data_of d }
 {
     EventDataTrb {
-        event_data: (d.d0 as u64) / 1 % 4294967296 + 4294967296 * ((d.d1 as u64) / 1 % 4294967296),
+        event_data: pointer(d),
         chain: d.d3 / 16 % 2 == 1,
         interrupt_on_completion: d.d3 / 32 % 2 == 1,
     }
@@ -121,12 +123,12 @@ fn event_data(d: Dwords) -> EventDataTrb
 fn no_op_clear(d: Dwords) -> bool
     ensures { result ≡ all_zero (reserved_of no_op_table) d }
 {
-    ((d.d0 as u64) / 1 % 4294967296 == 0)
-        & ((d.d1 as u64) / 1 % 4294967296 == 0)
-        & (d.d2 / 1 % 4194304 == 0)
-        & (d.d3 / 4 % 4 == 0)
-        & (d.d3 / 64 % 16 == 0)
-        & (d.d3 / 65536 % 65536 == 0)
+    d.d0 == 0
+        && d.d1 == 0
+        && d.d2 % 4194304 == 0
+        && d.d3 / 4 % 4 == 0
+        && d.d3 / 64 % 16 == 0
+        && d.d3 / 65536 % 65536 == 0
 }
 
 fn no_op(d: Dwords) -> NoOpTrb
@@ -141,44 +143,33 @@ fn no_op(d: Dwords) -> NoOpTrb
 // ---- The TRB
 
 // Ports `TransferTrbVariant::parse`; a reserved bit that is set makes it Unrecognized.
+#[tactic(auto, unfolding(raw_trb::specs::Raw::of_type))]
 fn variant(d: Dwords) -> TransferTrbVariant
     ensures { result ≡ variant_of d }
 {
-    let kind = d.d3 / 1024 % 64;
-    if kind == raw_trb::NORMAL {
-        return where_clear(normal_clear(d), TransferTrbVariant::Normal(normal(d)));
-    }
-    if kind == raw_trb::SETUP_STAGE {
-        return where_clear(
+    let kind = (d.d3 / 1024 % 64) as u8;
+    match kind {
+        raw_trb::NORMAL => where_clear(normal_clear(d), TransferTrbVariant::Normal(normal(d))),
+        raw_trb::SETUP_STAGE => where_clear(
             setup_stage_clear(d),
             TransferTrbVariant::SetupStage(setup_stage(d)),
-        );
-    }
-    if kind == raw_trb::DATA_STAGE {
-        return where_clear(
+        ),
+        raw_trb::DATA_STAGE => where_clear(
             data_stage_clear(d),
             TransferTrbVariant::DataStage(data_stage(d)),
-        );
-    }
-    if kind == raw_trb::STATUS_STAGE {
-        return where_clear(
+        ),
+        raw_trb::STATUS_STAGE => where_clear(
             status_stage_clear(d),
             TransferTrbVariant::StatusStage(status_stage(d)),
-        );
-    }
-    if kind == raw_trb::ISOCH {
-        return TransferTrbVariant::Isoch;
-    }
-    if kind == raw_trb::EVENT_DATA {
-        return where_clear(
+        ),
+        raw_trb::ISOCH => TransferTrbVariant::Isoch,
+        raw_trb::EVENT_DATA => where_clear(
             event_data_clear(d),
             TransferTrbVariant::EventData(event_data(d)),
-        );
+        ),
+        raw_trb::NO_OP => where_clear(no_op_clear(d), TransferTrbVariant::NoOp(no_op(d))),
+        _ => TransferTrbVariant::Unrecognized,
     }
-    if kind == raw_trb::NO_OP {
-        return where_clear(no_op_clear(d), TransferTrbVariant::NoOp(no_op(d)));
-    }
-    TransferTrbVariant::Unrecognized
 }
 
 fn where_clear(clear: bool, variant: TransferTrbVariant) -> TransferTrbVariant
@@ -208,9 +199,8 @@ pub fn decode(bytes: [u8; 16]) -> DecodedTrb
     ensures { result ≡ decode_trb bytes }
 {
     let d = dwords_of(bytes);
-    let variant = variant(d);
     DecodedTrb {
-        variant: variant,
-        cycle_bit: d.d3 / 1 % 2 == 1,
+        variant: variant(d),
+        cycle_bit: d.d3 % 2 == 1,
     }
 }

@@ -1,9 +1,9 @@
 // The encoder of transfer TRBs.
-#![tactic(auto)]
+#![tactic(auto, unfolding(raw_trb::specs::Raw::encoded_dwords))]
 
 ghost use Rattle.std.specs.Prelude.{◌≡◌, [], ◌<◌};
 ghost use Rattle.trb.specs.declared.TransferTrbVariant.TheVariants.{SetupStage, DataStage, StatusStage, Normal, EventData, NoOp};
-ghost use Rattle.raw_trb.specs.Fields.{dwords_with, bytes_of, Weighted, control_dword};
+ghost use Rattle.raw_trb.specs.Fields.{dwords_with, bytes_of, control_dword};
 ghost use Rattle.raw_trb.specs.Raw.{has_fields, refused, EncodedAs, Encodes};
 
 use raw_trb::{Dwords, EncodedTrb};
@@ -14,31 +14,25 @@ use trb::{
 
 // ---- Dword 3 of every kind, and the dwords by kind
 
-fn weighted(set: bool, weight: u32) -> u32
-    ensures { Weighted set weight result }
-{
-    if set { weight } else { 0 }
-}
-
 fn control(
     cycle_bit: bool,
     interrupt_on_short: bool,
     chain: bool,
     interrupt_on_completion: bool,
     immediate_data: bool,
-    kind: u32,
+    kind: u8,
     direction: bool,
 ) -> u32
     requires { kind < 64 }
     ensures { result ≡ control_dword cycle_bit interrupt_on_short chain interrupt_on_completion immediate_data kind direction }
 {
-    weighted(cycle_bit, 1)
-        + weighted(interrupt_on_short, 4)
-        + weighted(chain, 16)
-        + weighted(interrupt_on_completion, 32)
-        + weighted(immediate_data, 64)
-        + kind * 1024
-        + weighted(direction, 65536)
+    cycle_bit as u32
+        + interrupt_on_short as u32 * 4
+        + chain as u32 * 16
+        + interrupt_on_completion as u32 * 32
+        + immediate_data as u32 * 64
+        + kind as u32 * 1024
+        + direction as u32 * 65536
 }
 
 fn normal_dwords(t: NormalTrb, cycle_bit: bool) -> Dwords
@@ -165,8 +159,7 @@ fn encoded(variant: TransferTrbVariant, cycle_bit: bool) -> Dwords
         TransferTrbVariant::Normal(t) => normal_dwords(t, cycle_bit),
         TransferTrbVariant::EventData(t) => event_data_dwords(t, cycle_bit),
         TransferTrbVariant::NoOp(t) => no_op_dwords(t, cycle_bit),
-        TransferTrbVariant::Isoch => no_dwords(),
-        TransferTrbVariant::Unrecognized => no_dwords(),
+        TransferTrbVariant::Isoch | TransferTrbVariant::Unrecognized => no_dwords(),
     }
 }
 
@@ -187,16 +180,10 @@ fn no_dwords() -> Dwords
 fn has_fields(variant: TransferTrbVariant) -> bool
     ensures { result ≡ has_fields variant }
 {
-    match variant {
-        TransferTrbVariant::SetupStage(_) => true,
-        TransferTrbVariant::DataStage(_) => true,
-        TransferTrbVariant::StatusStage(_) => true,
-        TransferTrbVariant::Normal(_) => true,
-        TransferTrbVariant::EventData(_) => true,
-        TransferTrbVariant::NoOp(_) => true,
-        TransferTrbVariant::Isoch => false,
-        TransferTrbVariant::Unrecognized => false,
-    }
+    !matches!(
+        variant,
+        TransferTrbVariant::Isoch | TransferTrbVariant::Unrecognized
+    )
 }
 
 fn refused(refusal: Refusal) -> EncodedTrb
@@ -228,38 +215,10 @@ pub fn encode(variant: TransferTrbVariant, cycle_bit: bool) -> EncodedTrb
 fn bytes_of(d: Dwords) -> [u8; 16]
     ensures { result ≡ bytes_of d }
 {
-    let a0 = d.d0;
-    let a1 = a0 / 256;
-    let a2 = a1 / 256;
-    let a3 = a2 / 256;
-    let b0 = d.d1;
-    let b1 = b0 / 256;
-    let b2 = b1 / 256;
-    let b3 = b2 / 256;
-    let c0 = d.d2;
-    let c1 = c0 / 256;
-    let c2 = c1 / 256;
-    let c3 = c2 / 256;
-    let e0 = d.d3;
-    let e1 = e0 / 256;
-    let e2 = e1 / 256;
-    let e3 = e2 / 256;
-    [
-        (a0 % 256) as u8,
-        (a1 % 256) as u8,
-        (a2 % 256) as u8,
-        (a3 % 256) as u8,
-        (b0 % 256) as u8,
-        (b1 % 256) as u8,
-        (b2 % 256) as u8,
-        (b3 % 256) as u8,
-        (c0 % 256) as u8,
-        (c1 % 256) as u8,
-        (c2 % 256) as u8,
-        (c3 % 256) as u8,
-        (e0 % 256) as u8,
-        (e1 % 256) as u8,
-        (e2 % 256) as u8,
-        (e3 % 256) as u8,
-    ]
+    let mut bytes = [0; 16];
+    bytes[..4].copy_from_slice(&d.d0.to_le_bytes());
+    bytes[4..8].copy_from_slice(&d.d1.to_le_bytes());
+    bytes[8..12].copy_from_slice(&d.d2.to_le_bytes());
+    bytes[12..].copy_from_slice(&d.d3.to_le_bytes());
+    bytes
 }

@@ -21,8 +21,8 @@ struct Progress {
 
 fn good_line(progress: Progress, end: usize) -> Progress {
     Progress {
-        lines: script_lines::next_number(progress.lines),
-        end: end,
+        lines: script_lines::lines_behind(progress.lines, 1),
+        end,
         good: true,
         more: true,
     }
@@ -30,19 +30,17 @@ fn good_line(progress: Progress, end: usize) -> Progress {
 
 fn bad_line(progress: Progress) -> Progress {
     Progress {
-        lines: script_lines::next_number(progress.lines),
-        end: progress.end,
+        lines: script_lines::lines_behind(progress.lines, 1),
         good: false,
         more: false,
+        ..progress
     }
 }
 
 fn ended(progress: Progress) -> Progress {
     Progress {
-        lines: progress.lines,
-        end: progress.end,
-        good: progress.good,
         more: false,
+        ..progress
     }
 }
 
@@ -55,22 +53,18 @@ fn run_line<W: Write>(
 ) -> io::Result<Progress>
     requires { max_raw_answer ≤ length text.old }
 {
-    let asked = call_script::read_raw_line(line);
-    match asked {
-        RawLine::Decode(decoded) => {
-            let at = script_lines::make_room(writer, text, progress.end, raw_text::MAX_RAW_ANSWER)?;
-            let end = raw_text::put_decoded(text, at, decoded);
-            Ok(good_line(progress, end))
-        }
+    let Some(asked) = call_script::read_raw_line(line) else {
+        return Ok(bad_line(progress));
+    };
+    let at = script_lines::make_room(writer, text, progress.end, raw_text::MAX_RAW_ANSWER)?;
+    let end = match asked {
+        RawLine::Decode(decoded) => raw_text::put_decoded(text, at, decoded),
         RawLine::Encode(t) => {
-            let at = script_lines::make_room(writer, text, progress.end, raw_text::MAX_RAW_ANSWER)?;
-            let variant = t.variant;
-            let encoded = raw_trb_encoder::encode(variant, t.cycle_bit);
-            let end = raw_text::put_encoded(text, at, encoded);
-            Ok(good_line(progress, end))
+            let encoded = raw_trb_encoder::encode(t.variant, t.cycle_bit);
+            raw_text::put_encoded(text, at, encoded)
         }
-        RawLine::Bad => Ok(bad_line(progress)),
-    }
+    };
+    Ok(good_line(progress, end))
 }
 
 fn run_step<W: Write>(
@@ -83,11 +77,8 @@ fn run_step<W: Write>(
     requires max_raw_answer_in_bounds { max_raw_answer ≤ length text.old }
     requires stepped { Stepped (length input.now) step }
 {
-    let found = step.found;
-    let from = step.from;
-    let end = step.end;
-    match found {
-        Found::Line => run_line(writer, text, progress, &input[from..end]),
+    match step.found {
+        Found::Line => run_line(writer, text, progress, &input[step.from..step.end]),
         Found::Piece => Ok(progress),
         Found::End => Ok(ended(progress)),
         Found::Unfinished => Ok(bad_line(progress)),
@@ -111,13 +102,14 @@ fn run_input<R: Read, W: Write>(
     };
     let mut from = 0;
     let mut filled = 0;
-    let mut turns = u64::MAX;
-    while 0 < turns {
+    for _ in 0..u64::MAX {
         let step = script_lines::next_line(reader, input, from, filled)?;
         progress = run_step(writer, text, progress, input, step)?;
+        if !progress.more {
+            break;
+        }
         from = step.next;
         filled = step.filled;
-        turns = script_lines::turns_left(turns, progress.more);
     }
     Ok(progress)
 }

@@ -22,29 +22,26 @@ fn numbers_at(row: &[u8], at: usize) -> TrbNumbers
     requires { at + place_length ≤ length row.now }
     ensures { result ≡ given_numbers (drop at row.now) }
 {
-    let numbers = held_bytes::numbers_at(row, at);
-    let transfer_length = buffers::le32(row, at + 16);
     TrbNumbers {
-        kind: numbers.kind,
-        flags: numbers.flags,
-        addr: numbers.addr,
-        value: numbers.value,
-        transfer_length: transfer_length,
+        transfer_length: buffers::le32(row, at + 16),
+        ..held_bytes::numbers_at(row, at)
     }
 }
 
 // The TRB that the numbers are. Most are Normals, so these are told apart here.
+#[tactic(auto, unfolding(held_bytes::specs::Numbers::variant_of))]
 fn trb_of(numbers: TrbNumbers) -> TransferTrb
     ensures { result ≡ trb_of numbers }
 {
-    let flags = numbers.flags;
-    if numbers.kind as u32 == raw_trb::NORMAL {
-        let normal = held_bytes::normal(flags, numbers.value, numbers.transfer_length);
-        let cycle_bit = held_bytes::bit(flags, 1);
+    if numbers.kind == raw_trb::NORMAL {
         return TransferTrb {
-            variant: TransferTrbVariant::Normal(normal),
+            variant: TransferTrbVariant::Normal(held_bytes::normal(
+                numbers.flags,
+                numbers.value,
+                numbers.transfer_length,
+            )),
             addr: numbers.addr,
-            cycle_bit: cycle_bit,
+            cycle_bit: held_bytes::bit(numbers.flags, 1),
         };
     }
     held_bytes::trb_of(numbers)
@@ -55,8 +52,7 @@ pub fn trb_at(row: &[u8], i: usize) -> TransferTrb
     requires { i < length (trbs_in row.now) }
     ensures { result ≡ get_or (trbs_in row.now) i past_end }
 {
-    let numbers = numbers_at(row, held_bytes::PLACE * i);
-    trb_of(numbers)
+    trb_of(numbers_at(row, held_bytes::PLACE * i))
 }
 
 // ---- Results
@@ -64,16 +60,12 @@ pub fn trb_at(row: &[u8], i: usize) -> TransferTrb
 fn status_of(number: u8) -> InTrbProcessingStatus
     ensures { result ≡ status_of number }
 {
-    if number == 0 {
-        return InTrbProcessingStatus::Success;
+    match number {
+        0 => InTrbProcessingStatus::Success,
+        1 => InTrbProcessingStatus::Stall,
+        3 => InTrbProcessingStatus::Disconnect,
+        _ => InTrbProcessingStatus::TransactionError,
     }
-    if number == 1 {
-        return InTrbProcessingStatus::Stall;
-    }
-    if number == 3 {
-        return InTrbProcessingStatus::Disconnect;
-    }
-    InTrbProcessingStatus::TransactionError
 }
 
 // The result in the bytes from index `at` on.
@@ -81,11 +73,9 @@ fn result_from(results: &[u8], at: usize) -> TdResult
     requires { at + result_length ≤ length results.now }
     ensures { result ≡ given_result (drop at results.now) }
 {
-    let status = status_of(results[at]);
-    let length = buffers::le32(results, at + 4);
     TdResult {
-        status: status,
-        length: length,
+        status: status_of(results[at]),
+        length: buffers::le32(results, at + 4),
     }
 }
 
@@ -94,11 +84,12 @@ pub fn result_at(results: &[u8], i: usize) -> TdResult
     ensures { result ≡ get_or (results_in results.now) i past_results }
 {
     if i < results.len() / RESULT {
-        return result_from(results, RESULT * i);
-    }
-    TdResult {
-        status: InTrbProcessingStatus::Disconnect,
-        length: 0,
+        result_from(results, RESULT * i)
+    } else {
+        TdResult {
+            status: InTrbProcessingStatus::Disconnect,
+            length: 0,
+        }
     }
 }
 
@@ -115,11 +106,9 @@ pub fn result_count(results: &[u8]) -> usize
 pub fn row_count(row: &[u8], results: &[u8]) -> usize
     ensures { result ≡ row_count row.now results.now }
 {
-    if row.len() % held_bytes::PLACE != 0 {
-        return trb::MAX_ROW + 1;
+    if row.len() % held_bytes::PLACE == 0 && results.len() % RESULT == 0 {
+        row.len() / held_bytes::PLACE
+    } else {
+        trb::MAX_ROW + 1
     }
-    if results.len() % RESULT != 0 {
-        return trb::MAX_ROW + 1;
-    }
-    row.len() / held_bytes::PLACE
 }

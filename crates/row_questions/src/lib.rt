@@ -1,7 +1,7 @@
 // The questions asked of a row of TDs, in the order of document 02, over facts of the block, what one loop over the row finds, and plain values.
 #![tactic(auto)]
 
-ghost use Rattle.std.specs.Prelude.{◌≡◌, ◌&&◌, ◌||◌, ◌+◌, ◌*◌, ◌≤◌, ◌^◌, min};
+ghost use Rattle.std.specs.Prelude.{◌≡◌, ◌+◌, ◌*◌, ◌≤◌, ◌^◌, min};
 ghost use Rattle.trb.specs.Answers.{number_of};
 ghost use Rattle.trb.specs.Limits.{max_row};
 ghost use Rattle.trb.specs.Questions.{first_no};
@@ -32,11 +32,7 @@ pub struct RowTest {
 pub fn places(count: usize) -> usize
     ensures { result ≡ min count max_row }
 {
-    if count < trb::MAX_ROW {
-        count
-    } else {
-        trb::MAX_ROW
-    }
+    count.min(trb::MAX_ROW)
 }
 
 // Before the first TRB.
@@ -54,36 +50,17 @@ pub fn untested() -> RowTest
     }
 }
 
-fn both(a: bool, b: bool) -> bool
-    ensures { result ≡ a && b }
-{
-    if a { b } else { false }
-}
-
-fn either(a: bool, b: bool) -> bool
-    ensures { result ≡ (a || b) }
-{
-    if a { true } else { b }
-}
-
 fn is_success(status: InTrbProcessingStatus) -> bool
     ensures { result ≡ is_success status }
 {
-    match status {
-        InTrbProcessingStatus::Disconnect => false,
-        InTrbProcessingStatus::Stall => false,
-        InTrbProcessingStatus::TransactionError => false,
-        InTrbProcessingStatus::Success => true,
-    }
+    matches!(status, InTrbProcessingStatus::Success)
 }
 
 // May a TD, with a Normal or without, be given this?
 fn may_be_given(normal: bool, given: TdResult) -> bool
     ensures { result ≡ may_be_given normal given }
 {
-    let status = given.status;
-    let nothing = both(is_success(status), given.length == 0);
-    either(normal, nothing)
+    normal || is_success(given.status) && given.length == 0
 }
 
 // The no that was found before, or the answer to questions 4, 21, 5 and 6 of a TRB behind `held` others of its TD.
@@ -103,31 +80,26 @@ pub fn test_trb(test: RowTest, t: TransferTrb, given: TdResult, regions: Regions
     requires { (test.held ≤ max_row) × ((test.tds ≤ max_row) × (test.given ≤ max_row * 2 ^ 32)) }
     ensures { (result ≡ tested_trb regions test t given) × (result.given ≤ test.given + 2 ^ 32) }
 {
-    let variant = t.variant;
-    let before = test.asked;
-    let asked = ask_also(before, test.held, variant, regions);
-    let supported = both(test.supported, held::supports(EndpointKind::In, variant));
-    let normal = either(test.has_normal, in_block::is_normal(variant));
-    if trb::chain_of(variant) {
+    let asked = ask_also(test.asked, test.held, t.variant, regions);
+    let supported = test.supported && held::supports(EndpointKind::In, t.variant);
+    let has_normal = test.has_normal || in_block::is_normal(t.variant);
+    if trb::chain_of(t.variant) {
         return RowTest {
-            asked: asked,
+            asked,
             held: test.held + 1,
-            supported: supported,
-            tds: test.tds,
-            has_normal: normal,
-            given_rightly: test.given_rightly,
-            given: test.given,
+            supported,
+            has_normal,
+            ..test
         };
     }
-    let rightly = both(test.given_rightly, may_be_given(normal, given));
     RowTest {
-        asked: asked,
+        asked,
         held: 0,
-        supported: supported,
+        supported,
         tds: test.tds + 1,
         has_normal: false,
-        given_rightly: rightly,
-        given: test.given + (given.length as u64),
+        given_rightly: test.given_rightly && may_be_given(has_normal, given),
+        given: test.given + given.length as u64,
     }
 }
 
@@ -135,20 +107,19 @@ pub fn test_trb(test: RowTest, t: TransferTrb, given: TdResult, regions: Regions
 fn is_shaped(count: usize, test: RowTest, tds: usize, data_length: usize) -> bool
     ensures { result ≡ shaped_as count test tds data_length }
 {
-    let length = data_length as u64;
-    let given = both(test.given == length, test.given_rightly);
-    let each = both(test.tds == tds, given);
-    let whole = both(test.held == 0, each);
-    let supported = both(test.supported, whole);
-    both(count <= trb::MAX_ROW, supported)
+    count <= trb::MAX_ROW
+        && test.supported
+        && test.held == 0
+        && test.tds == tds
+        && test.given == data_length as u64
+        && test.given_rightly
 }
 
 // Question 3: is a submission due, and is nothing held?
 fn is_due(facts: BlockFacts) -> bool
     ensures { result ≡ row_due facts }
 {
-    let state = facts.state;
-    both(in_block::submission_due(state), facts.held == 0)
+    in_block::submission_due(facts.state) && facts.held == 0
 }
 
 // Questions 1, 13, 2, 3, 15, then 4, 21, 5 and 6 TRB by TRB, last 9: of a row of `count` TRBs, of which this was found, with so many results
@@ -164,7 +135,6 @@ pub fn ask_row(
 ) -> Answer
     ensures { number_of result ≡ first_no (asked_as log_length regions facts count test tds data_length) }
 {
-    let asked = test.asked;
     if log_length < trb::MIN_ROW_LOG {
         return Answer::Refused(Refusal::BufferTooShort);
     }
@@ -180,8 +150,8 @@ pub fn ask_row(
     if !is_shaped(count, test, tds, data_length) {
         return Answer::Refused(Refusal::MalformedRow);
     }
-    if !trb::is_accepted(asked) {
-        return asked;
+    if !trb::is_accepted(test.asked) {
+        return test.asked;
     }
     if trb::MAX_DATA < data_length {
         return Answer::Refused(Refusal::DataTooLong);

@@ -53,7 +53,7 @@ pub fn nothing_asked() -> TdAsk
 fn normal_count(variant: TransferTrbVariant) -> usize
     ensures { result ≡ normal_count variant }
 {
-    if in_block::is_normal(variant) { 1 } else { 0 }
+    usize::from(in_block::is_normal(variant))
 }
 
 // With one TRB more.
@@ -61,12 +61,9 @@ pub fn asked_more(asked: TdAsk, t: TransferTrb) -> TdAsk
     requires { (asked.length + normal_length t < 2 ^ 32) × (asked.normals + normal_count t.variant < 2 ^ 64) }
     ensures { result ≡ asked_more asked t }
 {
-    let variant = t.variant;
-    let length = in_request::normal_length(variant);
-    let normals = normal_count(variant);
     TdAsk {
-        length: asked.length + length,
-        normals: asked.normals + normals,
+        length: asked.length + in_request::normal_length(t.variant),
+        normals: asked.normals + normal_count(t.variant),
     }
 }
 
@@ -97,22 +94,21 @@ pub fn td_from(
     requires { start + given.length < 2 ^ 32 }
     ensures { result ≡ td_from endpoint_id slot_id mode start given }
 {
-    let status = given.status;
-    in_td::td_of(endpoint_id, slot_id, mode, status, start + given.length)
+    let end = start + given.length;
+    in_td::td_of(endpoint_id, slot_id, mode, given.status, end)
 }
 
 // Before its first TRB.
 pub fn unprocessed_from(start: u32, records: usize, normals: usize) -> TdProcessed
     ensures { result ≡ from start records normals }
 {
-    let progress = TdProgress {
-        start: start,
-        edtla: 0,
-        state: TdProcessingState::Default,
-        records: records,
-    };
     TdProcessed {
-        progress: progress,
+        progress: TdProgress {
+            start,
+            edtla: 0,
+            state: TdProcessingState::Default,
+            records,
+        },
         normals_left: normals,
         result: TrbProcessingResult::Ok,
     }
@@ -135,18 +131,16 @@ pub fn td_done(so_far: RowProgress, given: TdResult, processed: TdProcessed) -> 
     requires { (so_far.finished + 1 < 2 ^ 64) × (so_far.start + given.length < 2 ^ 32) }
     ensures { result ≡ td_done so_far given processed.result processed.progress.records }
 {
-    let progress = processed.progress;
-    let result = processed.result;
-    let failed = in_td::is_error(result);
+    let failed = in_td::is_error(processed.result);
     RowProgress {
         finished: if failed {
             so_far.finished
         } else {
             so_far.finished + 1
         },
-        result: result,
+        result: processed.result,
         start: so_far.start + given.length,
-        records: progress.records,
+        records: processed.progress.records,
     }
 }
 
@@ -164,6 +158,7 @@ pub fn walk_row(
     requires { (count ≤ max_row) × ((tds ≤ max_row) × Walkable (take count row) (take tds results) (length log.old)) }
     ensures { Meets (process_row endpoint_id slot_id mode (take count row) (take tds results)) 0 log.old result log.new }
 {
+    // Indices: where a TD ends is known only once its chain was followed, and its TRBs are then walked a second time.
     let mut so_far = at_start_of_row();
     let mut first: usize = 0;
     let mut i: usize = 0;

@@ -1,7 +1,7 @@
 // The bytes that a call script leaves unsaid: those of guest memory and those of the device; and the sum over the bytes collected.
 #![tactic(auto)]
 
-ghost use Rattle.std.specs.Prelude.{◌≡◌, ◌<◌, ◌≤◌, length};
+ghost use Rattle.std.specs.Prelude.{◌≡◌, ◌≤◌, length};
 ghost use Rattle.trb.specs.Limits.{max_collected};
 ghost use Rattle.script_bytes.specs.Bytes.{guest_byte, device_byte, guest_bytes, device_bytes, weighted_sum};
 
@@ -16,10 +16,8 @@ fn guest_byte(base: u64, k: usize) -> u8
 pub fn fill_guest(window: &mut [u8], base: u64)
     ensures { window.new ≡ guest_bytes base (length window.old) }
 {
-    let mut k = 0;
-    while k < window.len() {
+    for k in 0..window.len() {
         window[k] = guest_byte(base, k);
-        k += 1;
     }
 }
 
@@ -34,17 +32,9 @@ fn device_byte(k: usize) -> u8
 pub fn fill_device(device: &mut [u8])
     ensures { device.new ≡ device_bytes (length device.old) }
 {
-    let mut k = 0;
-    while k < device.len() {
+    for k in 0..device.len() {
         device[k] = device_byte(k);
-        k += 1;
     }
-}
-
-fn wide(byte: u8) -> u32
-    ensures { (result ≡ byte) × (result < 256) }
-{
-    byte as u32
 }
 
 // The sum over the bytes of (k + 1) times byte k, modulo 2^32.
@@ -53,11 +43,9 @@ pub fn weighted_sum(bytes: &[u8]) -> u32
     ensures { result ≡ weighted_sum 0 0 bytes.now }
 {
     let mut sum: u32 = 0;
-    let mut k: u32 = 0;
-    while (k as usize) < bytes.len() {
-        let byte = wide(bytes[k as usize]);
-        k += 1;
-        sum = std::num::wrapping_add_u32(sum, k * byte);
+    for k in 0..bytes.len() {
+        let weight = k as u32 + 1;
+        sum = sum.wrapping_add(weight * bytes[k] as u32);
     }
     sum
 }

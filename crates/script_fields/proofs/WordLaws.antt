@@ -1,13 +1,13 @@
 -- Laws of words. Assumes nothing.
-use Prim.Native.Nat.{ℕ, ◌+◌, ◌-◌, ◌<◌, ◌≤◌}
-use mathlib.Core.Path.{◌≡◌, refl, ap}
-use mathlib.Core.Bool.{Bool, true, false, cond}
+use Prim.Native.Nat.{ℕ, ◌+◌, ◌≤◌}
+use mathlib.Core.Path.{◌≡◌, refl, ap, ◌∙◌}
+use mathlib.Core.Bool.{Bool, true, false, cond, not}
 use mathlib.Core.List.{List, [], ◌∷◌}
 use native.Mathlib.Omega.{arith}
 use lib.Dec.{eqb}
-use lib.ListN.{length, take, drop, get_or, length-drop}
-use borrow.Author.Tests.{eq-eqb, ne_eqb}
-use Rattle.numerals.proofs.ListLaws.{drop-next}
+use lib.ListN.{length, take, drop}
+use Rattle.std.specs.List.{prefix_len, take_while}
+use Rattle.std.proofs.lemmas.List.Folds.{length-prefix_len}
 use Rattle.script_fields.specs.Words.{space, first_word, words_behind}
 
 length-cond : (b : Bool) (xs ys : List ℕ) {n : ℕ} → length xs ≤ n → length ys ≤ n → length (cond b xs ys) ≤ n
@@ -18,22 +18,6 @@ pub length-first_word : (l : List ℕ) → length (first_word l) ≤ length l
 unfolding first_word
 length-first_word [] = omega arith
 length-first_word (c ∷ cs) = length-cond (eqb c space) [] (c ∷ first_word cs) (omega arith) (omega (arith, length-first_word cs))
-
-module _ (l : List ℕ) (i : ℕ) (h : i < length l) where
-  -- a space ends the word
-  pub first_word-space : get_or l i 0 ≡ space → first_word (drop i l) ≡ []
-  unfolding first_word
-  first_word-space k = rw (drop-next l i h, eq-eqb (get_or l i 0) space k)
-
-  -- another character belongs to it
-  pub first_word-more : (get_or l i 0 ≡ space → ⊥) → first_word (drop i l) ≡ get_or l i 0 ∷ first_word (drop (i + 1) l)
-  unfolding first_word
-  first_word-more k = rw (drop-next l i h, ne_eqb (get_or l i 0) space k)
-
-  -- behind a space a word stands
-  pub words_behind-space : get_or l i 0 ≡ space → words_behind (drop i l) ≡ first_word (drop (i + 1) l) ∷ words_behind (drop (i + 1) l)
-  unfolding words_behind
-  words_behind-space k = rw (drop-next l i h, eq-eqb (get_or l i 0) space k)
 
 -- behind the first word, a space or nothing follows
 module _ (c : ℕ) (cs : List ℕ) where
@@ -69,12 +53,16 @@ unfolding first_word
 first_word-rest [] = refl
 first_word-rest (c ∷ cs) = word-of-rest c cs (eqb c space) refl (first_word-rest cs)
 
--- the word from an index on
-module _ (l : List ℕ) (from end : ℕ) (h : from ≤ length l) (e : end ≡ from + length (first_word (drop from l))) where
-  pub word-inside : end ≤ length l
-  word-inside = omega (arith, length-first_word (drop from l), length-drop from l)
+-- the first word is what passes from the front on
+module _ (p : ℕ → Bool) (c : ℕ) (cs : List ℕ) where
+  prefix-more : (b : Bool) → prefix_len p cs ≡ length (first_word cs) → cond (not b) (1 + prefix_len p cs) 0 ≡ length (cond b [] (c ∷ first_word cs))
+  prefix-more true h = refl
+  prefix-more false h = omega arith
 
-  pub take-word-from : take (end - from) (drop from l) ≡ first_word (drop from l)
-  take-word-from =
-      let n : end - from ≡ length (first_word (drop from l)) = omega arith in
-      rw n (take-first_word (drop from l))
+prefix-word : (l : List ℕ) → prefix_len (λ c. not (eqb c space)) l ≡ length (first_word l)
+unfolding first_word
+prefix-word [] = refl
+prefix-word (c ∷ cs) = prefix-more (λ c. not (eqb c space)) c cs (eqb c space) (prefix-word cs)
+
+pub length-take_while : (l : List ℕ) → length (take_while (λ c. not (eqb c space)) l) ≡ length (first_word l)
+length-take_while l = length-prefix_len (λ c. not (eqb c space)) l ∙ prefix-word l

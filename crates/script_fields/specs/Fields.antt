@@ -1,10 +1,7 @@
 -- A line of a script: a letter, then fields, each behind one space, each a numeral. Assumes nothing.
-use Rattle.std.specs.Prelude.{ℕ, ◌+◌, ◌-◌, Bool, true, false, cond, ◌&&◌, List, [], ◌∷◌, eqb, leb, ltb, length, take, drop, get_or, set, replicate}
+use Rattle.std.specs.Prelude.{ℕ, ◌+◌, ◌-◌, Bool, true, false, cond, ◌&&◌, List, [], ◌∷◌, eqb, leb, ltb, length, take, drop, get_or, set, replicate, Option, Some, None}
 use Rattle.call_number.specs.Numbers.{number_of}
 use Rattle.call_number.specs.RawBytes.{raw_places, raw_of}
-use Rattle.call_number.specs.declared.Number.{Number}
-use Rattle.call_number.specs.declared.Number.TheVariants.{Is, Bad}
-use Rattle.call_number.specs.declared.RawBytes.{RawBytes}
 use Rattle.script_fields.specs.declared.Fields.{Fields}
 use Rattle.script_fields.specs.declared.RawFields.{RawFields}
 use Rattle.script_fields.specs.Words.{space, first_word, words_behind}
@@ -13,36 +10,31 @@ use Rattle.script_fields.specs.Words.{space, first_word, words_behind}
 abbrev pub max_numbers : ℕ
 max_numbers = 5
 
-abbrev pub no_fields : Fields
-no_fields = record { good = false; letter = 0; count = 0; numbers = replicate max_numbers 0 }
-
 -- a letter, and nothing behind it yet
 abbrev pub letter_alone : ℕ → Fields
-letter_alone c = record { good = true; letter = c; count = 0; numbers = replicate max_numbers 0 }
+letter_alone c = record { letter = c; count = 0; numbers = replicate max_numbers 0 }
 
 -- one number more
 abbrev pub with_number : Fields → ℕ → Fields
-with_number f n = record { good = true; letter = f.letter; count = f.count + 1; numbers = set f.numbers f.count n }
+with_number f n = record { letter = f.letter; count = f.count + 1; numbers = set f.numbers f.count n }
 
-abbrev pub is_number : Number → Bool
-is_number (Is n) = true
-is_number Bad = false
-
-abbrev pub value_of : Number → ℕ
-value_of (Is n) = n
-value_of Bad = 0
+-- the fields f and one number more, where there is one and room for it, and then as g says
+abbrev pub then_number : Fields → Option ℕ → (Fields → Option Fields) → Option Fields
+then_number f None g = None
+then_number f (Some n) g = cond (ltb f.count max_numbers) (g (with_number f n)) None
 
 -- the numbers of further words, each of which has to be a numeral
-unfoldable pub with_words : Fields → List (List ℕ) → Fields
-with_words f [] = f
-with_words f (w ∷ ws) = cond (ltb f.count max_numbers && is_number (number_of w)) (with_words (with_number f (value_of (number_of w))) ws) no_fields
+unfoldable pub with_words : Fields → List (List ℕ) → Option Fields
+with_words f [] = Some f
+with_words f (w ∷ ws) = then_number f (number_of w) (λ g. with_words g ws)
 
 -- what stands behind a letter starts with a space, or is nothing
-unfoldable pub behind_letter : Fields → List ℕ → Fields
-behind_letter f cs = cond (eqb (length (first_word cs)) 0) (with_words f (words_behind cs)) no_fields
+unfoldable pub behind_letter : Fields → List ℕ → Option Fields
+behind_letter f cs = cond (eqb (length (first_word cs)) 0) (with_words f (words_behind cs)) None
 
-unfoldable pub fields_of : List ℕ → Fields
-fields_of [] = no_fields
+-- a line that has no letter, or whose letter and words have no such form, has no fields
+unfoldable pub fields_of : List ℕ → Option Fields
+fields_of [] = None
 fields_of (c ∷ cs) = behind_letter (letter_alone c) cs
 
 -- number k of a line
@@ -61,18 +53,17 @@ within_limits limits f = eqb f.count (length limits) && all_at_most f.numbers li
 
 -- ---- Raw TRBs
 
-abbrev pub no_raw_fields : RawFields
-no_raw_fields = record { good = false; letter = 0; count = 0; first = 0; bytes = replicate 16 0 }
-
-abbrev pub behind_numbers : Fields → RawBytes → RawFields
-behind_numbers f raw = record { good = f.good && raw.good; letter = f.letter; count = f.count; first = field f 0; bytes = raw.bytes }
+abbrev pub behind_numbers : Option Fields → Option (List ℕ) → Option RawFields
+behind_numbers (Some f) (Some raw) = Some (record { letter = f.letter; count = f.count; first = field f 0; bytes = raw })
+behind_numbers (Some f) None = None
+behind_numbers None raw = None
 
 -- where the last field of a line, if it is a raw TRB, starts
 abbrev pub raw_start : List ℕ → ℕ
 raw_start l = length l - raw_places
 
 -- the line's last field is a raw TRB, of so many digits, and stands behind a space; before that the line is as any other
-unfoldable pub raw_fields_of : List ℕ → RawFields
+unfoldable pub raw_fields_of : List ℕ → Option RawFields
 raw_fields_of l =
     cond (ltb raw_places (length l) && eqb (get_or l (raw_start l - 1) 0) space)
-    (behind_numbers (fields_of (take (raw_start l - 1) l)) (raw_of (drop (raw_start l) l))) no_raw_fields
+    (behind_numbers (fields_of (take (raw_start l - 1) l)) (raw_of (drop (raw_start l) l))) None

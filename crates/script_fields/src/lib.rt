@@ -1,83 +1,61 @@
 // A line of a script taken apart: its letter, and the fields behind it, each behind one space.
 #![tactic(auto)]
 
-ghost use Rattle.std.specs.Prelude.{◌≡◌, ◌+◌, ◌≤◌, length, drop};
-ghost use Rattle.script_fields.specs.Words.{first_word};
-ghost use Rattle.script_fields.specs.Fields.{max_numbers, no_fields, fields_of, within_limits, raw_fields_of, no_raw_fields};
-
-use call_number::Number;
+ghost use Rattle.std.specs.Prelude.{◌≡◌, ◌+◌, ◌≤◌, length, drop, not, eqb, leb};
+ghost use Rattle.std.specs.List.{take_while, list_all, zip};
+ghost use Rattle.script_fields.specs.Words.{space, first_word};
+ghost use Rattle.script_fields.specs.Fields.{max_numbers, fields_of, within_limits, raw_fields_of};
 
 // Numbers of a line.
 pub const MAX_NUMBERS: usize = 5;
 
-// A line's letter, and the numbers behind it; zeros where the line has no such form, and behind the last number.
+// A line's letter, and the numbers behind it; zeros behind the last number.
 #[derive(Clone, Copy)]
 pub struct Fields {
-    pub good: bool,
     pub letter: u8,
     pub count: usize,
     pub numbers: [u64; MAX_NUMBERS],
 }
 
-fn no_fields() -> Fields
-    ensures { result ≡ no_fields }
+// How many characters stand before the first space.
+fn word_length(line: &[u8]) -> usize
+    ensures { result ≡ length (take_while (λ c. not (eqb c space)) line.now) }
 {
-    Fields {
-        good: false,
-        letter: 0,
-        count: 0,
-        numbers: [0; MAX_NUMBERS],
-    }
-}
-
-// The index of the first space from `from` on, or the line's length.
-fn field_end(line: &[u8], from: usize) -> usize
-    requires { from ≤ length line.now }
-    ensures { result ≡ from + length (first_word (drop from line.now)) }
-{
-    let mut at = from;
-    while at < line.len() {
-        if line[at] == b' ' {
-            return at;
-        }
-        at += 1;
-    }
-    at
+    line.iter()
+        .take_while(|character| **character != b' ')
+        .count()
 }
 
 // The fields of a line, which comes without its line feed.
-pub fn read_fields(line: &[u8]) -> Fields
+pub fn read_fields(line: &[u8]) -> Option<Fields>
     ensures { result ≡ fields_of line.now }
 {
-    if line.len() == 0 {
-        return no_fields();
-    }
-    let mut numbers = [0u64; MAX_NUMBERS];
-    let mut count = 0;
-    let mut at = 1;
-    while at < line.len() {
-        if line[at] != b' ' {
-            return no_fields();
+    let (letter, mut rest) = line.split_first()?;
+    let mut fields = Fields {
+        letter: *letter,
+        count: 0,
+        numbers: [0; MAX_NUMBERS],
+    };
+    while let Some((space, behind)) = rest.split_first() {
+        if *space != b' ' || fields.count == MAX_NUMBERS {
+            return None;
         }
-        if count == MAX_NUMBERS {
-            return no_fields();
-        }
-        let from = at + 1;
-        let end = field_end(line, from);
-        let number = call_number::read_number(&line[from..end]);
-        let Number::Is(value) = number else {
-            return no_fields();
-        };
-        numbers[count] = value;
-        count += 1;
-        at = end;
+        let (word, behind_word) = behind.split_at(word_length(behind));
+        fields.numbers[fields.count] = call_number::read_number(word)?;
+        fields.count += 1;
+        rest = behind_word;
     }
-    Fields {
-        good: true,
-        letter: line[0],
-        count: count,
-        numbers: numbers,
-    }
+    Some(fields)
+}
+
+// Is each number that has a limit at most that?
+fn all_at_most(numbers: &[u64], limits: &[u64]) -> bool
+    ensures { result ≡ list_all (λ p. leb p.0 p.1) (zip numbers.now limits.now) }
+{
+    numbers
+        .iter()
+        .zip(limits)
+        .all(|(number, limit)| *number <= *limit)
 }
 
 // Has the line as many numbers as there are limits, and is each at most its limit?
@@ -85,65 +63,38 @@ pub fn within_limits(fields: Fields, limits: &[u64]) -> bool
     requires { length limits.now ≤ max_numbers }
     ensures { result ≡ within_limits limits.now fields }
 {
-    let numbers = fields.numbers;
-    if fields.count != limits.len() {
-        return false;
-    }
-    let mut i = 0;
-    while i < limits.len() {
-        if limits[i] < numbers[i] {
-            return false;
-        }
-        i += 1;
-    }
-    true
+    fields.count == limits.len() && all_at_most(&fields.numbers, limits)
 }
 
 // ---- Raw TRBs
 
-// A line whose last field is a raw TRB: its letter, the numbers between them, and the TRB's bytes.
+// A line whose last field is a raw TRB: its letter, how many numbers stand between them, the first of these, and the TRB's bytes.
 #[derive(Clone, Copy)]
 pub struct RawFields {
-    pub good: bool,
     pub letter: u8,
     pub count: usize,
     pub first: u64,
     pub bytes: [u8; 16],
 }
 
-fn no_raw_fields() -> RawFields
-    ensures { result ≡ no_raw_fields }
-{
-    RawFields {
-        good: false,
-        letter: 0,
-        count: 0,
-        first: 0,
-        bytes: [0; 16],
-    }
-}
-
 // The fields of such a line, which comes without its line feed.
-pub fn read_raw_fields(line: &[u8]) -> RawFields
+#[tactic(auto, unfolding(crate::specs::Fields::raw_fields_of))]
+pub fn read_raw_fields(line: &[u8]) -> Option<RawFields>
     ensures { result ≡ raw_fields_of line.now }
 {
     if line.len() <= call_number::RAW_PLACES {
-        return no_raw_fields();
+        return None;
     }
     let from = line.len() - call_number::RAW_PLACES;
-    let end = from - 1;
-    if line[end] != b' ' {
-        return no_raw_fields();
+    if line[from - 1] != b' ' {
+        return None;
     }
-    let fields = read_fields(&line[..end]);
-    let numbers = fields.numbers;
-    let raw = call_number::read_raw(&line[from..]);
-    let bytes = raw.bytes;
-    RawFields {
-        good: fields.good & raw.good,
+    let fields = read_fields(&line[..from - 1])?;
+    let bytes = call_number::read_raw(&line[from..])?;
+    Some(RawFields {
         letter: fields.letter,
         count: fields.count,
-        first: numbers[0],
-        bytes: bytes,
-    }
+        first: fields.numbers[0],
+        bytes,
+    })
 }

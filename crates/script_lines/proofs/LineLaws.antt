@@ -1,54 +1,38 @@
 -- Laws of lines and of bytes that move to the front. Assumes nothing.
 use Prim.Native.Nat.{ℕ, ◌+◌, ◌-◌, ◌≤◌, ◌<◌}
 use mathlib.Core.Path.{◌≡◌, refl, sym, ap, ◌∙◌}
-use mathlib.Core.Bool.{Bool, true, false, cond}
+use mathlib.Core.Bool.{Bool, true, false, cond, not}
 use mathlib.Core.List.{List, [], ◌∷◌, ◌++◌}
-use native.Mathlib.Numerals.{add-one}
 use native.Mathlib.Omega.{arith}
-use lib.Dec.{ltb}
-use lib.ListN.{length, take, drop, set, get_or, length-drop}
-use lib.Seq.{drop-cons, drop-drop, drop-set-lt, drop-length, take-suc, take-suc-set, get_or-drop, length-take-le, drop_at, take-append-add, take-append-le}
+use lib.Dec.{ltb, eqb}
+use Rattle.std.specs.List.{prefix_len, take_while}
+use Rattle.std.proofs.lemmas.List.Folds.{length-prefix_len}
+use lib.ListN.{length, length-take, take, drop, length-drop}
+use lib.Seq.{length-take-le, drop_at, take-append-add, take-append-le}
 use borrow.Rule.Slice.PartMut.{put_mid, post_of}
-use borrow.Author.Tests.{ltb-true, ltb-false, eq-eqb, ne_eqb}
+use borrow.Author.Tests.{ltb-true, ltb-false}
 use Rattle.script_lines.specs.Lines.{line_feed, first_line}
 use Rattle.script_lines.specs.Steps.{PieceRead, at_end, step_of, Refills, NextLine}
 use Rattle.script_lines.specs.declared.Refilled.{Refilled}
 use Rattle.script_lines.specs.declared.Refilled.TheVariants as refilled
 use Rattle.script_lines.specs.declared.Step.{Step}
 
-module _ (l : List ℕ) (i : ℕ) (h : i < length l) where
-  -- a line feed ends the line
-  pub first_line-feed : get_or l i 0 ≡ line_feed → first_line (drop i l) ≡ []
-  unfolding first_line
-  first_line-feed e = rw (drop-cons l i 0 h, eq-eqb (get_or l i 0) line_feed e)
+-- the first line is what passes from the front on
+module _ (p : ℕ → Bool) (c : ℕ) (cs : List ℕ) where
+  prefix-more : (b : Bool) → prefix_len p cs ≡ length (first_line cs) → cond (not b) (1 + prefix_len p cs) 0 ≡ length (cond b [] (c ∷ first_line cs))
+  prefix-more true h = refl
+  prefix-more false h = omega arith
 
-  -- any other byte stands in it
-  pub first_line-next : (get_or l i 0 ≡ line_feed → ⊥) → first_line (drop i l) ≡ get_or l i 0 ∷ first_line (drop (i + 1) l)
-  unfolding first_line
-  first_line-next e = rw (add-one i, drop-cons l i 0 h, ne_eqb (get_or l i 0) line_feed e)
-
--- behind the input there is none
-pub first_line-none : (l : List ℕ) (i : ℕ) → i ≡ length l → first_line (drop i l) ≡ []
+prefix-line : (l : List ℕ) → prefix_len (λ c. not (eqb c line_feed)) l ≡ length (first_line l)
 unfolding first_line
-first_line-none l i e = rw (e, drop-length l)
+prefix-line [] = refl
+prefix-line (c ∷ cs) = prefix-more (λ c. not (eqb c line_feed)) c cs (eqb c line_feed) (prefix-line cs)
 
--- ---- Bytes that move to the front: to were moved, and those from index at on are as they were
+pub length-take_while : (l : List ℕ) → length (take_while (λ c. not (eqb c line_feed)) l) ≡ length (first_line l)
+length-take_while l = length-prefix_len (λ c. not (eqb c line_feed)) l ∙ prefix-line l
 
-module _ (l m : List ℕ) (from to at : ℕ) (count : to + from ≡ at) (room : at < length l) (same : length m ≡ length l) (rest : drop at m ≡ drop at l) where
-  at_same : get_or m at 0 ≡ get_or l at 0
-  at_same =
-      let z : at + 0 ≡ at = omega arith in
-      ap (λ (k : ℕ). get_or m k 0) (sym z) ∙ (sym (get_or-drop at m 0 0) ∙ (ap (λ (x : List ℕ). get_or x 0 0) rest ∙ (get_or-drop at l 0 0 ∙ ap (λ (k : ℕ). get_or l k 0) z)))
-
-  pub moved_more : take to m ≡ take to (drop from l) → take (to + 1) (set m to (get_or m at 0)) ≡ take (to + 1) (drop from l)
-  moved_more e =
-      let inside : to < length (drop from l) = rw (length-drop from l) (omega arith) in
-      let place : at ≡ from + to = omega arith in
-      rw (add-one to, take-suc-set m to (get_or m at 0) (omega arith), take-suc (drop from l) to 0 inside, e)
-      (ap (λ (v : ℕ). take to (drop from l) ++ v ∷ []) (at_same ∙ (ap (λ (k : ℕ). get_or l k 0) place ∙ sym (get_or-drop from l to 0))))
-
-  pub rest-kept : drop (at + 1) (set m to (get_or m at 0)) ≡ drop (at + 1) l
-  rest-kept = rw (drop-set-lt (at + 1) m to (get_or m at 0) (omega arith)) (sym (drop-drop 1 at m) ∙ (ap (λ (x : List ℕ). drop 1 x) rest ∙ drop-drop 1 at l))
+pub length-first_line : (l : List ℕ) → length (first_line l) ≤ length l
+length-first_line l = omega (arith, length-take_while l, length-take (prefix_len (λ c. not (eqb c line_feed)) l) l)
 
 -- ---- Bytes that are read behind those that are held
 

@@ -1,9 +1,10 @@
 // The lines of an input, each ended by a line feed, and the text that answers them.
 #![tactic(auto)]
 
-ghost use Rattle.std.specs.Prelude.{◌≡◌, ◌+◌, ◌-◌, ◌≤◌, ◌<◌, min, [], ◌++◌, length, take, drop, IfOk, OnOk};
+ghost use Rattle.std.specs.Prelude.{◌≡◌, ◌+◌, ◌-◌, ◌≤◌, ◌<◌, min, not, eqb, [], ◌++◌, length, take, drop, IfOk, OnOk};
+ghost use Rattle.std.specs.List.{take_while};
 ghost use Rattle.std.specs.Io.KnownBytes.{Appends, Consumes, IsAtEnd};
-ghost use Rattle.script_lines.specs.Lines.{max_line, LineEnd, MovedToFront, ReadBehind, MakesRoom, KeepsText, bad_line_text, counted, TurnsLeft};
+ghost use Rattle.script_lines.specs.Lines.{max_line, line_feed, LineEnd, MovedToFront, ReadBehind, MakesRoom, KeepsText, bad_line_text, counted, TurnsLeft};
 ghost use Rattle.script_lines.specs.Steps.{no_line, at_end, Refills, refill_bytes, step_of, step_bytes, NextLine};
 
 use std::io;
@@ -51,19 +52,19 @@ pub struct Step {
     pub filled: usize,
 }
 
+// How many bytes stand before the first line feed.
+fn line_length(input: &[u8]) -> usize
+    ensures { result ≡ length (take_while (λ c. not (eqb c line_feed)) input.now) }
+{
+    input.iter().take_while(|byte| **byte != b'\n').count()
+}
+
 // The index of the first line feed from `from` on, or the input's length.
 pub fn line_end(input: &[u8], from: usize) -> usize
     requires { from ≤ length input.now }
     ensures { LineEnd input.now from result }
 {
-    let mut at = from;
-    while at < input.len() {
-        if input[at] == b'\n' {
-            return at;
-        }
-        at += 1;
-    }
-    at
+    from + line_length(&input[from..])
 }
 
 // Reads behind the first `held` bytes of the input. Returns how many bytes there are then.
@@ -82,14 +83,8 @@ fn move_to_front(input: &mut [u8], from: usize, end: usize) -> usize
     requires { (from ≤ end) × (end ≤ length input.old) }
     ensures { MovedToFront from end result input.old input.new }
 {
-    let mut to = 0;
-    let mut at = from;
-    while at < end {
-        input[to] = input[at];
-        to += 1;
-        at += 1;
-    }
-    to
+    input.copy_within(from..end, 0);
+    end - from
 }
 
 // No line: the next step starts at the front, with so many bytes in the buffer.
@@ -97,11 +92,11 @@ fn no_line(found: Found, filled: usize) -> Step
     ensures { result ≡ no_line found filled }
 {
     Step {
-        found: found,
+        found,
         from: 0,
         end: 0,
         next: 0,
-        filled: filled,
+        filled,
     }
 }
 
@@ -110,9 +105,10 @@ fn at_end(held: usize) -> Refilled
     ensures { result ≡ at_end held }
 {
     if 0 < held {
-        return Refilled::Unfinished;
+        Refilled::Unfinished
+    } else {
+        Refilled::End
     }
-    Refilled::End
 }
 
 // Reads a piece of input behind the bytes of an unfinished line, which then stand at the front.
@@ -164,10 +160,10 @@ pub fn next_line<R: Read>(
     if end < filled {
         return Ok(Step {
             found: Found::Line,
-            from: from,
-            end: end,
+            from,
+            end,
             next: end + 1,
-            filled: filled,
+            filled,
         });
     }
     let refilled = refill(reader, input, from, filled)?;
@@ -184,30 +180,11 @@ pub fn turns_left(turns: u64, more: bool) -> u64
 
 // ---- Text out
 
-// The number of the next line. A number that 64 bits do not hold stays at their largest one.
-pub fn next_number(n: u64) -> u64
-    ensures { result ≡ counted (n + 1) }
-{
-    if n < u64::MAX { n + 1 } else { n }
-}
-
-// How many lines there are behind so many more, likewise.
+// How many lines there are behind so many more. A number that 64 bits do not hold stays at their largest one.
 pub fn lines_behind(n: u64, more: usize) -> u64
     ensures { result ≡ counted (n + more) }
 {
-    let count = more as u64;
-    if count <= u64::MAX - n {
-        n + count
-    } else {
-        u64::MAX
-    }
-}
-
-// The smaller of two numbers.
-fn least(n: usize, room: usize) -> usize
-    ensures { result ≡ min n room }
-{
-    if n < room { n } else { room }
+    n.saturating_add(more as u64)
 }
 
 // Writes the text out where there may be no room behind it for an answer of so many characters. Returns where the next answer starts.
@@ -242,8 +219,7 @@ pub fn print_bad_line<W: Write>(writer: &mut W, lines: u64, good: bool) -> io::R
 pub fn write_text<W: Write>(writer: &mut W, text: &[u8], end: usize) -> io::Result<()>
     ensures { OnOk result (Appends (W.contents writer.old) (W.contents writer.new) (take end text.now)) }
 {
-    let written = least(end, text.len());
-    writer.write_all(&text[..written])
+    writer.write_all(&text[..end.min(text.len())])
 }
 
 // Writes out what is left of the text and, where the run ended at a bad line, its number.

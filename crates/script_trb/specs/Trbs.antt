@@ -1,9 +1,8 @@
 -- A decoded TRB as a script writes it: KIND ADDR FLAGS A B. A flag or a field that the kind does not have must be 0. Assumes nothing.
-use Rattle.std.specs.Prelude.{ℕ, ◌+◌, ◌-◌, ◌/◌, ◌%◌, ◌^◌, Bool, cond, not, ◌&&◌, ◌||◌, List, [], ◌∷◌, eqb, leb}
+use Rattle.std.specs.Prelude.{ℕ, ◌+◌, ◌-◌, ◌/◌, ◌%◌, ◌^◌, Bool, cond, not, ◌&&◌, ◌||◌, List, [], ◌∷◌, eqb, leb, Option, Some, None}
 use Rattle.trb.specs.declared.TransferTrbVariant.{TransferTrbVariant}
 use Rattle.trb.specs.declared.TransferTrbVariant.TheVariants.{SetupStage, DataStage, StatusStage, Normal, EventData, NoOp, Isoch, Unrecognized}
-use Rattle.script_trb.specs.declared.ScriptTrb.{ScriptTrb}
-use Rattle.script_trb.specs.declared.ScriptTrb.TheVariants.{Is, Bad}
+use Rattle.trb.specs.declared.TransferTrb.{TransferTrb}
 use Rattle.script_trb.specs.declared.TrbFields.{TrbFields}
 use Rattle.script_trb.specs.Tables.{row_of}
 
@@ -54,15 +53,15 @@ any_word = 2 ^ 32 - 1
 
 -- ---- Kinds
 
-abbrev pub with_variant : TrbFields → TransferTrbVariant → ScriptTrb
-with_variant f v = Is (record { variant = v; addr = f.addr; cycle_bit = has_flag cycle f.flags })
+abbrev pub with_variant : TrbFields → TransferTrbVariant → Option TransferTrb
+with_variant f v = Some (record { variant = v; addr = f.addr; cycle_bit = has_flag cycle f.flags })
 
 -- a line that is not so is bad
-abbrev pub trb_if : Bool → TrbFields → TransferTrbVariant → ScriptTrb
-trb_if so f v = cond so (with_variant f v) Bad
+abbrev pub trb_if : Bool → TrbFields → TransferTrbVariant → Option TransferTrb
+trb_if so f v = cond so (with_variant f v) None
 
 -- flags 0 to 4; A data pointer, B length
-unfoldable pub normal_trb : TrbFields → ScriptTrb
+unfoldable pub normal_trb : TrbFields → Option TransferTrb
 normal_trb f = trb_if (has_only f (cycle + chain + on_completion + on_short + immediate) any_number any_word) f (Normal (record {
   data_pointer = f.a;
   transfer_length = f.b;
@@ -73,7 +72,7 @@ normal_trb f = trb_if (has_only f (cycle + chain + on_completion + on_short + im
 }))
 
 -- flags 0 and 2; A the eight setup bytes as a little-endian number
-unfoldable pub setup_stage_trb : TrbFields → ScriptTrb
+unfoldable pub setup_stage_trb : TrbFields → Option TransferTrb
 setup_stage_trb f = trb_if (has_only f (cycle + on_completion) any_number 0) f (SetupStage (record {
   request_type = f.a % 2 ^ 8;
   request = f.a / 2 ^ 8 % 2 ^ 8;
@@ -84,7 +83,7 @@ setup_stage_trb f = trb_if (has_only f (cycle + on_completion) any_number 0) f (
 }))
 
 -- flags 0 to 5; A data pointer, B length
-unfoldable pub data_stage_trb : TrbFields → ScriptTrb
+unfoldable pub data_stage_trb : TrbFields → Option TransferTrb
 data_stage_trb f = trb_if (has_only f (cycle + chain + on_completion + on_short + immediate + direction) any_number any_word) f (DataStage (record {
   data_pointer = f.a;
   transfer_length = f.b;
@@ -96,7 +95,7 @@ data_stage_trb f = trb_if (has_only f (cycle + chain + on_completion + on_short 
 }))
 
 -- flags 0, 1, 2, 5
-unfoldable pub status_stage_trb : TrbFields → ScriptTrb
+unfoldable pub status_stage_trb : TrbFields → Option TransferTrb
 status_stage_trb f = trb_if (has_only f (cycle + chain + on_completion + direction) 0 0) f (StatusStage (record {
   chain = has_flag chain f.flags;
   interrupt_on_completion = has_flag on_completion f.flags;
@@ -104,7 +103,7 @@ status_stage_trb f = trb_if (has_only f (cycle + chain + on_completion + directi
 }))
 
 -- flags 0, 1, 2; A event data
-unfoldable pub event_data_trb : TrbFields → ScriptTrb
+unfoldable pub event_data_trb : TrbFields → Option TransferTrb
 event_data_trb f = trb_if (has_only f (cycle + chain + on_completion) any_number 0) f (EventData (record {
   event_data = f.a;
   chain = has_flag chain f.flags;
@@ -112,24 +111,24 @@ event_data_trb f = trb_if (has_only f (cycle + chain + on_completion) any_number
 }))
 
 -- flags 0, 1, 2
-unfoldable pub no_op_trb : TrbFields → ScriptTrb
+unfoldable pub no_op_trb : TrbFields → Option TransferTrb
 no_op_trb f = trb_if (has_only f (cycle + chain + on_completion) 0 0) f (NoOp (record {
   chain = has_flag chain f.flags;
   interrupt_on_completion = has_flag on_completion f.flags;
 }))
 
 -- flag 0 alone
-unfoldable pub bare_trb : TransferTrbVariant → TrbFields → ScriptTrb
+unfoldable pub bare_trb : TransferTrbVariant → TrbFields → Option TransferTrb
 bare_trb v f = trb_if (has_only f cycle 0 0) f v
 
 -- KIND
-abbrev pub kinds : List (ℕ × (TrbFields → ScriptTrb))
+abbrev pub kinds : List (ℕ × (TrbFields → Option TransferTrb))
 kinds =
     (1, normal_trb) ∷ (2, setup_stage_trb) ∷ (3, data_stage_trb) ∷ (4, status_stage_trb) ∷ (5, bare_trb Isoch) ∷ (7, event_data_trb) ∷ (8, no_op_trb)
     ∷ (0, bare_trb Unrecognized) ∷ []
 
-abbrev pub bad_trb : TrbFields → ScriptTrb
-bad_trb f = Bad
+abbrev pub bad_trb : TrbFields → Option TransferTrb
+bad_trb f = None
 
-unfoldable pub trb_of : TrbFields → ScriptTrb
+unfoldable pub trb_of : TrbFields → Option TransferTrb
 trb_of f = row_of kinds bad_trb f.kind f

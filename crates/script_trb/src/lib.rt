@@ -9,12 +9,6 @@ use trb::{
     TransferTrbVariant,
 };
 
-#[derive(Clone, Copy)]
-pub enum ScriptTrb {
-    Is(TransferTrb),
-    Bad,
-}
-
 // The fields of a TRB.
 #[derive(Clone, Copy)]
 pub struct TrbFields {
@@ -72,49 +66,49 @@ fn allows(flags: u64, kind_has: u64, flag: u64) -> bool
     requires { 0 < flag }
     ensures { result ≡ allows flags kind_has flag }
 {
-    let set = has_flag(flags, flag);
-    let allowed = has_flag(kind_has, flag);
-    !set | allowed
+    !has_flag(flags, flag) || has_flag(kind_has, flag)
 }
 
+#[tactic(auto, unfolding(crate::specs::Trbs::has_only_flags))]
 fn has_only_flags(flags: u64, kind_has: u64) -> bool
     ensures { result ≡ has_only_flags flags kind_has }
 {
-    let cycle = allows(flags, kind_has, CYCLE);
-    let chain = allows(flags, kind_has, CHAIN);
-    let completion = allows(flags, kind_has, INTERRUPT_ON_COMPLETION);
-    let short = allows(flags, kind_has, INTERRUPT_ON_SHORT);
-    let immediate = allows(flags, kind_has, IMMEDIATE_DATA);
-    let direction = allows(flags, kind_has, DIRECTION);
-    (flags <= ALL_FLAGS) & (cycle & (chain & (completion & (short & (immediate & direction)))))
+    flags <= ALL_FLAGS
+        && allows(flags, kind_has, CYCLE)
+        && allows(flags, kind_has, CHAIN)
+        && allows(flags, kind_has, INTERRUPT_ON_COMPLETION)
+        && allows(flags, kind_has, INTERRUPT_ON_SHORT)
+        && allows(flags, kind_has, IMMEDIATE_DATA)
+        && allows(flags, kind_has, DIRECTION)
 }
 
 // Does the TRB have none but these flags, and nothing that is over its limit? What the kind has no field for has limit 0.
+#[tactic(auto, unfolding(crate::specs::Trbs::has_only))]
 fn has_only(fields: TrbFields, kind_has: u64, max_a: u64, max_b: u64) -> bool
     ensures { result ≡ has_only fields kind_has max_a max_b }
 {
-    has_only_flags(fields.flags, kind_has) & ((fields.a <= max_a) & (fields.b <= max_b))
+    has_only_flags(fields.flags, kind_has) && fields.a <= max_a && fields.b <= max_b
 }
 
 // ---- Kinds
 
-fn with_variant(fields: TrbFields, variant: TransferTrbVariant) -> ScriptTrb
+fn with_variant(fields: TrbFields, variant: TransferTrbVariant) -> Option<TransferTrb>
     ensures { result ≡ with_variant fields variant }
 {
-    let t = TransferTrb {
-        variant: variant,
+    Some(TransferTrb {
+        variant,
         addr: fields.addr,
         cycle_bit: has_flag(fields.flags, CYCLE),
-    };
-    ScriptTrb::Is(t)
+    })
 }
 
-fn normal(fields: TrbFields) -> ScriptTrb
+#[tactic(auto, unfolding(crate::specs::Trbs::normal_trb, crate::specs::Trbs::has_only))]
+fn normal(fields: TrbFields) -> Option<TransferTrb>
     ensures { result ≡ normal_trb fields }
 {
     let flags = fields.flags;
     if !has_only(fields, NORMAL_FLAGS, u64::MAX, MAX_LENGTH) {
-        return ScriptTrb::Bad;
+        return None;
     }
     let normal = NormalTrb {
         data_pointer: fields.a,
@@ -127,30 +121,32 @@ fn normal(fields: TrbFields) -> ScriptTrb
     with_variant(fields, TransferTrbVariant::Normal(normal))
 }
 
-fn setup_stage(fields: TrbFields) -> ScriptTrb
+#[tactic(auto, unfolding(crate::specs::Trbs::setup_stage_trb))]
+fn setup_stage(fields: TrbFields) -> Option<TransferTrb>
     ensures { result ≡ setup_stage_trb fields }
 {
     if !has_only(fields, SETUP_STAGE_FLAGS, u64::MAX, 0) {
-        return ScriptTrb::Bad;
+        return None;
     }
     let bytes = fields.a;
     let setup_stage = SetupStageTrb {
-        request_type: (bytes % 256) as u8,
-        request: (bytes / 256 % 256) as u8,
-        value: (bytes / 65536 % 65536) as u16,
-        index: (bytes / 4294967296 % 65536) as u16,
-        length: (bytes / 281474976710656 % 65536) as u16,
+        request_type: (bytes & 0xff) as u8,
+        request: (bytes >> 8 & 0xff) as u8,
+        value: (bytes >> 16 & 0xffff) as u16,
+        index: (bytes >> 32 & 0xffff) as u16,
+        length: (bytes >> 48) as u16,
         interrupt_on_completion: has_flag(fields.flags, INTERRUPT_ON_COMPLETION),
     };
     with_variant(fields, TransferTrbVariant::SetupStage(setup_stage))
 }
 
-fn data_stage(fields: TrbFields) -> ScriptTrb
+#[tactic(auto, unfolding(crate::specs::Trbs::data_stage_trb, crate::specs::Trbs::has_only))]
+fn data_stage(fields: TrbFields) -> Option<TransferTrb>
     ensures { result ≡ data_stage_trb fields }
 {
     let flags = fields.flags;
     if !has_only(fields, ALL_FLAGS, u64::MAX, MAX_LENGTH) {
-        return ScriptTrb::Bad;
+        return None;
     }
     let data_stage = DataStageTrb {
         data_pointer: fields.a,
@@ -164,12 +160,13 @@ fn data_stage(fields: TrbFields) -> ScriptTrb
     with_variant(fields, TransferTrbVariant::DataStage(data_stage))
 }
 
-fn status_stage(fields: TrbFields) -> ScriptTrb
+#[tactic(auto, unfolding(crate::specs::Trbs::status_stage_trb))]
+fn status_stage(fields: TrbFields) -> Option<TransferTrb>
     ensures { result ≡ status_stage_trb fields }
 {
     let flags = fields.flags;
     if !has_only(fields, STATUS_STAGE_FLAGS, 0, 0) {
-        return ScriptTrb::Bad;
+        return None;
     }
     let status_stage = StatusStageTrb {
         chain: has_flag(flags, CHAIN),
@@ -179,12 +176,13 @@ fn status_stage(fields: TrbFields) -> ScriptTrb
     with_variant(fields, TransferTrbVariant::StatusStage(status_stage))
 }
 
-fn event_data(fields: TrbFields) -> ScriptTrb
+#[tactic(auto, unfolding(crate::specs::Trbs::event_data_trb))]
+fn event_data(fields: TrbFields) -> Option<TransferTrb>
     ensures { result ≡ event_data_trb fields }
 {
     let flags = fields.flags;
     if !has_only(fields, CHAINED_FLAGS, u64::MAX, 0) {
-        return ScriptTrb::Bad;
+        return None;
     }
     let event_data = EventDataTrb {
         event_data: fields.a,
@@ -194,12 +192,13 @@ fn event_data(fields: TrbFields) -> ScriptTrb
     with_variant(fields, TransferTrbVariant::EventData(event_data))
 }
 
-fn no_op(fields: TrbFields) -> ScriptTrb
+#[tactic(auto, unfolding(crate::specs::Trbs::no_op_trb))]
+fn no_op(fields: TrbFields) -> Option<TransferTrb>
     ensures { result ≡ no_op_trb fields }
 {
     let flags = fields.flags;
     if !has_only(fields, CHAINED_FLAGS, 0, 0) {
-        return ScriptTrb::Bad;
+        return None;
     }
     let no_op = NoOpTrb {
         chain: has_flag(flags, CHAIN),
@@ -209,21 +208,22 @@ fn no_op(fields: TrbFields) -> ScriptTrb
 }
 
 // Isoch and Unrecognized have the cycle bit alone.
-fn without_fields(fields: TrbFields, variant: TransferTrbVariant) -> ScriptTrb
+#[tactic(auto, unfolding(crate::specs::Trbs::bare_trb))]
+fn without_fields(fields: TrbFields, variant: TransferTrbVariant) -> Option<TransferTrb>
     ensures { result ≡ bare_trb variant fields }
 {
     if !has_only(fields, CYCLE, 0, 0) {
-        return ScriptTrb::Bad;
+        return None;
     }
     with_variant(fields, variant)
 }
 
 // The TRB of these fields.
-pub fn script_trb(fields: TrbFields) -> ScriptTrb
+#[tactic(auto, unfolding(crate::specs::Trbs::trb_of, crate::specs::Tables::row_of))]
+pub fn script_trb(fields: TrbFields) -> Option<TransferTrb>
     ensures { result ≡ trb_of fields }
 {
-    let kind = fields.kind;
-    match kind {
+    match fields.kind {
         0 => without_fields(fields, TransferTrbVariant::Unrecognized),
         1 => normal(fields),
         2 => setup_stage(fields),
@@ -232,6 +232,6 @@ pub fn script_trb(fields: TrbFields) -> ScriptTrb
         5 => without_fields(fields, TransferTrbVariant::Isoch),
         7 => event_data(fields),
         8 => no_op(fields),
-        _ => ScriptTrb::Bad,
+        _ => None,
     }
 }

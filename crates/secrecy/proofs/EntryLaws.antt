@@ -20,7 +20,8 @@ use Rattle.guest_memory.specs.Places.{Memory, regions_of}
 use Rattle.carry_out.specs.CarryOut.{Carried, memory_after}
 use Rattle.carry_out.specs.Writes.{written, records_of}
 use Rattle.carry_out.proofs.WriteLaws.{regions_of-written}
-use Rattle.log_compact.specs.declared.CompactAnswer.{CompactAnswer}
+use Rattle.std.proofs.Common.{Result}
+use Rattle.trb.specs.declared.Refusal.{Refusal}
 use Rattle.log_compact.specs.Compacting.{Compacts}
 use Rattle.in_td.specs.declared.InMode.{InMode}
 use Rattle.in_block.specs.declared.InBlock.{InBlock}
@@ -129,7 +130,7 @@ same-windows-tds {b} {k} {ts} {j} {ds} {bytes} {bytes'} {m} {m'} {m₁} {m₂} {
 
 -- ---- Stored logs
 
-pub same-compacted : {l l₁ l₂ : List ℕ} {r₁ r₂ : CompactAnswer} → Compacts l r₁ l₁ → Compacts l r₂ l₂ → SameGiven r₁ r₂ l₁ l₂
+pub same-compacted : {l l₁ l₂ : List ℕ} {r₁ r₂ : Result ℕ Refusal} → Compacts l r₁ l₁ → Compacts l r₂ l₂ → SameGiven r₁ r₂ l₁ l₂
 same-compacted p q = record { returned = p.answer ∙ sym q.answer; log = p.after ∙ sym q.after }
 
 pub same-printed : {l t t₁ t₂ : List ℕ} {r₁ r₂ : Printed} → Prints l t r₁ t₁ → Prints l t r₂ t₂ → SameGiven r₁ r₂ t₁ t₂

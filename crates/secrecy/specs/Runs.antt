@@ -1,7 +1,7 @@
 -- 02, R-8: a run of calls in any order, made by functions of which nothing is known but their contracts, and two runs that differ in bytes of guest memory and
 -- of device data alone. Exempt, since they do depend on those bytes: the collect buffer, the bytes that a check of a range hands back, guest memory after
 -- carry-out, and captures with what a reader gives of them. None of these is part of a reply. Assumes nothing.
-use Rattle.std.specs.Prelude.{ℕ, ◌≡◌, List, [], ◌∷◌, length}
+use Rattle.std.specs.Prelude.{ℕ, ◌≡◌, List, [], ◌∷◌, length, Result}
 use Rattle.trb.specs.declared.Answer.{Answer}
 use Rattle.trb.specs.declared.ControlRequestProcessingResult.{ControlRequestProcessingResult}
 use Rattle.trb.specs.declared.EndpointId.{EndpointId}
@@ -12,7 +12,7 @@ use Rattle.log_print.specs.declared.Printed.{Printed}
 use Rattle.log_print.specs.LogText.{Prints}
 use Rattle.guest_memory.specs.Places.{Memory, regions_of}
 use Rattle.carry_out.specs.CarryOut.{Carried}
-use Rattle.log_compact.specs.declared.CompactAnswer.{CompactAnswer}
+use Rattle.trb.specs.declared.Refusal.{Refusal}
 use Rattle.log_compact.specs.Compacting.{Compacts}
 use Rattle.in_td.specs.declared.InMode.{InMode}
 use Rattle.in_block.specs.declared.InBlock.{InBlock}
@@ -76,7 +76,7 @@ pub data Reply : Type 0 where
   control_completed : ControlCompleted → (log : List ℕ) → Reply
   control_cancelled : ControlBlock → Reply
   carried_out : Answer → Reply
-  compacted : CompactAnswer → (log : List ℕ) → Reply
+  compacted : Result ℕ Refusal → (log : List ℕ) → Reply
   printed : Printed → (text : List ℕ) → Reply
   nothing : Reply
 
@@ -117,7 +117,7 @@ pub data Gives : Call → World → Reply → World → Type 0 where
   cancels-control : {i : InBlock} {c : ControlBlock} {m : Memory} → Gives cancel_control (world_of i c m) (control_cancelled c) (world_of i c m)
   carries-out : {l bytes : List ℕ} {i : InBlock} {c : ControlBlock} {m m' : Memory} {r : Answer}
       → Carried l bytes m r m' → Gives (carry_out l bytes) (world_of i c m) (carried_out r) (world_of i c m')
-  compacts : {l l' : List ℕ} {w : World} {r : CompactAnswer} → Compacts l r l' → Gives (compact l) w (compacted r l') w
+  compacts : {l l' : List ℕ} {w : World} {r : Result ℕ Refusal} → Compacts l r l' → Gives (compact l) w (compacted r l') w
   prints : {l t t' : List ℕ} {w : World} {r : Printed} → Prints l t r t' → Gives (print l t) w (printed r t') w
   guest-writes : {i : InBlock} {c : ControlBlock} {m m' : Memory} → Gives (guest_writes m') (world_of i c m) nothing (world_of i c m')
 

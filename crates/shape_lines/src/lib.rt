@@ -32,10 +32,7 @@ fn put_line(text: &mut [u8], at: usize, word: [u8; MAX_SHAPE], size: usize) -> u
     ensures { Laid (lines (take size word) ([] ∷ [])) text.old text.new at result }
 {
     let length = size + 1;
-    if text.len() < length {
-        return at;
-    }
-    if text.len() - length < at {
+    if text.len() < length || text.len() - length < at {
         return at;
     }
     copy_line(text, at, word, size)
@@ -53,9 +50,10 @@ pub fn request_made(
     ensures { Laid (lines (take chosen word) (request_made left)) text.old text.new at result }
 {
     if left == 0 {
-        return put_line(text, at, word, chosen);
+        put_line(text, at, word, chosen)
+    } else {
+        at
     }
-    at
 }
 
 // In ExpectFinalEventDataTrb.

@@ -151,11 +151,9 @@ pub fn shapes_up_to(text: &mut [u8], longest: usize) -> usize
     requires max_text_in_bounds { max_text ≤ length text.old }
     ensures { Written max_text text.old 0 (shapes_text longest) result text.new }
 {
-    let mut next: usize = 0;
-    let mut size: usize = 0;
-    while size < longest {
-        size += 1;
-        next = shapes_of(text, next, size);
+    let mut next = 0;
+    for size in 0..longest {
+        next = shapes_of(text, next, size + 1);
     }
     next
 }

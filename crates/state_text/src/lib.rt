@@ -119,18 +119,19 @@ fn put_bytes_behind(text: &mut [u8], at: usize, bytes: &[u8]) -> usize
 }
 
 // Request type, request, value and index, as the six bytes at offset 24 of a request record.
+#[tactic(auto, unfolding(crate::specs::Lines::request_bytes))]
 fn request_bytes(request: UsbRequest) -> [u8; 6]
     ensures { result ≡ request_bytes request }
 {
-    let value = request.value;
-    let index = request.index;
+    let [value_low, value_high] = request.value.to_le_bytes();
+    let [index_low, index_high] = request.index.to_le_bytes();
     [
         request.request_type,
         request.request,
-        (value % 256) as u8,
-        (value / 256) as u8,
-        (index % 256) as u8,
-        (index / 256) as u8,
+        value_low,
+        value_high,
+        index_low,
+        index_high,
     ]
 }
 
@@ -159,11 +160,9 @@ fn put_standing(text: &mut [u8], at: usize, standing: ControlStanding) -> usize
     requires { at + max_standing ≤ length text.old }
     ensures { Written max_standing text.old at (standing_fields standing) result text.new }
 {
-    let phase = standing.phase;
-    let state = standing.state;
     let phase_at = call_text::put_word(text, at, b"st control ");
-    let next = put_phase(text, phase_at, phase);
-    let held_at = put_control_state(text, next, state);
+    let next = put_phase(text, phase_at, standing.phase);
+    let held_at = put_control_state(text, next, standing.state);
     let direction_at = call_text::put_decimal_behind(text, held_at, standing.held);
     put_direction(text, direction_at, standing.direction)
 }
@@ -173,11 +172,10 @@ pub fn put_control_line(text: &mut [u8], at: usize, standing: ControlStanding) -
     requires { at + max_state ≤ length text.old }
     ensures { Written max_state text.old at (control_line standing) result text.new }
 {
-    let request = standing.request;
     let length_at = put_standing(text, at, standing);
-    let collected_at = call_text::put_decimal_behind(text, length_at, request.length);
+    let collected_at = call_text::put_decimal_behind(text, length_at, standing.request.length);
     let sum_at = call_text::put_decimal_behind(text, collected_at, standing.collected);
     let request_at = call_text::put_hex_behind(text, sum_at, standing.sum as u64);
-    let end = put_request(text, request_at, request);
+    let end = put_request(text, request_at, standing.request);
     numerals::put_char(text, end, b'\n')
 }

@@ -8,7 +8,6 @@ ghost use Rattle.log_text.specs.Widths.{max_line};
 ghost use Rattle.stored_logs.specs.Stored.{check_questions, Compacts, Prints};
 
 use answer_numbers::Answered;
-use log_compact::CompactAnswer;
 use trb::Refusal;
 
 // A refused call made nothing.
@@ -26,22 +25,19 @@ pub fn check(log: &[u8]) -> u32
     ensures { result ≡ first_no (check_questions log.now) }
 {
     if log_check::well_formed(log) {
-        return 0;
+        0
+    } else {
+        trb::refusal_number(Refusal::MalformedLog) as u32
     }
-    trb::refusal_number(Refusal::MalformedLog) as u32
 }
 
 // Compacts a log in its own buffer, and counts the records kept.
 pub fn compact(log: &mut [u8]) -> Answered
     ensures { Compacts log.old result log.new }
 {
-    let answer = log_compact::compact(log);
-    match answer {
-        CompactAnswer::Kept(kept) => Answered {
-            number: 0,
-            count: kept,
-        },
-        CompactAnswer::Refused(refusal) => refused(refusal),
+    match log_compact::compact(log) {
+        Ok(count) => Answered { number: 0, count },
+        Err(refusal) => refused(refusal),
     }
 }
 
@@ -63,8 +59,5 @@ pub fn print(log: &[u8], text: &mut [u8]) -> Answered
         return refused(Refusal::MalformedLog);
     }
     let count = log_text::put_lines(text, 0, log);
-    Answered {
-        number: 0,
-        count: count,
-    }
+    Answered { number: 0, count }
 }

@@ -11,6 +11,7 @@ use td_part::{TdInfo, TdProcessingState, TdProgress, TrbDmaInfo};
 use trb::{CompletionCode, EventDataTrb};
 
 // Writes what is left of the device's data, as far as the TRB reaches, and then its event, where that is due, with this code.
+#[tactic(auto, unfolding(td_part::specs::Parts::put_dma))]
 pub fn put_dma(
     log: &mut [u8],
     td: TdInfo,
@@ -22,31 +23,34 @@ pub fn put_dma(
     requires { (record_length * (progress.records + 2) ≤ length log.old) × Within td progress }
     ensures { Meets (put_dma td progress dma due code) progress.records log.old result log.new }
 {
-    let endpoint_id = td.endpoint_id;
-    let slot_id = td.slot_id;
-    let state = progress.state;
     let moved = td_part::moved_of(td, progress, dma.transfer_length);
     let residual = dma.transfer_length - moved;
     let write = call_log::guest_write(
         dma.data_pointer,
         moved,
         progress.start,
-        endpoint_id,
-        slot_id,
+        td.endpoint_id,
+        td.slot_id,
     );
-    let event = call_log::transfer_event(dma.addr, residual, code, false, endpoint_id, slot_id);
+    let event = call_log::transfer_event(
+        dma.addr,
+        residual,
+        code,
+        false,
+        td.endpoint_id,
+        td.slot_id,
+    );
     let records = call_log::put_then(log, progress.records, write, due, event);
-    let next_state = td_part::state_after(state, residual);
-    let edtla = td_part::edtla_after(progress.edtla, moved);
     TdProgress {
         start: progress.start + moved,
-        edtla: edtla,
-        state: next_state,
-        records: records,
+        edtla: td_part::edtla_after(progress.edtla, moved),
+        state: td_part::state_after(progress.state, residual),
+        records,
     }
 }
 
 // A TRB of a transfer that succeeded; ports `realize_dma_trb` with data.
+#[tactic(auto, unfolding(td_part::specs::Parts::realize_dma))]
 pub fn realize_dma_trb(
     log: &mut [u8],
     td: TdInfo,
@@ -81,17 +85,13 @@ pub fn handle_event_data_trb(
     requires { record_length * (progress.records + 2) ≤ length log.old }
     ensures { Meets (handle_event_data td progress event_data) progress.records log.old result log.new }
 {
-    let endpoint_id = td.endpoint_id;
-    let slot_id = td.slot_id;
-    let state = progress.state;
-    let code = code_after(state);
     let event = call_log::transfer_event(
         event_data.event_data,
         progress.edtla,
-        code,
+        code_after(progress.state),
         true,
-        endpoint_id,
-        slot_id,
+        td.endpoint_id,
+        td.slot_id,
     );
     let records = call_log::put_when(
         log,
@@ -100,9 +100,8 @@ pub fn handle_event_data_trb(
         event,
     );
     TdProgress {
-        start: progress.start,
         edtla: 0,
-        state: state,
-        records: records,
+        records,
+        ..progress
     }
 }

@@ -50,7 +50,7 @@ pub fn of_normal(normal: NormalTrb, addr: u64) -> TrbDmaInfo
         transfer_length: normal.transfer_length,
         interrupt_on_short: normal.interrupt_on_short,
         interrupt_on_completion: normal.interrupt_on_completion,
-        addr: addr,
+        addr,
     }
 }
 
@@ -63,7 +63,7 @@ pub fn of_data_stage(data_stage: DataStageTrb, addr: u64) -> TrbDmaInfo
         transfer_length: data_stage.transfer_length,
         interrupt_on_short: data_stage.interrupt_on_short,
         interrupt_on_completion: data_stage.interrupt_on_completion,
-        addr: addr,
+        addr,
     }
 }
 
@@ -92,12 +92,7 @@ pub fn moved_of(td: TdInfo, progress: TdProgress, transfer_length: u32) -> u32
     requires { Within td progress }
     ensures { result ≡ moved_of td progress transfer_length }
 {
-    let left = td.data_length - progress.start;
-    if left < transfer_length {
-        left
-    } else {
-        transfer_length
-    }
+    transfer_length.min(td.data_length - progress.start)
 }
 
 // The bytes that it misses.
@@ -105,8 +100,7 @@ pub fn residual_of(td: TdInfo, progress: TdProgress, transfer_length: u32) -> u3
     requires { Within td progress }
     ensures { result ≡ residual_of td progress transfer_length }
 {
-    let moved = moved_of(td, progress, transfer_length);
-    transfer_length - moved
+    transfer_length - moved_of(td, progress, transfer_length)
 }
 
 // The code of a TRB that misses so many bytes.
@@ -125,12 +119,9 @@ pub fn due_for(dma: TrbDmaInfo, residual: u32) -> bool
     ensures { result ≡ due_for dma residual }
 {
     if residual == 0 {
-        return dma.interrupt_on_completion;
-    }
-    if dma.interrupt_on_completion {
-        true
+        dma.interrupt_on_completion
     } else {
-        dma.interrupt_on_short
+        dma.interrupt_on_completion || dma.interrupt_on_short
     }
 }
 

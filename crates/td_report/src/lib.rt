@@ -23,16 +23,12 @@ fn report(
     requires { record_length * (progress.records + 2) ≤ length log.old }
     ensures { Meets (report_trb td progress edtla due addr residual code) progress.records log.old result log.new }
 {
-    let endpoint_id = td.endpoint_id;
-    let slot_id = td.slot_id;
-    let state = progress.state;
-    let event = call_log::transfer_event(addr, residual, code, false, endpoint_id, slot_id);
+    let event = call_log::transfer_event(addr, residual, code, false, td.endpoint_id, td.slot_id);
     let records = call_log::put_when(log, progress.records, due, event);
     TdProgress {
-        start: progress.start,
-        edtla: edtla,
-        state: state,
-        records: records,
+        edtla,
+        records,
+        ..progress
     }
 }
 

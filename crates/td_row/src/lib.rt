@@ -1,50 +1,24 @@
 // The TD as a lent row of TRBs: answered as completion answers for a block in that mode that holds the row and awaits the device.
 #![tactic(auto)]
 
-ghost use Rattle.std.specs.Prelude.{◌≡◌, length, take};
+ghost use Rattle.std.specs.Prelude.{length, take};
 ghost use Rattle.call_log.specs.Calls.{Meets};
 ghost use Rattle.call_log.specs.Logs.{records_in};
 ghost use Rattle.in_td.specs.Td.{process_td};
-ghost use Rattle.in_block.specs.Facts.{held_test};
 ghost use Rattle.row_plan.specs.Rows.{CompletesRow, AccountedRow};
 ghost use Rattle.td_row.specs.Walkable.{Walkable};
 
-use in_block::HeldTest;
 use in_td::{InMode, TdProcessed};
 use row_plan::{RowCompleted, RowPlan};
 use trb::{EndpointId, InTrbProcessingResult, SlotId, TransferTrb};
-
-// What question 2 asks of every TRB of the row.
-fn test_row(row: &[TransferTrb]) -> HeldTest
-    ensures { result ≡ held_test row.now }
-{
-    let mut tested = HeldTest {
-        sound: true,
-        normals: 0,
-    };
-    let mut i: usize = 0;
-    while i < row.len() {
-        let t = row[i];
-        tested = in_block::test_trb(tested, t);
-        i += 1;
-    }
-    tested
-}
 
 // The walk over as many TRBs of the row as the plan says.
 fn walk_row(log: &mut [u8], row: &[TransferTrb], plan: RowPlan) -> TdProcessed
     requires { Walkable plan row.now (length log.old) }
     ensures { Meets (process_td plan.td (take plan.count row.now)) 0 log.old result log.new }
 {
-    let count = plan.count;
-    let mut processed = plan.start;
-    let mut i: usize = 0;
-    while i < count {
-        let t = row[i];
-        processed = row_plan::next_trb(log, plan, processed, t);
-        i += 1;
-    }
-    processed
+    let walked = &row[..plan.count];
+    in_turn::process_td(log, plan.td, plan.start.normals_left, walked)
 }
 
 // The questions that completion asks, and the walk; ports `process_td` over its own vector. Of the device's data only the length is read.
@@ -60,7 +34,7 @@ pub fn complete_row(
     ensures met { CompletesRow endpoint_id slot_id mode row.now res (length «data».now) log.old result log.new }
     ensures account { AccountedRow row.now (length «data».now) result.answer (records_in result.records log.new) }
 {
-    let tested = test_row(row);
+    let tested = in_block::test_held(row);
     let plan = row_plan::ask(
         log.len(),
         endpoint_id,

@@ -55,8 +55,7 @@ fn short_buffer(rt: &impl Print) -> io::Result<()> {
     let log = [1u8; 32];
     let mut text = [b'.'; 80];
     let printed = log_print::print_log(&log, &mut text);
-    let answer = printed.answer;
-    match answer {
+    match printed.answer {
         Answer::Accepted => {
             rt.print("accepted")?;
         }

@@ -1,36 +1,19 @@
--- How a loop over an array keeps to a test of every element: what was found so far, and the test of the rest, are the test of all.
+-- A test of every element: the library's word for it, and one element more.
 -- Assumes nothing.
-use Prim.Native.Nat.{ℕ, suc, ◌+◌, ◌<◌, ◌≤◌}
 use mathlib.Core.Path.{◌≡◌, refl, sym, ap, ◌∙◌}
-use mathlib.Core.Bool.{Bool, true, ◌&&◌, and-true, and_assoc}
-use mathlib.Core.List.{List}
-use native.Mathlib.Numerals.{add-one}
-use native.Mathlib.Omega.{arith}
-use lib.ListN.{length, take, drop, get_or, drop_of_length-le}
-use lib.Seq.{drop-cons, get_or-take, length-take-le}
+use mathlib.Core.Bool.{Bool, ◌&&◌, and-true, and_assoc}
+use mathlib.Core.List.{List, [], ◌∷◌, ◌++◌}
+use Rattle.std.specs.List.{list_all}
 use Rattle.walks.specs.All.{all}
 
 module _ {T : Type 0} (ok : T → Bool) where
-  -- after i elements of ts, with b found so far
-  abbrev pub Tested : List T → Bool → ℕ → Type 0
-  Tested ts b i = (b && all ok (drop i ts)) ≡ all ok ts
+  -- the library's word for the same
+  pub list_all-all : (ts : List T) → list_all ok ts ≡ all ok ts
+  unfolding all
+  list_all-all [] = refl
+  list_all-all (t ∷ ts) = ap (λ (b : Bool). ok t && b) (list_all-all ts)
 
-  pub tested-none : (ts : List T) → Tested ts true 0
-  tested-none ts = refl
-
-  module _ (xs : List T) (n : ℕ) (long : n ≤ length xs) where
-    -- a turn of a loop over the first n elements of xs; d is what a read past its end would give
-    pub tested-turn : (b r : Bool) (i : ℕ) (d : T) → Tested (take n xs) b i → i < n → r ≡ (b && ok (get_or xs i d)) → Tested (take n xs) r (i + 1)
-    unfolding all
-    tested-turn b r i d k more e =
-        let len : length (take n xs) ≡ n = length-take-le n xs long in
-        let rest : List T = drop (suc i) (take n xs) in
-        rw (e, add-one, ← get_or-take n xs i d more)
-        (and_assoc b (ok (get_or (take n xs) i d)) (all ok rest)
-        ∙ ap (λ (l : List T). b && all ok l) (sym (drop-cons (take n xs) i d (omega arith))) ∙ k)
-
-    pub tested-end : (b : Bool) (i : ℕ) → Tested (take n xs) b i → n ≤ i → b ≡ all ok (take n xs)
-    unfolding all
-    tested-end b i k h =
-        let len : length (take n xs) ≡ n = length-take-le n xs long in
-        sym (and-true b) ∙ ap (λ (l : List T). b && all ok l) (sym (drop_of_length-le (take n xs) {i = i} (omega arith))) ∙ k
+  pub all-more : (ts : List T) (t : T) → all ok (ts ++ (t ∷ [])) ≡ (all ok ts && ok t)
+  unfolding all
+  all-more [] t = and-true (ok t)
+  all-more (x ∷ xs) t = ap (λ (b : Bool). ok x && b) (all-more xs t) ∙ sym (and_assoc (ok x) (all ok xs) (ok t))

@@ -13,14 +13,12 @@ pub fn put_decimal(text: &mut [u8], at: usize, n: u32) -> usize
 {
     let mut next = at;
     let mut rest = n;
-    let mut place = numerals::first_place(n);
-    while 0 < place {
+    for place in (0..numerals::first_place(n) + 1).rev() {
         let high = numerals::subtract_power(rest, numerals::power_of_ten(place));
-        next = numerals::put_char(text, next, numerals::decimal_char(high.digit));
+        next = numerals::put_char(text, next, numerals::digit_char(high.digit));
         rest = high.rest;
-        place -= 1;
     }
-    numerals::put_char(text, next, numerals::decimal_char(rest as u8))
+    next
 }
 
 // Writes digits, all of them.
@@ -30,10 +28,8 @@ fn put_digits(text: &mut [u8], at: usize, digits: &[u8]) -> usize
     ensures { Written (length digits.now) text.old at (map digit_char digits.now) result text.new }
 {
     let mut next = at;
-    let mut i = 0;
-    while i < digits.len() {
-        next = numerals::put_char(text, next, numerals::digit_char(digits[i]));
-        i += 1;
+    for digit in digits {
+        next = numerals::put_char(text, next, numerals::digit_char(*digit));
     }
     next
 }
@@ -49,9 +45,11 @@ fn put_trimmed(text: &mut [u8], at: usize, digits: &[u8]) -> usize
 }
 
 // The hex digits of a number, the highest place first.
+#[tactic(auto, unfolding(numerals::specs::Digits::digits))]
 fn hex_digits(n: u64) -> [u8; numerals::HEX_PLACES]
     ensures { result ≡ digits 16 hex_places n }
 {
+    // Written out: the proof over `array::from_fn` does not close.
     [
         (n / 0x1000000000000000 % 16) as u8,
         (n / 0x100000000000000 % 16) as u8,
@@ -82,6 +80,7 @@ pub fn put_hex(text: &mut [u8], at: usize, n: u64) -> usize
 }
 
 // Writes a byte as two hex digits.
+#[tactic(auto, unfolding(numerals::specs::Digits::digits, numerals::specs::Digits::byte_hex))]
 pub fn put_byte(text: &mut [u8], at: usize, byte: u8) -> usize
     requires { at + 2 ≤ length text.old }
     ensures { Written 2 text.old at (byte_hex byte) result text.new }
@@ -96,10 +95,8 @@ pub fn put_bytes(text: &mut [u8], at: usize, bytes: &[u8]) -> usize
     ensures { Written (2 * length bytes.now) text.old at (bytes_hex bytes.now) result text.new }
 {
     let mut next = at;
-    let mut i = 0;
-    while i < bytes.len() {
-        next = put_byte(text, next, bytes[i]);
-        i += 1;
+    for byte in bytes {
+        next = put_byte(text, next, *byte);
     }
     next
 }

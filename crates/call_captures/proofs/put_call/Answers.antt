@@ -9,10 +9,10 @@ use Rattle.call_captures.proofs.OtherCalls.{call_captures-other}
 use Rattle.call_captures.proofs.put_call.Goals as goal
 
 pub slice_bounds-put_result-end : goal.slice_bounds-put_result-end
-slice_bounds-put_result-end c = sym (length-take-le _ _ (omega (arith, c.least-given.ensures)))
+slice_bounds-put_result-end c = sym (length-take-le _ _ (omega (arith, c.min-given.ensures)))
 
 pub slice_bounds-put_row-end : goal.slice_bounds-put_row-end
-slice_bounds-put_row-end c = sym (length-take-le _ _ (omega (arith, c.least-joined.ensures)))
+slice_bounds-put_row-end c = sym (length-take-le _ _ (omega (arith, c.min-joined.ensures)))
 
 pub returns-in-Submit : goal.returns-in-Submit
 unfolding call_captures
@@ -20,7 +20,7 @@ returns-in-Submit c = rw c.in-Submit.is c.put_submission.ensures
 
 pub returns-in-CompleteWithResult : goal.returns-in-CompleteWithResult
 unfolding call_captures
-returns-in-CompleteWithResult c = rw (c.in-CompleteWithResult.is, ← take-least c.args.«data».now c.in-CompleteWithResult.bytes c.least-given.result c.least-given.ensures) c.put_result.ensures
+returns-in-CompleteWithResult c = rw (c.in-CompleteWithResult.is, ← take-least c.args.«data».now c.in-CompleteWithResult.bytes c.min-given.result c.min-given.ensures) c.put_result.ensures
 
 pub returns-in-CompleteWithout : goal.returns-in-CompleteWithout
 unfolding call_captures
@@ -28,7 +28,7 @@ returns-in-CompleteWithout c = rw c.in-CompleteWithout.is c.put_no_result.ensure
 
 pub returns-in-CompleteRow : goal.returns-in-CompleteRow
 unfolding call_captures
-returns-in-CompleteRow c = rw (c.in-CompleteRow.is, ← take-least c.args.«data».now c.in-CompleteRow.bytes c.least-joined.result c.least-joined.ensures) c.put_row.ensures
+returns-in-CompleteRow c = rw (c.in-CompleteRow.is, ← take-least c.args.«data».now c.in-CompleteRow.bytes c.min-joined.result c.min-joined.ensures) c.put_row.ensures
 
 pub returns-in_default : goal.returns-in_default
 returns-in_default c =

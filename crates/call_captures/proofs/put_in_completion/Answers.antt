@@ -3,8 +3,8 @@ use native.Mathlib.Omega.{arith}
 use Rattle.captured_calls.proofs.WrittenLaws.{lays-none}
 use Rattle.call_captures.proofs.put_in_completion.Goals as goal
 
-pub returns-then-due : goal.returns-then-due
-returns-then-due c = rw c.if-due.true c.put_in_completion.ensures
+pub returns-then-not-due : goal.returns-then-not-due
+returns-then-not-due c = rw c.if-not-due.true (lays-none c.args.output.now 0 (omega arith))
 
 pub returns : goal.returns
-returns c = rw c.if-due.false (lays-none c.args.output.now 0 (omega arith))
+returns c = rw c.if-not-due.false c.put_in_completion.ensures

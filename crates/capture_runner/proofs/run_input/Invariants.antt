@@ -1,10 +1,10 @@
--- `capture_runner::run_input` is safe and ends: what is left of the input lies in its buffer, and the lent buffers keep their lengths. The measure is the
--- number of turns left. Assumes nothing.
+-- `capture_runner::run_input` is safe and ends: what is left of the input lies in its buffer, and the lent buffers keep their lengths. Assumes
+-- nothing.
 use Rattle.std.proofs.Common.{◌≤◌, ◌≡◌, length}
 use Rattle.capture_runner.proofs.run_input.Given as goal
 
-abbrev pub invariant-loop-turns : goal.invariant-loop-turns
-invariant-loop-turns g l = record {
+abbrev pub invariant-loop : goal.invariant-loop
+invariant-loop g l = record {
   left : l.from ≤ l.filled;
   room : l.filled ≤ length l.initial.input;
   output : length l.output ≡ length l.initial.output;
@@ -15,6 +15,3 @@ invariant-loop-turns g l = record {
   longer : length l.longer ≡ length l.initial.longer;
   shorter : length l.shorter ≡ length l.initial.shorter;
 }
-
-abbrev pub decreases-loop-turns : goal.decreases-loop-turns
-decreases-loop-turns g l = l.turns

@@ -1,19 +1,14 @@
 -- `capture_tests::is_convertible` meets its contract: the transfer type, and then the added bytes. Assumes nothing.
-use Prim.Native.Nat.{ℕ, ◌+◌, ◌-◌}
-use mathlib.Core.Path.{◌≡◌, ap, ◌∙◌}
-use native.Mathlib.Omega.{arith}
-use lib.Dec.{eqb}
-use lib.ListN.{take, drop}
-use borrow.Author.Tests.{eq-eqb, ne_eqb}
+use Rattle.std.proofs.Common.{ℕ, ◌+◌, ◌-◌, ◌≡◌, ◌∙◌, eqb, take, drop, ap, arith, eq-eqb, ne_eqb}
 use Rattle.capture_file.specs.Reading.{every}
 use Rattle.capture_file.proofs.SurveyLaws.{convertible-here}
 use Rattle.capture_tests.proofs.is_convertible.Goals as goal
 
-pub returns-then-rest-eq0 : goal.returns-then-rest-eq0
-returns-then-rest-eq0 c = rw (convertible-here c.args.extra c.args.rest.now, eq-eqb _ 0 c.if-rest-eq0.true)
-
-pub returns : goal.returns
-returns c =
+pub returns-then-rest-ne0 : goal.returns-then-rest-ne0
+returns-then-rest-ne0 c =
     let count : 64 + c.args.extra - 64 ≡ c.args.extra = omega arith in
     let zero = c.all_zero.ensures ∙ ap (λ (n : ℕ). every (eqb 0) (take n (drop 64 c.args.rest.now))) count in
-    rw (convertible-here c.args.extra c.args.rest.now, ne_eqb _ 0 c.if-rest-eq0.false) zero
+    rw (convertible-here c.args.extra c.args.rest.now, ne_eqb _ 0 c.if-rest-ne0.true) zero
+
+pub returns-else-rest-ne0 : goal.returns-else-rest-ne0
+returns-else-rest-ne0 c = rw (convertible-here c.args.extra c.args.rest.now, eq-eqb _ 0 c.if-rest-ne0.false)

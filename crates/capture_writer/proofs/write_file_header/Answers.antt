@@ -9,7 +9,7 @@ use Rattle.capture_writer.proofs.write_file_header.Goals as goal
 pub returns-then-output-lt24 : goal.returns-then-output-lt24
 returns-then-output-lt24 c =
     let d = c.args.output.now in
-    rw c.refused.ensures (writes-not _ writer_head d 14 refl (short-head (length d) c.if-output-lt24.true))
+    writes-not _ writer_head d 14 refl (short-head (length d) c.if-output-lt24.true)
 
 pub returns : goal.returns
 returns c =

@@ -7,7 +7,7 @@ use Rattle.capture_record.specs.Calls.{delivered_by}
 use Rattle.capture_record.proofs.CallLaws.{length-delivered_of, take-delivered_of, length-record_of}
 use Rattle.capture_writer.specs.Writing.{call_of}
 use Rattle.capture_writer.proofs.WritingLaws.{writes, writes-not, layout-record_of, late-no, long-no, room-no, all_yes}
-use Rattle.capture_writer.proofs.write_record.Goals.{After-delivered_count-delivered, Start}
+use Rattle.capture_writer.proofs.write_record.Goals.{After-delivered_count-delivered, then-microseconds-gt-MAX_MICROSECONDS-via-then-microseconds-gt-MAX_MICROSECONDS, then-microseconds-gt-MAX_MICROSECONDS-via-else-microseconds-gt-MAX_MICROSECONDS+then-delivered}
 use Rattle.capture_writer.proofs.write_record.Goals as goal
 
 -- the bytes that the record carries
@@ -23,17 +23,19 @@ module _ (k : After-delivered_count-delivered) where
   size = ap length taken ∙ carried
 
 pub returns-then-microseconds-gt-MAX_MICROSECONDS : goal.returns-then-microseconds-gt-MAX_MICROSECONDS
-returns-then-microseconds-gt-MAX_MICROSECONDS c = rw c.refused.ensures (writes-not _ _ c.args.output.now 24 refl (late-no (call_of c.args.device c.args.seconds c.args.microseconds c.args.event c.args.payload.now) (length c.args.output.now) c.if-microseconds-gt-MAX_MICROSECONDS.true))
-
-pub returns-then-delivered : goal.returns-then-delivered
-returns-then-delivered c =
-    rw c.refused-then-delivered.ensures
-    (writes-not _ _ c.args.output.now 24 refl
-    (long-no (call_of c.args.device c.args.seconds c.args.microseconds c.args.event c.args.payload.now) (length c.args.output.now) c.if-microseconds-gt-MAX_MICROSECONDS.false (omega (arith, c.if-delivered.true, carried (goal.at.returns-then-delivered c).After-delivered_count-delivered))))
+returns-then-microseconds-gt-MAX_MICROSECONDS c =
+    let call = call_of c.args.device c.args.seconds c.args.microseconds c.args.event c.args.payload.now in
+    let size = carried (goal.at.returns-then-microseconds-gt-MAX_MICROSECONDS c).After-delivered_count-delivered in
+    let room = length c.args.output.now in
+    elim c.then-microseconds-gt-MAX_MICROSECONDS.branch [
+      | then-microseconds-gt-MAX_MICROSECONDS-via-then-microseconds-gt-MAX_MICROSECONDS w ↦
+          writes-not _ _ c.args.output.now 24 refl (late-no call room w.if-microseconds-gt-MAX_MICROSECONDS.true)
+      | then-microseconds-gt-MAX_MICROSECONDS-via-else-microseconds-gt-MAX_MICROSECONDS+then-delivered w ↦
+          writes-not _ _ c.args.output.now 24 refl (long-no call room w.if-microseconds-gt-MAX_MICROSECONDS.false (omega (arith, w.if-delivered.true, size)))
+    ]
 
 pub returns-then-output-delivered : goal.returns-then-output-delivered
 returns-then-output-delivered c =
-    rw c.refused-then-output-delivered.ensures
     (writes-not _ _ c.args.output.now 14 refl
     (room-no (call_of c.args.device c.args.seconds c.args.microseconds c.args.event c.args.payload.now) (length c.args.output.now) c.if-microseconds-gt-MAX_MICROSECONDS.false (omega (arith, c.if-delivered.false, carried (goal.at.returns-then-output-delivered c).After-delivered_count-delivered)) (omega (arith, c.if-output-delivered.true, carried (goal.at.returns-then-output-delivered c).After-delivered_count-delivered, length-record_of (call_of c.args.device c.args.seconds c.args.microseconds c.args.event c.args.payload.now)))))
 

@@ -1,6 +1,5 @@
 -- `captured_calls::put_requests` meets its contract. The invariant: what is laid, and then the requests from record number i on, are the requests
 -- of all records. The measure is the number of records left. Assumes nothing.
-use Prim.Native.Nat.{◌-◌}
 use mathlib.Core.Path.{ap, ◌∙◌}
 use native.Mathlib.Nat.{sub-zero}
 use native.Mathlib.Omega.{arith}
@@ -10,16 +9,16 @@ use Rattle.captured_calls.proofs.SubmittedLaws.{requests-next, requests-none}
 use Rattle.captured_calls.proofs.put_requests.Goals as goal
 
 pub loop-i-init : goal.loop-i-init
-loop-i-init c = (c.least-end.ensures, (omega arith, rw sub-zero (continues-start _ c.args.output.now c.args.at c.requires)))
+loop-i-init c = (c.min-end.ensures, (omega arith, rw sub-zero (continues-start _ c.args.output.now c.args.at c.requires)))
 
-pub read_record-record-requires : goal.read_record-record-requires
-read_record-record-requires c = let count = c.loop-i.invariant.0 in omega arith
+pub read_record-requires : goal.read_record-requires
+read_record-requires c = let count = c.loop-i.invariant.0 in omega arith
 
 pub loop-i-preserved : goal.loop-i-preserved
 loop-i-preserved c =
     let put = c.put-behind in
     let l = c.loop-i in
-    let said = c.request_event-event.ensures ∙ ap (request_event c.args.requester) c.read_record-record.ensures in (
+    let said = c.request_event-event.ensures ∙ ap (request_event c.args.requester) c.read_record.ensures in (
       l.invariant.0,
       (
         omega (arith, c.loop-i-test.true),

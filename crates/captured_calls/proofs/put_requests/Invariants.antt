@@ -1,4 +1,4 @@
-use Prim.Native.Nat.{◌-◌, ◌≤◌}
+use Prim.Native.Nat.{◌≤◌}
 use mathlib.Core.Path.{◌≡◌}
 use mathlib.Core.List.{List}
 use Prim.Native.Nat.{ℕ}
@@ -18,6 +18,3 @@ captures setting requester payload rs = request_captures (captured_of setting) (
 abbrev pub invariant-loop-i : goal.invariant-loop-i
 invariant-loop-i l = (l.end ≡ log_count l.records l.log) × ((l.i ≤ l.end) × Continues (captures l.setting l.requester l.payload (records_in l.end l.log))
     (captures l.setting l.requester l.payload (records_from l.end l.i l.log)) l.initial.output l.at l.output l.behind)
-
-abbrev pub decreases-loop-i : goal.decreases-loop-i
-decreases-loop-i l = l.end - l.i

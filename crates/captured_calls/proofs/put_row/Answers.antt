@@ -1,6 +1,6 @@
 -- `captured_calls::put_row` meets its contract. The invariant: what is laid, and then what the TDs left give, is what the row gives. The measure is the number
 -- of TDs left of the most that a row can have. Assumes nothing.
-use Prim.Native.Nat.{ℕ, ◌-◌}
+use Prim.Native.Nat.{ℕ}
 use mathlib.Core.Bool.{not}
 use mathlib.Core.Path.{◌≡◌, ap}
 use native.Mathlib.Nat.{sub-zero}
@@ -23,7 +23,7 @@ module _ (s : Start) where
   result-places = omega arith
 
 pub loop-td-init : goal.loop-td-init
-loop-td-init c = (c.least-trbs.ensures, (c.least-logged.ensures, (omega arith, rw sub-zero (continues-start _ c.args.output.now c.args.at c.requires))))
+loop-td-init c = (c.min-trbs.ensures, (c.min-logged.ensures, (omega arith, rw sub-zero (continues-start _ c.args.output.now c.args.at c.requires))))
 
 pub td_at-found-requires : goal.td_at-found-requires
 td_at-found-requires c = omega (arith, c.loop-td.invariant.0)
@@ -50,7 +50,7 @@ loop-td-preserved c =
         (
           omega (arith, c.part_end-end.ensures, l.invariant.1.1.0),
           continues-turn _ _ _
-              (row-turn _ _ _ c.args.results c.least-logged.result c.args.log.now c.args.«data».now _ _ l.from _ (omega (arith, c.loop-td-test.true, result-places (goal.at.loop-td-preserved c).Start)) _ _ put.result.from _ (ap (λ (k : ℕ). not (eqb k 0)) span.count) span.end put.ensures.behind c.part_end-end.ensures)
+              (row-turn _ _ _ c.args.results c.min-logged.result c.args.log.now c.args.«data».now _ _ l.from _ (omega (arith, c.loop-td-test.true, result-places (goal.at.loop-td-preserved c).Start)) _ _ put.result.from _ (ap (λ (k : ℕ). not (eqb k 0)) span.count) span.end put.ensures.behind c.part_end-end.ensures)
               l.invariant.1.1.1
               put.ensures.lays,
         ),
@@ -63,5 +63,5 @@ shape_of-output c = c.loop-td.invariant.1.1.1.size
 pub returns : goal.returns
 returns c =
     let l = c.loop-td in
-    let row = take-least c.args.row c.args.count c.least-trbs.result (rw (places (goal.at.returns c).Start) l.invariant.0) in
-    rw (← l.invariant.1.0, ← row) (continues-end _ (row-end _ _ (take c.least-trbs.result c.args.row) c.args.results c.least-logged.result c.args.log.now c.args.«data».now l.first l.td l.from l.start (omega (arith, c.loop-td-test.false, result-places (goal.at.returns c).Start))) l.invariant.1.1.1)
+    let row = take-least c.args.row c.args.count c.min-trbs.result (rw (places (goal.at.returns c).Start) l.invariant.0) in
+    rw (← l.invariant.1.0, ← row) (continues-end _ (row-end _ _ (take c.min-trbs.result c.args.row) c.args.results c.min-logged.result c.args.log.now c.args.«data».now l.first l.td l.from l.start (omega (arith, c.loop-td-test.false, result-places (goal.at.returns c).Start))) l.invariant.1.1.1)

@@ -1,4 +1,4 @@
-use Prim.Native.Nat.{◌-◌, ◌≤◌, min}
+use Prim.Native.Nat.{◌≤◌, min}
 use mathlib.Core.Path.{◌≡◌}
 use lib.ListN.{length, take}
 use Rattle.trb.specs.Limits.{max_row}
@@ -14,6 +14,3 @@ abbrev pub invariant-loop-td : goal.invariant-loop-td
 invariant-loop-td l = (l.trbs ≡ min l.count max_row) × ((l.logged ≡ log_count l.records l.log) × ((l.start ≤ length l.data)
     × Continues (row_captures (captured_of l.setting) (pipe_of l.setting l.endpoint_id) (row_tds (take l.trbs l.row) l.results) (requests_in (records_in l.logged l.log)) l.data)
     (row_left (captured_of l.setting) (pipe_of l.setting l.endpoint_id) (take l.trbs l.row) l.results l.logged l.log l.data l.first l.td l.from l.start) l.initial.output l.at l.output l.behind))
-
-abbrev pub decreases-loop-td : goal.decreases-loop-td
-decreases-loop-td l = max_row - l.td

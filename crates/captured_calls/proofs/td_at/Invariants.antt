@@ -1,10 +1,6 @@
-use Prim.Native.Nat.{◌-◌}
-use lib.ListN.{take}
+use Rattle.std.proofs.Common.{◌≤◌, max, take}
 use Rattle.captured_calls.proofs.RowLaws.{Spanned}
 use Rattle.captured_calls.proofs.td_at.Given as goal
 
-abbrev pub invariant-loop-end : goal.invariant-loop-end
-invariant-loop-end l = Spanned (take l.trbs l.row) l.first l.end l.normals
-
-abbrev pub decreases-loop-end : goal.decreases-loop-end
-decreases-loop-end l = l.trbs - l.end
+abbrev pub invariant-loop-at : goal.invariant-loop-at
+invariant-loop-at l = Spanned (take l.trbs l.row) l.first l.at l.normals × (l.at ≤ max l.first l.trbs)

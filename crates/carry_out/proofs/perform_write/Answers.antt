@@ -11,30 +11,30 @@ use Rattle.carry_out.proofs.perform_write.Goals as goal
 
 pub write_bulk-requires : goal.write_bulk-requires
 write_bulk-requires c = (
-  (placed-low _ _ _ _ (rw (c.place_range-place.ensures, c.guest_regions-regions.ensures) at c.in-InLow.is)).fits,
+  (placed-low _ _ _ _ (rw (c.place_range.ensures, c.guest_regions-regions.ensures) at c.in-InLow.is)).fits,
   write_in_range-end _ _ c.args.«record» (sym c.moves_bytes.ensures ∙ c.if-moves_bytes.true) c.requires,
 )
 
 pub write_bulk-requires-in-InHigh : goal.write_bulk-requires-in-InHigh
 write_bulk-requires-in-InHigh c = (
-  (placed-high _ _ _ _ (rw (c.place_range-place.ensures, c.guest_regions-regions.ensures) at c.in-InHigh.is)).fits,
+  (placed-high _ _ _ _ (rw (c.place_range.ensures, c.guest_regions-regions.ensures) at c.in-InHigh.is)).fits,
   write_in_range-end _ _ c.args.«record» (sym c.moves_bytes.ensures ∙ c.if-moves_bytes.true) c.requires,
 )
 
 pub returns-in-Outside : goal.returns-in-Outside
 unfolding after_record
-returns-in-Outside c = rw (← c.moves_bytes.ensures, c.if-moves_bytes.true, ← c.guest_regions-regions.ensures, ← c.place_range-place.ensures, c.in-Outside.is)
+returns-in-Outside c = rw (← c.moves_bytes.ensures, c.if-moves_bytes.true, ← c.guest_regions-regions.ensures, ← c.place_range.ensures, c.in-Outside.is)
 
 pub returns-in-InLow : goal.returns-in-InLow
 unfolding after_record
 returns-in-InLow c =
-    rw (← c.moves_bytes.ensures, c.if-moves_bytes.true, ← c.guest_regions-regions.ensures, ← c.place_range-place.ensures, c.in-InLow.is)
+    rw (← c.moves_bytes.ensures, c.if-moves_bytes.true, ← c.guest_regions-regions.ensures, ← c.place_range.ensures, c.in-InLow.is)
     (ap (λ (low : List ℕ). memory_of c.args.low_base low c.args.high_base c.args.high.now) c.write_bulk.ensures)
 
 pub returns-in-InHigh : goal.returns-in-InHigh
 unfolding after_record
 returns-in-InHigh c =
-    rw (← c.moves_bytes.ensures, c.if-moves_bytes.true, ← c.guest_regions-regions.ensures, ← c.place_range-place.ensures, c.in-InHigh.is)
+    rw (← c.moves_bytes.ensures, c.if-moves_bytes.true, ← c.guest_regions-regions.ensures, ← c.place_range.ensures, c.in-InHigh.is)
     (ap (λ (high : List ℕ). memory_of c.args.low_base c.args.low.now c.args.high_base high) c.write_bulk-in-InHigh.ensures)
 
 pub returns-else-moves_bytes : goal.returns-else-moves_bytes

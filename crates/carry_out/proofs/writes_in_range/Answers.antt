@@ -1,5 +1,5 @@
 -- `carry_out::writes_in_range` meets its contract. The loop's invariant: the writes from record number `index` on lie in range exactly where all of the
--- log's do. The measure is the number of records left. Assumes nothing.
+-- log's do. Assumes nothing.
 use Prim.Native.Nat.{◌-◌, ◌/◌}
 use mathlib.Core.Path.{◌≡◌}
 use native.Mathlib.Nat.{sub-zero}
@@ -10,12 +10,12 @@ use Rattle.call_log.proofs.LogLaws.{records_in-next}
 use Rattle.carry_out.proofs.writes_in_range.Goals as goal
 
 pub loop-index-init : goal.loop-index-init
-loop-index-init c = (search rules, rw sub-zero)
+loop-index-init c = rw sub-zero
 
 pub returns-then-not-write_in_range : goal.returns-then-not-write_in_range
 returns-then-not-write_in_range c =
     simp (
-      ← c.loop-index.invariant.1,
+      ← c.loop-index.invariant,
       records_in-next _ c.loop-index.index c.args.log.now c.loop-index-test.true,
       ← c.read_record.ensures,
       ← c.write_in_range.ensures,
@@ -23,18 +23,16 @@ returns-then-not-write_in_range c =
     )
 
 pub loop-index-preserved : goal.loop-index-preserved
-loop-index-preserved c = (
-  search rules,
-  rw (
-    ← c.loop-index.invariant.1,
-    records_in-next _ c.loop-index.index c.args.log.now c.loop-index-test.true,
-    ← c.read_record.ensures,
-    ← c.write_in_range.ensures,
-    c.if-not-write_in_range.false,
-  ),
-)
+loop-index-preserved c =
+    rw (
+      ← c.loop-index.invariant,
+      records_in-next _ c.loop-index.index c.args.log.now c.loop-index-test.true,
+      ← c.read_record.ensures,
+      ← c.write_in_range.ensures,
+      c.if-not-write_in_range.false,
+    )
 
 pub returns : goal.returns
 returns c =
     let none : length c.args.log.now / record_length - c.loop-index.index ≡ 0 = search rules in
-    simp (← c.loop-index.invariant.1, none)
+    simp (← c.loop-index.invariant, none)

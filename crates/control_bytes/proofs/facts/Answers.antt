@@ -4,5 +4,5 @@ use Rattle.control_bytes.proofs.facts.Goals as goal
 
 pub returns : goal.returns
 returns c =
-    facts-read c.args.block.now c.transfer-transfer.result c.endpoint_id-endpoint_id.result c.slot_id-slot_id.result c.state-state.result c.held-held.result
-    c.transfer-transfer.ensures c.endpoint_id-endpoint_id.ensures c.slot_id-slot_id.ensures c.state-state.ensures c.held-held.ensures.0
+    facts-read c.args.block.now c.transfer-transfer.result c.endpoint_id.result c.slot_id.result c.state.result c.held.result
+    c.transfer-transfer.ensures c.endpoint_id.ensures c.slot_id.ensures c.state.ensures c.held.ensures.0

@@ -9,4 +9,4 @@ pub returns : goal.returns
 unfolding place_of
 returns c =
     let m = c.numbers_at-numbers.result in
-    (λ j. trb_of (trb_numbers (c.held_type-kind.ensures j) m.flags m.addr m.value m.transfer_length)) ∙ ap (λ (x : TrbNumbers). trb_of (held_numbers x)) c.numbers_at-numbers.ensures
+    (λ j. trb_of (trb_numbers (c.held_type.ensures j) m.flags m.addr m.value m.transfer_length)) ∙ ap (λ (x : TrbNumbers). trb_of (held_numbers x)) c.numbers_at-numbers.ensures

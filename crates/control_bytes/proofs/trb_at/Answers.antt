@@ -3,4 +3,4 @@ use mathlib.Core.Path.{◌∙◌}
 use Rattle.control_bytes.proofs.trb_at.Goals as goal
 
 pub returns : goal.returns
-returns c = c.trb_of.ensures ∙ c.numbers_at-numbers.ensures
+returns c = c.trb_of.ensures ∙ c.numbers_at.ensures

@@ -10,40 +10,30 @@ use Rattle.trb.specs.declared.Answer.TheVariants.{Accepted}
 use Rattle.trb.specs.declared.TransferTrb.{TransferTrb}
 use Rattle.call_log.specs.declared.Record.{Record}
 use Rattle.call_log.specs.Calls.{Put, Meets, counted}
-use Rattle.held.specs.Places.{cleared, past_end}
-use Rattle.held.specs.Sound.{sound_trb, held_sound}
-use Rattle.held.specs.declared.EndpointKind.TheVariants.{Control}
-use Rattle.held.proofs.TestedLaws.{places-few, held-tested}
+use Rattle.held.specs.Places.{cleared}
 use Rattle.td_part.specs.declared.TdInfo.{TdInfo}
 use Rattle.td_part.specs.declared.TdProgress.{TdProgress}
-use Rattle.walks.proofs.AllLaws.{tested-turn}
 use Rattle.control_block.specs.declared.ControlBlock.{ControlBlock}
 use Rattle.control_block.specs.declared.Ending.{Ending}
 use Rattle.control_block.specs.Blocks.{held_of}
 use Rattle.control_block.specs.Endings.{places_freed}
 use Rattle.control_block.specs.Facts.{facts_of}
-use Rattle.control_block.specs.Stages.{address_for, stage_address, error_address}
+use Rattle.control_block.specs.Stages.{error_address}
 use Rattle.control_block.proofs.BlockLaws.{freed-held}
-use Rattle.control_block.proofs.StageLaws.{looked-turn, stage-found}
 use Rattle.control_chain.specs.Endings.{next_trb, info_of, last_records, ending_records}
 use Rattle.control_chain.proofs.EndingLaws.{kept_next}
 use Rattle.control_questions.specs.Completion.{completion_questions}
 use Rattle.control_questions.proofs.CompletionLaws.{Passed, passed}
 use Rattle.control_endpoint.proofs.FreeingLaws.{Freeing, freeing-none, freeing-room, freeing-turn, freeing-places, freeing-counts, freeing-then}
 use Rattle.control_endpoint.proofs.CompletionLaws.{completes-refused, completes-accepted, completed-by, walk-ending_records, length-freed}
-use Rattle.control_completion.proofs.next_completion.Goals.{After-ask_completion-asked, After-address_for-error_address}
+use Rattle.control_completion.proofs.next_completion.Goals.{After-ask_completion-asked}
 use Rattle.control_completion.proofs.next_completion.Goals as goal
 
 -- ---- The questions
 
 numbered : (k : After-ask_completion-asked) → let s = k.args in
     number_of k.ask_completion-asked.result ≡ first_no (completion_questions (length s.log.now) (facts_of s.block) s.res (length s.data.now))
-numbered k =
-    let b = k.args.block in
-    let places : length b.trbs ≡ max_held = omega arith in
-    let found : k.loop-i.sound ≡ held_sound Control (held_of b) =
-    held-tested b.trbs b.held k.places_held-places.result places k.places_held-places.ensures Control k.loop-i.sound k.loop-i.i k.loop-i.invariant.0 k.loop-i-test.false in
-    rw found at k.ask_completion-asked.ensures
+numbered k = rw k.facts_of-facts.ensures at k.ask_completion-asked.ensures
 
 none : (k : After-ask_completion-asked) → k.ask_completion-asked.result ≡ Accepted → let s = k.args in
     first_no (completion_questions (length s.log.now) (facts_of s.block) s.res (length s.data.now)) ≡ 0
@@ -84,28 +74,7 @@ module _ (b : ControlBlock) (x : Ending) (info : TdInfo) (l₀ : List ℕ) (n d 
       blank : us ≡ cleared d b.trbs
       blank = freeing-places info (next_trb x info) (kept_next x info) d b.trbs l₀ freed-there l w us j f over
 
--- where the event of a failed transfer goes
-goes_to : (c : After-address_for-error_address) → c.address_for-error_address.result ≡ error_address c.args.block
-unfolding error_address
-goes_to c =
-    let b = c.args.block in
-    let places : length b.trbs ≡ max_held = omega arith in
-    let staged : c.loop-i.stage.addr ≡ stage_address (held_of b) b.request.address =
-    stage-found b.trbs b.held c.places_held-places.result places c.places_held-places.ensures b.request.address c.loop-i.stage c.loop-i.i c.loop-i.invariant.1.0 c.loop-i-test.false in
-    c.address_for-error_address.ensures ∙ ap (λ (a : ℕ). address_for b.release b.request.address a) staged
-
 -- ---- The goals
-
-pub loop-i-preserved : goal.loop-i-preserved
-loop-i-preserved c =
-    let b = c.args.block in
-    let p = c.places_held-places in
-    let places : length b.trbs ≡ max_held = omega arith in
-    let few = places-few b.trbs b.held p.result places p.ensures in
-    let more = c.loop-i-test.true in (
-      tested-turn (sound_trb Control) b.trbs p.result few c.loop-i.sound c.and_sound-sound.result c.loop-i.i past_end c.loop-i.invariant.0 more c.and_sound-sound.ensures,
-      (looked-turn b.trbs p.result few b.request.address c.loop-i.stage c.stage_with-stage.result c.loop-i.i c.loop-i.invariant.1.0 more c.stage_with-stage.ensures, search rules),
-    )
 
 pub overflow_cast-data : goal.overflow_cast-data
 overflow_cast-data c = let few = (pass (goal.at.overflow_cast-data c).After-ask_completion-asked c.in-Accepted.is).data-short in search rules
@@ -179,7 +148,7 @@ log_ending-records-requires c =
     let l = c.loop-j in
     let places : length s.block.trbs ≡ max_held = omega arith in
     let few = total s.block c.ending_of-ending.result c.info_of-info.result s.log.now (length s.data.now) c.places_freed-freed.result p c.info_of-info.ensures c.places_freed-freed.ensures places l.log l.progress l.trbs l.j l.invariant c.loop-j-test.false in
-    rw (goes_to (goal.at.log_ending-records-requires c).After-address_for-error_address) (omega (arith, few, l.auto.log, p.log-long))
+    rw c.error_address-error_address.ensures (omega (arith, few, l.auto.log, p.log-long))
 
 pub returns-in-Refused : goal.returns-in-Refused
 returns-in-Refused c =
@@ -199,7 +168,7 @@ returns-after-loop-j c =
     let places : length b.trbs ≡ max_held = omega arith in
     let empty = blank b x info s.log.now (length s.data.now) d p c.info_of-info.ensures c.places_freed-freed.ensures places l.log l.progress l.trbs l.j l.invariant c.loop-j-test.false in
     let written = logged b x info s.log.now (length s.data.now) d p c.info_of-info.ensures c.places_freed-freed.ensures places l.log l.progress l.trbs l.j l.invariant c.loop-j-test.false c.log_ending-records.result c.log_ending-records.new.log
-    (rw (goes_to (goal.at.returns-after-loop-j c).After-address_for-error_address) at c.log_ending-records.ensures) in
+    (rw c.error_address-error_address.ensures at c.log_ending-records.ensures) in
     completes-accepted b s.res (length s.data.now) s.log.now x c.ending_of-ending.ensures (none k c.in-Accepted.is) _ _
-    (completed-by b x c.result_of-ended.result c.log_ending-records.result c.phase_behind-phase.result d l.trbs c.result_of-ended.ensures written.1 c.phase_behind-phase.ensures c.places_freed-freed.ensures empty)
+    (completed-by b x c.result_of.result c.log_ending-records.result c.phase_behind-phase.result d l.trbs c.result_of.ensures written.1 c.phase_behind-phase.ensures c.places_freed-freed.ensures empty)
     written.0

@@ -12,4 +12,4 @@ pub returns : goal.returns
 returns c =
     let a = c.args in
     rw c.completed_as-2.ensures
-    (completes-long (result_of a.status) a.data_length a.log.now a.block.now c.complete-completed.result _ _ c.if-block-lt-BLOCK.false (rw c.result_of-result.ensures at c.complete-completed.ensures))
+    (completes-long (result_of a.status) a.data_length a.log.now a.block.now c.complete-completed.result _ _ c.if-block-lt-BLOCK.false (rw c.result_of.ensures at c.complete-completed.ensures))

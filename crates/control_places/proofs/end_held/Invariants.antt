@@ -7,7 +7,4 @@ use Rattle.control_bytes.specs.Layout.{block_of}
 use Rattle.control_places.proofs.end_held.Given as goal
 
 abbrev pub invariant-loop-j : goal.invariant-loop-j
-invariant-loop-j l = Walked (ending_walker l.ending l.info) at_start (take l.count (block_of l.block).trbs) l.initial.log l.log l.progress l.j × (l.j ≤ l.count)
-
-abbrev pub decreases-loop-j : goal.decreases-loop-j
-decreases-loop-j l = l.count - l.j
+invariant-loop-j l = Walked (ending_walker l.ending l.info) at_start (take l.count (block_of l.block).trbs) l.initial.log l.log l.progress l.j

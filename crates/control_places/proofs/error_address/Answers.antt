@@ -10,10 +10,10 @@ pub returns-in-Release4 : goal.returns-in-Release4
 unfolding error_address
 returns-in-Release4 c =
     let b = block_of c.args.block.now in
-    rw (sym c.release-release.ensures ∙ c.in-Release4.is) (ap (λ (w : ControlTransfer). w.request.address) c.transfer-transfer.ensures)
+    rw (sym c.release.ensures ∙ c.in-Release4.is) (ap (λ (w : ControlTransfer). w.request.address) c.transfer-transfer.ensures)
 
 pub returns-in-Release5 : goal.returns-in-Release5
 unfolding error_address
 returns-in-Release5 c =
     let b = block_of c.args.block.now in
-    rw (sym c.release-release.ensures ∙ c.in-Release5.is) (c.stage_address.ensures ∙ ap (λ (w : ControlTransfer). stage_address (held_of b) w.request.address) c.transfer-transfer.ensures)
+    rw (sym c.release.ensures ∙ c.in-Release5.is) (c.stage_address.ensures ∙ ap (λ (w : ControlTransfer). stage_address (held_of b) w.request.address) c.transfer-transfer.ensures)

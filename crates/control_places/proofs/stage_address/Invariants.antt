@@ -5,7 +5,4 @@ use Rattle.control_bytes.specs.Layout.{block_of}
 use Rattle.control_places.proofs.stage_address.Given as goal
 
 abbrev pub invariant-loop-i : goal.invariant-loop-i
-invariant-loop-i l = Looked (take l.places (block_of l.block).trbs) l.setup_address l.stage l.i × (l.i ≤ l.places)
-
-abbrev pub decreases-loop-i : goal.decreases-loop-i
-decreases-loop-i l = l.places - l.i
+invariant-loop-i l = Looked (take l.places (block_of l.block).trbs) l.setup_address l.stage l.i

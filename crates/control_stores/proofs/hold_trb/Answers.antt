@@ -18,7 +18,7 @@ returns-then-is_held c =
     let a = c.args in
     held-stored a.block.now a.outcome (trb_of a.numbers) a.kept _ (sym c.is_held.ensures ∙ c.if-is_held.true) c.put_trb.ensures
 
-pub returns : goal.returns
-returns c =
+pub returns-else-is_held : goal.returns-else-is_held
+returns-else-is_held c =
     let a = c.args in
     held_kept a.block.now a.outcome (trb_of a.numbers) a.kept (sym c.is_held.ensures ∙ c.if-is_held.false)

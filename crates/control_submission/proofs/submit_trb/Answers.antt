@@ -1,5 +1,4 @@
--- `control_submission::submit_trb` meets its contract: the first loop keeps to the test of the TRBs held, by which the questions are asked;
--- the second to the walk over those that are dropped, with the places behind it blank; the TRB is then held, if it is taken.
+-- `control_submission::submit_trb` meets its contract: the loop keeps to the walk over the TRBs that are dropped, with the places behind it blank; the TRB is then held, if it is taken.
 -- Assumes nothing.
 use Rattle.std.proofs.Common.{◌≡◌, ℕ, ◌+◌, ◌*◌, ◌-◌, ◌<◌, ◌≤◌, Bool, true, List, length, set, sym, ap, ◌∙◌, subst, arith, rules}
 use Rattle.trb.specs.Answers.{number_of}
@@ -9,18 +8,13 @@ use Rattle.trb.specs.declared.Answer.TheVariants.{Accepted}
 use Rattle.trb.specs.declared.TransferTrb.{TransferTrb}
 use Rattle.call_log.specs.declared.Record.{Record}
 use Rattle.call_log.specs.Calls.{Put, Meets, counted}
-use Rattle.held.specs.Places.{cleared, past_end}
-use Rattle.held.specs.Sound.{sound_trb, held_sound}
-use Rattle.held.specs.declared.EndpointKind.TheVariants.{Control}
-use Rattle.held.proofs.TestedLaws.{places-few, held-tested}
-use Rattle.walks.proofs.AllLaws.{tested-turn}
+use Rattle.held.specs.Places.{cleared}
 use Rattle.guest_memory.specs.declared.Regions.{Regions}
 use Rattle.guest_memory.specs.Places.{memory_of, regions_of}
 use Rattle.td_part.specs.declared.TdProgress.{TdProgress}
 use Rattle.phase_table.specs.declared.Outcome.{Outcome}
 use Rattle.phase_table.specs.Outcomes.{holds, restarts}
 use Rattle.control_block.specs.declared.ControlBlock.{ControlBlock}
-use Rattle.control_block.specs.Blocks.{held_of}
 use Rattle.control_block.specs.Facts.{facts_of}
 use Rattle.control_chain.specs.Dropped.{report_dropped}
 use Rattle.control_chain.proofs.DroppedLaws.{kept-dropped}
@@ -41,10 +35,7 @@ numbered-by : (k : After-ask_submission-answer) → let s = k.args in
 numbered-by k =
     let s = k.args in
     let b = s.block in
-    let places : length b.trbs ≡ max_held = omega arith in
-    let found : k.loop-i.sound ≡ held_sound Control (held_of b) =
-    held-tested b.trbs b.held k.places_held-places.result places k.places_held-places.ensures Control k.loop-i.sound k.loop-i.i k.loop-i.invariant.0 k.loop-i-test.false in
-    (rw found at k.ask_submission-answer.ensures)
+    (rw k.facts_of-facts.ensures at k.ask_submission-answer.ensures)
     ∙ ap (λ (rs : Regions). first_no (submission_questions (length s.log.now) (length s.collect.now) (facts_of b) k.trb_outcome-outcome.result s.t rs)) k.guest_regions-regions.ensures
 
 numbered : (k : After-ask_submission-answer) → let s = k.args in
@@ -104,13 +95,6 @@ module _ (b : ControlBlock) (t : TransferTrb) (l₀ collect : List ℕ) (o : Out
           ∙ ap (λ (n : ℕ). cleared n b.trbs) drops
 
 -- ---- The goals
-
-pub loop-i-preserved : goal.loop-i-preserved
-loop-i-preserved c =
-    let b = c.args.block in
-    let p = c.places_held-places in
-    let places : length b.trbs ≡ max_held = omega arith in
-    (tested-turn (sound_trb Control) b.trbs p.result (places-few b.trbs b.held p.result places p.ensures) c.loop-i.sound c.and_sound-sound.result c.loop-i.i past_end c.loop-i.invariant.0 c.loop-i-test.true c.and_sound-sound.ensures, search rules)
 
 pub loop-j-init : goal.loop-j-init
 loop-j-init c =

@@ -1,7 +1,9 @@
 -- `control_turn_numbers::realize_trb` meets its contract, by the kind of the TRB. Assumes nothing.
 use mathlib.Core.Path.{◌≡◌, refl, sym, ap, ◌∙◌}
 use mathlib.Core.Bool.{Bool}
-use borrow.Author.Tests.{ne_eqb}
+use borrow.Author.Rules.{rules}
+use mathlib.Core.Logic.{⊎_elim}
+use Rattle.raw_trb.specs.Layouts.{setup_stage_type, status_stage_type}
 use Rattle.trb.specs.declared.DataStageTrb.{DataStageTrb}
 use Rattle.trb.specs.declared.EventDataTrb.{EventDataTrb}
 use Rattle.trb.specs.declared.NormalTrb.{NormalTrb}
@@ -14,51 +16,47 @@ use Rattle.control_chain.proofs.ChainLaws.{trb-by}
 use Rattle.control_turn_numbers.proofs.OtherLaws.{other-silent}
 use Rattle.control_turn_numbers.proofs.realize_trb.Goals as goal
 
-pub returns-then-number-eq-SETUP_STAGE : goal.returns-then-number-eq-SETUP_STAGE
+pub returns-in-2 : goal.returns-in-2
 unfolding variant_of
-returns-then-number-eq-SETUP_STAGE c =
+returns-in-2 c =
     let a = c.args in
     let n = a.numbers in
-    let e : variant_of n.kind n.flags n.value n.transfer_length ≡ SetupStage (setup_stage_of n.flags n.value) = rw c.if-number-eq-SETUP_STAGE.true in
-    meets (trb-by a.td a.progress (trb_of n) e ∙ ap (λ (on : Bool). realize_stage a.td.info a.progress on n.addr) (sym c.bit.ensures)) c.realize_stage.ensures
+    let setup : n.kind ≡ setup_stage_type → variant_of n.kind n.flags n.value n.transfer_length ≡ SetupStage (setup_stage_of n.flags n.value) = λ k. rw k in
+    let status : n.kind ≡ status_stage_type → variant_of n.kind n.flags n.value n.transfer_length ≡ StatusStage (status_stage_of n.flags) = λ k. rw k in
+    ⊎_elim
+    (λ k. meets (trb-by a.td a.progress (trb_of n) (setup k) ∙ ap (λ (on : Bool). realize_stage a.td.info a.progress on n.addr) (sym c.bit.ensures)) c.realize_stage.ensures)
+    (λ k. meets (trb-by a.td a.progress (trb_of n) (status k) ∙ ap (λ (on : Bool). realize_stage a.td.info a.progress on n.addr) (sym c.bit.ensures)) c.realize_stage.ensures)
+    c.in-2.is
 
-pub returns-then-number-eq-STATUS_STAGE : goal.returns-then-number-eq-STATUS_STAGE
+pub returns-in-3 : goal.returns-in-3
 unfolding variant_of
-returns-then-number-eq-STATUS_STAGE c =
+returns-in-3 c =
     let a = c.args in
     let n = a.numbers in
-    let e : variant_of n.kind n.flags n.value n.transfer_length ≡ StatusStage (status_stage_of n.flags) = rw c.if-number-eq-STATUS_STAGE.true in
-    meets (trb-by a.td a.progress (trb_of n) e ∙ ap (λ (on : Bool). realize_stage a.td.info a.progress on n.addr) (sym c.bit-then-number-eq-STATUS_STAGE.ensures)) c.realize_stage-then-number-eq-STATUS_STAGE.ensures
-
-pub returns-then-number-eq-DATA_STAGE : goal.returns-then-number-eq-DATA_STAGE
-unfolding variant_of
-returns-then-number-eq-DATA_STAGE c =
-    let a = c.args in
-    let n = a.numbers in
-    let e : variant_of n.kind n.flags n.value n.transfer_length ≡ DataStage (data_stage_of n.flags n.value n.transfer_length) = rw c.if-number-eq-DATA_STAGE.true in
+    let e : variant_of n.kind n.flags n.value n.transfer_length ≡ DataStage (data_stage_of n.flags n.value n.transfer_length) = rw c.in-3.is in
     meets (trb-by a.td a.progress (trb_of n) e ∙ ap (λ (x : DataStageTrb). realize_data_stage a.td a.progress x n.addr) (sym c.data_stage-stage.ensures)) c.realize_data_stage.ensures
 
-pub returns-then-number-eq-NORMAL : goal.returns-then-number-eq-NORMAL
+pub returns-in-1 : goal.returns-in-1
 unfolding variant_of
-returns-then-number-eq-NORMAL c =
+returns-in-1 c =
     let a = c.args in
     let n = a.numbers in
-    let e : variant_of n.kind n.flags n.value n.transfer_length ≡ Normal (normal_of n.flags n.value n.transfer_length) = rw c.if-number-eq-NORMAL.true in
+    let e : variant_of n.kind n.flags n.value n.transfer_length ≡ Normal (normal_of n.flags n.value n.transfer_length) = rw c.in-1.is in
     meets (trb-by a.td a.progress (trb_of n) e ∙ ap (λ (x : NormalTrb). realize_normal a.td a.progress x n.addr) (sym c.normal-normal.ensures)) c.realize_normal.ensures
 
-pub returns-then-number-eq-EVENT_DATA : goal.returns-then-number-eq-EVENT_DATA
+pub returns-in-7 : goal.returns-in-7
 unfolding variant_of
-returns-then-number-eq-EVENT_DATA c =
+returns-in-7 c =
     let a = c.args in
     let n = a.numbers in
-    let e : variant_of n.kind n.flags n.value n.transfer_length ≡ EventData (event_data_of n.flags n.value) = rw c.if-number-eq-EVENT_DATA.true in
+    let e : variant_of n.kind n.flags n.value n.transfer_length ≡ EventData (event_data_of n.flags n.value) = rw c.in-7.is in
     meets (trb-by a.td a.progress (trb_of n) e ∙ ap (λ (x : EventDataTrb). handle_event_data a.td.info a.progress x) (sym c.event_data-event.ensures)) c.handle_event_data_trb.ensures
 
-pub returns : goal.returns
-returns c =
+pub returns-in_default : goal.returns-in_default
+returns-in_default c =
     let a = c.args in
     let n = a.numbers in
     meets
     (trb-by a.td a.progress (trb_of n) refl
-    ∙ other-silent n.kind n.flags n.value n.transfer_length a.td a.progress n.addr (ne_eqb _ _ c.if-number-eq-NORMAL.false) (ne_eqb _ _ c.if-number-eq-SETUP_STAGE.false) (ne_eqb _ _ c.if-number-eq-DATA_STAGE.false) (ne_eqb _ _ c.if-number-eq-STATUS_STAGE.false) (ne_eqb _ _ c.if-number-eq-EVENT_DATA.false))
+    ∙ other-silent n.kind n.flags n.value n.transfer_length a.td a.progress n.addr (search rules) (search rules) (search rules) (search rules) (search rules))
     (meets-silent a.progress.records a.log.now refl)

@@ -26,7 +26,7 @@ none c =
 
 pub returns-then-not-is_accepted : goal.returns-then-not-is_accepted
 returns-then-not-is_accepted c =
-    rw c.completion_answer-answer.ensures
+    rw c.completion_answer.ensures
     (delivers-no c.args.block c.args.res c.args.data.now c.args.log.now (memory_of c.args.low_base c.args.low.now c.args.high_base c.args.high.now) c.ask-asked.result _ (number (goal.at.returns-then-not-is_accepted c).After-ask-asked)
     (sym c.is_accepted.ensures ∙ c.if-not-is_accepted.true))
 

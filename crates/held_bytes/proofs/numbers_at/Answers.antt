@@ -4,4 +4,4 @@ use Rattle.held_bytes.proofs.NumberLaws.{numbers-drop}
 use Rattle.held_bytes.proofs.numbers_at.Goals as goal
 
 pub returns : goal.returns
-returns c = rw (c.le32.ensures, c.le64-value.ensures, c.le64-addr.ensures) (sym (numbers-drop c.args.block.now c.args.at))
+returns c = rw (c.le32.ensures, c.le64-2.ensures, c.le64.ensures) (sym (numbers-drop c.args.block.now c.args.at))

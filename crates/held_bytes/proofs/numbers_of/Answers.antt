@@ -3,7 +3,7 @@ use Rattle.held_bytes.proofs.NumberLaws.{numbers-said}
 use Rattle.held_bytes.proofs.numbers_of.Goals as goal
 
 pub returns-in-SetupStage : goal.returns-in-SetupStage
-returns-in-SetupStage c = numbers-said c.args.t (rw (c.setup_value.ensures.0, c.flags_of.ensures, c.in-SetupStage.is)) (rw c.in-SetupStage.is c.setup_value.ensures.1)
+returns-in-SetupStage c = numbers-said c.args.t (rw (c.setup_value.ensures.0, c.flags_of-in-SetupStage.ensures, c.in-SetupStage.is)) (rw c.in-SetupStage.is c.setup_value.ensures.1)
 
 pub returns-in-DataStage : goal.returns-in-DataStage
 returns-in-DataStage c = numbers-said c.args.t (rw (c.flags_of-in-DataStage.ensures, c.in-DataStage.is)) (rw c.in-DataStage.is tt)
@@ -21,7 +21,7 @@ pub returns-in-NoOp : goal.returns-in-NoOp
 returns-in-NoOp c = numbers-said c.args.t (rw (c.flags_of-in-NoOp.ensures, c.in-NoOp.is)) (rw c.in-NoOp.is tt)
 
 pub returns-in-Isoch : goal.returns-in-Isoch
-returns-in-Isoch c = numbers-said c.args.t (rw (c.flags_of-in-Isoch.ensures, c.in-Isoch.is)) (rw c.in-Isoch.is tt)
+returns-in-Isoch c = numbers-said c.args.t (rw (c.flags_of.ensures, c.in-Isoch.is)) (rw c.in-Isoch.is tt)
 
 pub returns-in-Unrecognized : goal.returns-in-Unrecognized
-returns-in-Unrecognized c = numbers-said c.args.t (rw (c.flags_of-in-Unrecognized.ensures, c.in-Unrecognized.is)) (rw c.in-Unrecognized.is tt)
+returns-in-Unrecognized c = numbers-said c.args.t (rw (c.flags_of.ensures, c.in-Unrecognized.is)) (rw c.in-Unrecognized.is tt)

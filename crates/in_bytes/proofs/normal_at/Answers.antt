@@ -1,7 +1,6 @@
 -- `in_bytes::normal_at` meets its contract: the type is read where the place has it. Assumes nothing.
 use Prim.Native.Nat.{ℕ, ◌+◌, ◌*◌}
 use mathlib.Core.Path.{sym, ap, ◌∙◌}
-use native.Mathlib.Omega.{arith}
 use lib.Dec.{eqb}
 use lib.ListN.{drop}
 use lib.Seq.{get_or-drop}
@@ -10,9 +9,6 @@ use Rattle.held_bytes.specs.Places.{place_length}
 use Rattle.in_bytes.specs.Layout.{head_length}
 use Rattle.in_bytes.proofs.HeldLaws.{normal-place}
 use Rattle.in_bytes.proofs.normal_at.Goals as goal
-
-pub overflow_cast-result : goal.overflow_cast-result
-overflow_cast-result c = omega (arith, c.shared_slice_known-1.given (head_length + place_length * c.args.i + 20))
 
 pub returns : goal.returns
 returns c = let s = c.args in sym (normal-place (drop (head_length + place_length * s.i) s.block.now) ∙ ap (λ (x : ℕ). eqb x normal_type) (get_or-drop (head_length + place_length * s.i) s.block.now 20 0))

@@ -16,8 +16,8 @@ returns-then-normal_at c =
     let l = drop (head_length + place_length * s.i) s.block.now in
     c.length_at.ensures ∙ sym (length-place l ∙ ap (λ (x : Bool). cond x (le_field 16 4 l % (max_transfer_length + 1)) 0) (sym c.normal_at.ensures ∙ c.if-normal_at.true))
 
-pub returns : goal.returns
-returns c =
+pub returns-else-normal_at : goal.returns-else-normal_at
+returns-else-normal_at c =
     let s = c.args in
     let l = drop (head_length + place_length * s.i) s.block.now in
     sym (length-place l ∙ ap (λ (x : Bool). cond x (le_field 16 4 l % (max_transfer_length + 1)) 0) (sym c.normal_at.ensures ∙ c.if-normal_at.false))

@@ -1,5 +1,5 @@
 -- `in_bytes::requested_length` meets its contract. The loop's invariant: the sum so far and what the rest requests are what all request. Assumes nothing.
-use Prim.Native.Nat.{◌+◌, ◌*◌, ◌≤◌, ◌-◌}
+use Prim.Native.Nat.{◌+◌, ◌*◌, ◌≤◌}
 use mathlib.Core.Path.{◌≡◌}
 use native.Mathlib.Omega.{arith}
 use lib.ListN.{take, drop}
@@ -27,12 +27,12 @@ few : (c : After-normal_length_at-sum) →
 few c = requested-few c.args.block.now c.args.held c.requires.0
 
 pub overflow_add-sum : goal.overflow_add-sum
-overflow_add-sum c = omega (arith, turn c, few c, c.loop-i.invariant.0)
+overflow_add-sum c = omega (arith, turn c, few c, c.loop-i.invariant)
 
 pub loop-i-preserved : goal.loop-i-preserved
-loop-i-preserved c = (omega (arith, turn c, c.loop-i.invariant.0), search rules)
+loop-i-preserved c = omega (arith, turn c, c.loop-i.invariant)
 
 pub returns : goal.returns
 returns c =
     let b = c.args.block.now in
-    summed-end (places b) c.args.held (few-places b c.args.held c.requires.0) c.loop-i.sum c.loop-i.i c.loop-i.invariant.0 c.loop-i-test.false
+    summed-end (places b) c.args.held (few-places b c.args.held c.requires.0) c.loop-i.sum c.loop-i.i c.loop-i.invariant c.loop-i-test.false

@@ -4,4 +4,4 @@ use Rattle.in_bytes.proofs.trb_from.Goals as goal
 
 pub returns : goal.returns
 unfolding place_of
-returns c = rw (c.bit-cycle_bit.ensures, c.held_variant-variant.ensures, c.numbers_at-numbers.ensures)
+returns c = rw (c.bit.ensures, c.held_variant.ensures, c.numbers_at-numbers.ensures)

@@ -22,7 +22,7 @@ use Rattle.answer_numbers.specs.Numbers.{completion_answered}
 use Rattle.in_bytes.specs.Layout.{block_of}
 use Rattle.in_place.proofs.CallLaws.{completes-refused, completes-accepted, transferred-met, transferred-becomes}
 use borrow.Author.Rules.{rules}
-use Rattle.in_place.proofs.complete.Goals.{After-ask_completion-asked, After-ending_of-ending, Else-not-is_accepted}
+use Rattle.in_place.proofs.complete.Goals.{After-ask_completion-asked, After-ending_of, Else-not-is_accepted}
 use Rattle.in_place.proofs.complete.Goals as goal
 
 -- behind the questions
@@ -42,10 +42,10 @@ module _ (c : After-ask_completion-asked) where
 passed : (c : Else-not-is_accepted) → is_accepted c.ask_completion-asked.result ≡ true
 passed c = sym c.is_accepted.ensures ∙ c.if-not-is_accepted.false
 
-ended : (o : After-ending_of-ending) → let s = o.args in ending_of (block_of s.block.now).state s.res s.data_length ≡ o.ending_of-ending.result
+ended : (o : After-ending_of) → let s = o.args in ending_of (block_of s.block.now).state s.res s.data_length ≡ o.ending_of.result
 ended o =
     let s = o.args in
-    sym (o.ending_of-ending.ensures ∙ ap (λ (x : TdBasedNormalSubmissionState). ending_of x s.res s.data_length) o.state_of-state.ensures)
+    sym (o.ending_of.ensures ∙ ap (λ (x : TdBasedNormalSubmissionState). ending_of x s.res s.data_length) o.state_of-state.ensures)
 
 pub returns-then-not-is_accepted : goal.returns-then-not-is_accepted
 returns-then-not-is_accepted c =
@@ -60,7 +60,7 @@ overflow_cast-data_length c = let short = (known (goal.at.overflow_cast-data_len
 pub returns-in-KeepCollecting : goal.returns-in-KeepCollecting
 returns-in-KeepCollecting c =
     let s = c.args in
-    completes-accepted s.res s.data_length s.log.now s.block.now c.ask_completion-asked.result (number (goal.at.returns-in-KeepCollecting c).After-ask_completion-asked) (passed (goal.at.returns-in-KeepCollecting c).Else-not-is_accepted) KeepCollecting (ended (goal.at.returns-in-KeepCollecting c).After-ending_of-ending ∙ c.in-KeepCollecting.is) result.Ok 0 c.completed_as-in-KeepCollecting.ensures
+    completes-accepted s.res s.data_length s.log.now s.block.now c.ask_completion-asked.result (number (goal.at.returns-in-KeepCollecting c).After-ask_completion-asked) (passed (goal.at.returns-in-KeepCollecting c).Else-not-is_accepted) KeepCollecting (ended (goal.at.returns-in-KeepCollecting c).After-ending_of ∙ c.in-KeepCollecting.is) result.Ok 0 c.completed_as-in-KeepCollecting.ensures
     (record { state = refl; log = sym (logged_none s.log.now 0); fits = tt }) c.keep.ensures
 
 pub walk-processed-requires : goal.walk-processed-requires
@@ -72,7 +72,7 @@ pub returns-in-Transfer : goal.returns-in-Transfer
 returns-in-Transfer c =
     let s = c.args in
     let w = c.walk-processed in
-    completes-accepted s.res s.data_length s.log.now s.block.now c.ask_completion-asked.result (number (goal.at.returns-in-Transfer c).After-ask_completion-asked) (passed (goal.at.returns-in-Transfer c).Else-not-is_accepted) _ (ended (goal.at.returns-in-Transfer c).After-ending_of-ending ∙ c.in-Transfer.is) w.result.result w.result.progress.records c.completed_as-in-Transfer.ensures
+    completes-accepted s.res s.data_length s.log.now s.block.now c.ask_completion-asked.result (number (goal.at.returns-in-Transfer c).After-ask_completion-asked) (passed (goal.at.returns-in-Transfer c).Else-not-is_accepted) _ (ended (goal.at.returns-in-Transfer c).After-ending_of ∙ c.in-Transfer.is) w.result.result w.result.progress.records c.completed_as-in-Transfer.ensures
     (transferred-met s.block.now s.log.now w.new.log c.td_of-td.result c.le16-held.result _ _ w.result c.td_of-td.ensures c.le16-held.ensures w.ensures) (transferred-becomes s.block.now c.free.new.block _ _ c.free.ensures)
 
 pub report_unsupported-requires : goal.report_unsupported-requires
@@ -83,5 +83,5 @@ unfolding block_of
 returns-in-ReportUnsupported c =
     let s = c.args in
     let put = rw (c.slot_id-slot_id.ensures, c.endpoint_id-endpoint_id.ensures) at c.report_unsupported.ensures in
-    completes-accepted s.res s.data_length s.log.now s.block.now c.ask_completion-asked.result (number (goal.at.returns-in-ReportUnsupported c).After-ask_completion-asked) (passed (goal.at.returns-in-ReportUnsupported c).Else-not-is_accepted) _ (ended (goal.at.returns-in-ReportUnsupported c).After-ending_of-ending ∙ c.in-ReportUnsupported.is) result.TrbError 1 c.completed_as-in-ReportUnsupported.ensures
+    completes-accepted s.res s.data_length s.log.now s.block.now c.ask_completion-asked.result (number (goal.at.returns-in-ReportUnsupported c).After-ask_completion-asked) (passed (goal.at.returns-in-ReportUnsupported c).Else-not-is_accepted) _ (ended (goal.at.returns-in-ReportUnsupported c).After-ending_of ∙ c.in-ReportUnsupported.is) result.TrbError 1 c.completed_as-in-ReportUnsupported.ensures
     (record { state = refl; log = put.log; fits = put.fits }) c.free-in-ReportUnsupported.ensures

@@ -29,4 +29,4 @@ returns c =
     let l = s.log.now in
     let b = s.block.now in
     rw (long (goal.at.returns c).Else-block-lt-BLOCK)
-    (subst (λ (x : InTrbProcessingResult). CompletesInPlace (length l) x s.data_length l b c.complete.result c.complete.new.log c.complete.new.block) c.result_of-result.ensures c.complete.ensures)
+    (subst (λ (x : InTrbProcessingResult). CompletesInPlace (length l) x s.data_length l b c.complete.result c.complete.new.log c.complete.new.block) c.result_of.ensures c.complete.ensures)

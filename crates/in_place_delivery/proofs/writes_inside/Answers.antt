@@ -15,7 +15,7 @@ use Rattle.in_place_delivery.proofs.writes_inside.Goals.{After-write_inside}
 use Rattle.in_place_delivery.proofs.writes_inside.Goals as goal
 
 pub loop-i-init : goal.loop-i-init
-loop-i-init c = (refl, search rules)
+loop-i-init c = refl
 
 -- the TRB that a turn reads is the one in its place
 read : (c : After-write_inside) → c.trb_at-one.result ≡ get_or (places c.args.block.now) c.loop-i.i past_end
@@ -39,20 +39,18 @@ asked c =
 pub returns-then-not-write_inside : goal.returns-then-not-write_inside
 returns-then-not-write_inside c =
     let b = c.args.block.now in
-    left_out c.args.regions (places b) c.args.held (few-places b c.args.held c.requires.0) c.args.given c.loop-i.left c.loop-i.i c.loop-i.invariant.0 c.loop-i-test.true
+    left_out c.args.regions (places b) c.args.held (few-places b c.args.held c.requires.0) c.args.given c.loop-i.left c.loop-i.i c.loop-i.invariant c.loop-i-test.true
     (sym (asked (goal.at.returns-then-not-write_inside c).After-write_inside) ∙ c.if-not-write_inside.true)
 
 pub loop-i-preserved : goal.loop-i-preserved
 loop-i-preserved c =
     let b = c.args.block.now in
-    let at = (goal.at.loop-i-preserved c).After-write_inside in (
-      rw (taken at)
-          (left-next c.args.regions (places b) c.args.held (few-places b c.args.held c.requires.0) c.args.given c.loop-i.left c.loop-i.i c.loop-i.invariant.0 c.loop-i-test.true
-          (sym (asked at) ∙ c.if-not-write_inside.false)),
-      search rules,
-    )
+    let at = (goal.at.loop-i-preserved c).After-write_inside in
+    rw (taken at)
+    (left-next c.args.regions (places b) c.args.held (few-places b c.args.held c.requires.0) c.args.given c.loop-i.left c.loop-i.i c.loop-i.invariant c.loop-i-test.true
+    (sym (asked at) ∙ c.if-not-write_inside.false))
 
 pub returns : goal.returns
 returns c =
     let b = c.args.block.now in
-    left_end c.args.regions (places b) c.args.held (few-places b c.args.held c.requires.0) c.args.given c.loop-i.left c.loop-i.i c.loop-i.invariant.0 c.loop-i-test.false
+    left_end c.args.regions (places b) c.args.held (few-places b c.args.held c.requires.0) c.args.given c.loop-i.left c.loop-i.i c.loop-i.invariant c.loop-i-test.false

@@ -5,6 +5,6 @@ use Rattle.in_place_questions.proofs.facts_of.Goals as goal
 
 pub returns : goal.returns
 returns c =
-    rw (c.slot_id-slot_id.ensures, c.endpoint_id-endpoint_id.ensures)
+    rw (c.slot_id.ensures, c.endpoint_id.ensures)
     (same-facts c.args.block.now c.args.state c.le16-held.result c.places_held-places.result c.normals_seen-normals.result c.requires.1 c.le16-held.ensures c.places_held-places.ensures
     (λ w. c.normals_seen-normals.ensures (c.awaits_device.ensures ∙ w)))

@@ -7,4 +7,4 @@ use Rattle.in_place_questions.proofs.state_of.Goals as goal
 
 pub returns : goal.returns
 unfolding block_of
-returns c = c.state_of.ensures ∙ ap (λ (x : ℕ). state_of (get_or c.args.block.now 6 0) x) c.le64-addr.ensures
+returns c = c.state_of.ensures ∙ ap (λ (x : ℕ). state_of (get_or c.args.block.now 6 0) x) c.le64.ensures

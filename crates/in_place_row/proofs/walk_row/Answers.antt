@@ -27,7 +27,6 @@ use Rattle.row_bytes.specs.Layout.{trbs_in, results_in}
 use Rattle.row_bytes.proofs.CellLaws.{length-trbs_in}
 use Rattle.in_place_row.proofs.LookLaws.{found_at}
 use Rattle.in_place_row.proofs.KeptLaws.{places-from}
-use borrow.Author.Rules.{rules}
 use Rattle.in_place_row.proofs.walk_row.Goals.{After-log_request-records, After-look_at_td-looked, After-unprocessed_from-from, In-loop-i}
 use Rattle.in_place_row.proofs.walk_row.Goals as goal
 
@@ -37,7 +36,7 @@ module _ (c : In-loop-i) where
   left = omega (arith, c.loop-i-test.true, c.result_count-tds.ensures)
 
   inside : c.loop-i.first < length (trbs_in c.args.row.now)
-  inside = row_more _ _ _ _ _ _ c.requires.1.1.1 _ _ _ _ c.loop-i.invariant.0 left
+  inside = row_more _ _ _ _ _ _ c.requires.1.1.1 _ _ _ _ c.loop-i.invariant left
 
 -- where it was looked at
 module _ (c : After-look_at_td-looked) where
@@ -54,7 +53,7 @@ module _ (c : After-look_at_td-looked) where
   data-fits : c.loop-i.i < length (results_in c.args.results.now) → c.loop-i.so_far.start + given.length < 2 ^ 32
   data-fits left =
       rw given-for at
-      (let h = row-data _ _ _ _ _ _ c.requires.1.1.1 _ _ _ _ c.loop-i.invariant.0 left in le_trans_lt h c.requires.1.1.1.given)
+      (let h = row-data _ _ _ _ _ _ c.requires.1.1.1 _ _ _ _ c.loop-i.invariant left in le_trans_lt h c.requires.1.1.1.given)
 
 -- where its request was logged
 request-met : (c : After-log_request-records) →
@@ -93,7 +92,7 @@ module _ (c : After-unprocessed_from-from) where
     begun-room : record_length * (begun.progress.records + 2 * size) ≤ length c.log_request-records.new.log
     begun-room =
         room_as _ _ _ _ c.td_from-td.ensures c.unprocessed_from-from.ensures (2 * size) (length c.log_request-records.new.log)
-        (row_room _ _ _ _ _ _ c.requires.1.1.1 _ _ _ _ c.loop-i.invariant.0 left _ _ bounds _ _ met)
+        (row_room _ _ _ _ _ _ c.requires.1.1.1 _ _ _ _ c.loop-i.invariant left _ _ bounds _ _ met)
 
     few-trbs : c.loop-i.first + size ≤ length trbs
     few-trbs = omega (arith, bounds.some, bounds.inside)
@@ -114,15 +113,15 @@ module _ (c : After-unprocessed_from-from) where
       stops : is_error p.result ≡ true → Meets (process_row c.args.endpoint_id c.args.slot_id c.args.mode trbs results) 0 c.args.log.now (td_done c.loop-i.so_far for_it p.result p.progress.records) l
       stops h =
           rw given-here at
-          (row-stop _ _ _ _ _ _ c.requires.1.1.1 _ _ _ _ c.loop-i.invariant.0 left _ _ bounds _ _ met l p (rw given-here walked_here) h)
+          (row-stop _ _ _ _ _ _ c.requires.1.1.1 _ _ _ _ c.loop-i.invariant left _ _ bounds _ _ met l p (rw given-here walked_here) h)
 
       turns : is_error p.result ≡ false → RowWalked c.args.endpoint_id c.args.slot_id c.args.mode trbs results c.args.log.now l (td_done c.loop-i.so_far for_it p.result p.progress.records) c.look_at_td-looked.result.end (c.loop-i.i + 1)
       turns h =
           rw given-here at
-          (row-turn _ _ _ _ _ _ c.requires.1.1.1 _ _ _ _ c.loop-i.invariant.0 left _ _ bounds _ _ met l p (rw given-here walked_here) h)
+          (row-turn _ _ _ _ _ _ c.requires.1.1.1 _ _ _ _ c.loop-i.invariant left _ _ bounds _ _ met l p (rw given-here walked_here) h)
 
 pub loop-i-init : goal.loop-i-init
-loop-i-init c = rw c.at_start_of_row-so_far.ensures (row-none _ _ _ _ _ _, search rules)
+loop-i-init c = rw c.at_start_of_row-so_far.ensures (row-none _ _ _ _ _ _)
 
 pub look_at_td-looked-requires : goal.look_at_td-looked-requires
 look_at_td-looked-requires c = (inside (goal.at.look_at_td-looked-requires c).In-loop-i, (c.requires.0, (c.requires.1.1.1.whole, c.requires.1.1.1.asked)))
@@ -132,7 +131,7 @@ trb_at-head-requires c = inside (goal.at.trb_at-head-requires c).In-loop-i
 
 pub log_request-records-requires : goal.log_request-records-requires
 log_request-records-requires c =
-    row-space _ _ _ _ _ _ c.requires.1.1.1 _ _ _ _ c.loop-i.invariant.0 (left (goal.at.log_request-records-requires c).In-loop-i)
+    row-space _ _ _ _ _ _ c.requires.1.1.1 _ _ _ _ c.loop-i.invariant (left (goal.at.log_request-records-requires c).In-loop-i)
 
 pub td_from-td-requires : goal.td_from-td-requires
 td_from-td-requires c =
@@ -160,7 +159,7 @@ walk_places-processed-requires c =
 pub td_done-so_far-requires : goal.td_done-so_far-requires
 td_done-so_far-requires c =
     let g = goal.at.td_done-so_far-requires c in
-    (omega (arith, c.loop-i.invariant.0.count, left g.In-loop-i, c.requires.1.0), data-fits g.After-look_at_td-looked (left g.In-loop-i))
+    (omega (arith, c.loop-i.invariant.count, left g.In-loop-i, c.requires.1.0), data-fits g.After-look_at_td-looked (left g.In-loop-i))
 
 pub returns-then-is_error : goal.returns-then-is_error
 returns-then-is_error c =
@@ -173,12 +172,10 @@ returns-then-is_error c =
 pub loop-i-preserved : goal.loop-i-preserved
 loop-i-preserved c =
     let g = goal.at.loop-i-preserved c in
-    let w = c.walk_places-processed in (
-      rw c.td_done-so_far.ensures
-          (turns g.After-unprocessed_from-from (left g.In-loop-i) (found g.After-look_at_td-looked (inside g.In-loop-i)) (given-for g.After-look_at_td-looked) (request-met g.After-log_request-records) w.new.log w.result w.ensures
-          (sym c.is_error.ensures ∙ c.if-is_error.false)),
-      omega (arith, c.loop-i-test.true),
-    )
+    let w = c.walk_places-processed in
+    rw c.td_done-so_far.ensures
+    (turns g.After-unprocessed_from-from (left g.In-loop-i) (found g.After-look_at_td-looked (inside g.In-loop-i)) (given-for g.After-look_at_td-looked) (request-met g.After-log_request-records) w.new.log w.result w.ensures
+    (sym c.is_error.ensures ∙ c.if-is_error.false))
 
 pub returns : goal.returns
-returns c = row-end _ _ _ _ _ _ c.requires.1.1.1 _ _ _ _ c.loop-i.invariant.0 (omega (arith, c.loop-i-test.false, c.result_count-tds.ensures))
+returns c = row-end _ _ _ _ _ _ c.requires.1.1.1 _ _ _ _ c.loop-i.invariant (omega (arith, c.loop-i-test.false, c.result_count-tds.ensures))

@@ -22,5 +22,5 @@ returns c =
     let first : c.trb_at-first.result.addr ≡ first_address (take c.args.held (places b)) =
     ap (λ (t : TransferTrb). t.addr) (c.trb_at-first.ensures ∙ sym (placed b 0 few)) ∙ first_address-take (places b) c.args.held c.requires.1.1.0 in
     subst (λ (x : Record). Put c.args.log.now 0 (x ∷ []) c.put_record.new.log)
-    (c.in_request-request.ensures ∙ (λ j. in_request (first j) (c.requested_length-length.ensures j) (c.endpoint_id-endpoint_id.ensures j) (c.slot_id-slot_id.ensures j)))
+    (c.in_request-request.ensures ∙ (λ j. in_request (first j) (c.requested_length-length.ensures j) (c.endpoint_id.ensures j) (c.slot_id.ensures j)))
     c.put_record.ensures

@@ -25,7 +25,7 @@ use Rattle.held_bytes.specs.Numbers.{trb_of}
 use Rattle.in_bytes.specs.Layout.{block_length, held_count, places, block_of}
 use Rattle.in_place_submission.proofs.SubmissionLaws.{submits-refused, submits-accepted, request-said}
 use borrow.Author.Rules.{rules}
-use Rattle.in_place_submission.proofs.submit.Goals.{After-ask_submission-answer, After-outcome_of-outcome, Else-not-is_accepted}
+use Rattle.in_place_submission.proofs.submit.Goals.{After-ask_submission-answer, After-outcome_of, Else-not-is_accepted}
 use Rattle.in_place_submission.proofs.submit.Goals as goal
 
 -- behind the questions
@@ -50,16 +50,16 @@ passed : (c : Else-not-is_accepted) → is_accepted c.ask_submission-answer.resu
 passed c = sym c.is_accepted.ensures ∙ c.if-not-is_accepted.false
 
 -- what becomes of the TRB
-module _ (o : After-outcome_of-outcome) where
-  taken : outcome_of (held_test (held_of (block_of o.args.block.now))) (trb_of o.args.numbers) ≡ o.outcome_of-outcome.result
+module _ (o : After-outcome_of) where
+  taken : outcome_of (held_test (held_of (block_of o.args.block.now))) (trb_of o.args.numbers) ≡ o.outcome_of.result
   unfolding block_of
   taken =
       let s = o.args in
-      sym (o.outcome_of-outcome.ensures
+      sym (o.outcome_of.ensures
       ∙ ap (λ (n : ℕ). outcome_of (held_test (take n (places s.block.now))) (trb_of s.numbers)) o.le16-held.ensures)
 
   -- a TRB that is held has a place
-  holding : PassedSubmission (length o.args.log.now) (facts_of (block_of o.args.block.now)) (trb_of o.args.numbers) → (x : Outcome) → o.outcome_of-outcome.result ≡ x → holds x ≡ true → let s = o.args in let n = o.le16-held.result in let v = (trb_of s.numbers).variant in
+  holding : PassedSubmission (length o.args.log.now) (facts_of (block_of o.args.block.now)) (trb_of o.args.numbers) → (x : Outcome) → o.outcome_of.result ≡ x → holds x ≡ true → let s = o.args in let n = o.le16-held.result in let v = (trb_of s.numbers).variant in
       ((block_length ≤ length s.block.now) × ((n ≡ held_count s.block.now) × (n < max_held))) × ((transfer_length v ≤ max_transfer_length) × (supported In v ≡ true))
   unfolding block_of
   holding k x e h =
@@ -72,45 +72,45 @@ returns-then-not-is_accepted c =
     let failed : is_accepted c.ask_submission-answer.result ≡ false = sym c.is_accepted.ensures ∙ c.if-not-is_accepted.true in
     submits-refused (length s.log.now) (trb_of s.numbers) s.regions s.log.now s.block.now c.ask_submission-answer.result (number (goal.at.returns-then-not-is_accepted c).After-ask_submission-answer) failed c.answered_as.ensures
 
-pub outcome_of-outcome-requires : goal.outcome_of-outcome-requires
-outcome_of-outcome-requires c = (c.requires, few (goal.at.outcome_of-outcome-requires c).After-ask_submission-answer (passed (goal.at.outcome_of-outcome-requires c).Else-not-is_accepted))
+pub outcome_of-requires : goal.outcome_of-requires
+outcome_of-requires c = (c.requires, few (goal.at.outcome_of-requires c).After-ask_submission-answer (passed (goal.at.outcome_of-requires c).Else-not-is_accepted))
 
 pub returns-in-Drop : goal.returns-in-Drop
 returns-in-Drop c =
     let s = c.args in
     submits-accepted (length s.log.now) (trb_of s.numbers) s.regions s.log.now s.block.now c.ask_submission-answer.result (number (goal.at.returns-in-Drop c).After-ask_submission-answer) (passed (goal.at.returns-in-Drop c).Else-not-is_accepted)
-    Drop (taken (goal.at.returns-in-Drop c).After-outcome_of-outcome ∙ c.in-Drop.is) c.answered_as-in-Drop.ensures c.drop_held.ensures refl (sym (logged_none s.log.now 0)) tt
+    Drop (taken (goal.at.returns-in-Drop c).After-outcome_of ∙ c.in-Drop.is) c.answered_as-in-Drop.ensures c.drop_held.ensures refl (sym (logged_none s.log.now 0)) tt
 
 pub store-requires : goal.store-requires
 store-requires c =
-    let h = holding (goal.at.store-requires c).After-outcome_of-outcome (known (goal.at.store-requires c).After-ask_submission-answer (passed (goal.at.store-requires c).Else-not-is_accepted)) Collect c.in-Collect.is refl in
+    let h = holding (goal.at.store-requires c).After-outcome_of (known (goal.at.store-requires c).After-ask_submission-answer (passed (goal.at.store-requires c).Else-not-is_accepted)) Collect c.in-Collect.is refl in
     record { block_length_in_bounds = h.0; numbers_bound = h.1 }
 
 pub returns-in-Collect : goal.returns-in-Collect
 returns-in-Collect c =
     let s = c.args in
     submits-accepted (length s.log.now) (trb_of s.numbers) s.regions s.log.now s.block.now c.ask_submission-answer.result (number (goal.at.returns-in-Collect c).After-ask_submission-answer) (passed (goal.at.returns-in-Collect c).Else-not-is_accepted)
-    Collect (taken (goal.at.returns-in-Collect c).After-outcome_of-outcome ∙ c.in-Collect.is) c.answered_as-in-Collect.ensures c.store.ensures refl (sym (logged_none s.log.now 0)) tt
+    Collect (taken (goal.at.returns-in-Collect c).After-outcome_of ∙ c.in-Collect.is) c.answered_as-in-Collect.ensures c.store.ensures refl (sym (logged_none s.log.now 0)) tt
 
 pub store-requires-in-CompleteLocally : goal.store-requires-in-CompleteLocally
 store-requires-in-CompleteLocally c =
-    let h = holding (goal.at.store-requires-in-CompleteLocally c).After-outcome_of-outcome (known (goal.at.store-requires-in-CompleteLocally c).After-ask_submission-answer (passed (goal.at.store-requires-in-CompleteLocally c).Else-not-is_accepted)) CompleteLocally c.in-CompleteLocally.is refl in
+    let h = holding (goal.at.store-requires-in-CompleteLocally c).After-outcome_of (known (goal.at.store-requires-in-CompleteLocally c).After-ask_submission-answer (passed (goal.at.store-requires-in-CompleteLocally c).Else-not-is_accepted)) CompleteLocally c.in-CompleteLocally.is refl in
     record { block_length_in_bounds = h.0; numbers_bound = h.1 }
 
 pub returns-in-CompleteLocally : goal.returns-in-CompleteLocally
 returns-in-CompleteLocally c =
     let s = c.args in
     submits-accepted (length s.log.now) (trb_of s.numbers) s.regions s.log.now s.block.now c.ask_submission-answer.result (number (goal.at.returns-in-CompleteLocally c).After-ask_submission-answer) (passed (goal.at.returns-in-CompleteLocally c).Else-not-is_accepted)
-    CompleteLocally (taken (goal.at.returns-in-CompleteLocally c).After-outcome_of-outcome ∙ c.in-CompleteLocally.is) c.answered_as-in-CompleteLocally.ensures c.store-in-CompleteLocally.ensures refl (sym (logged_none s.log.now 0)) tt
+    CompleteLocally (taken (goal.at.returns-in-CompleteLocally c).After-outcome_of ∙ c.in-CompleteLocally.is) c.answered_as-in-CompleteLocally.ensures c.store-in-CompleteLocally.ensures refl (sym (logged_none s.log.now 0)) tt
 
 pub store-requires-in-Request : goal.store-requires-in-Request
 store-requires-in-Request c =
-    let h = holding (goal.at.store-requires-in-Request c).After-outcome_of-outcome (known (goal.at.store-requires-in-Request c).After-ask_submission-answer (passed (goal.at.store-requires-in-Request c).Else-not-is_accepted)) Request c.in-Request.is refl in
+    let h = holding (goal.at.store-requires-in-Request c).After-outcome_of (known (goal.at.store-requires-in-Request c).After-ask_submission-answer (passed (goal.at.store-requires-in-Request c).Else-not-is_accepted)) Request c.in-Request.is refl in
     record { block_length_in_bounds = h.0; numbers_bound = h.1 }
 
 pub log_request-requires : goal.log_request-requires
 log_request-requires c =
-    let h = holding (goal.at.log_request-requires c).After-outcome_of-outcome (known (goal.at.log_request-requires c).After-ask_submission-answer (passed (goal.at.log_request-requires c).Else-not-is_accepted)) Request c.in-Request.is refl in
+    let h = holding (goal.at.log_request-requires c).After-outcome_of (known (goal.at.log_request-requires c).After-ask_submission-answer (passed (goal.at.log_request-requires c).Else-not-is_accepted)) Request c.in-Request.is refl in
     (omega (arith, c.store-in-Request.ensures.long, c.requires), ((known (goal.at.log_request-requires c).After-ask_submission-answer (passed (goal.at.log_request-requires c).Else-not-is_accepted)).log-long, (search rules, omega (arith, h.0.1.1))))
 
 pub returns-in-Request : goal.returns-in-Request
@@ -118,4 +118,4 @@ returns-in-Request c =
     let s = c.args in
     let put = request-said (block_of s.block.now) (trb_of s.numbers) c.store-in-Request.new.block _ s.log.now c.log_request.new.log (ap (λ (n : ℕ). n + 1) (held (goal.at.returns-in-Request c).After-ask_submission-answer)) c.store-in-Request.ensures.block c.log_request.ensures in
     submits-accepted (length s.log.now) (trb_of s.numbers) s.regions s.log.now s.block.now c.ask_submission-answer.result (number (goal.at.returns-in-Request c).After-ask_submission-answer) (passed (goal.at.returns-in-Request c).Else-not-is_accepted)
-    Request (taken (goal.at.returns-in-Request c).After-outcome_of-outcome ∙ c.in-Request.is) c.answered_as-in-Request.ensures c.store-in-Request.ensures refl put.log put.fits
+    Request (taken (goal.at.returns-in-Request c).After-outcome_of ∙ c.in-Request.is) c.answered_as-in-Request.ensures c.store-in-Request.ensures refl put.log put.fits

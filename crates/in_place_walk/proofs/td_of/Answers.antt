@@ -4,4 +4,4 @@ use Rattle.in_place_walk.proofs.td_of.Goals as goal
 
 pub returns : goal.returns
 unfolding block_of
-returns c = rw (c.td_of.ensures, c.mode_of-mode.ensures, c.slot_id-slot_id.ensures, c.endpoint_id-endpoint_id.ensures)
+returns c = rw (c.td_of.ensures, c.mode_of.ensures, c.slot_id.ensures, c.endpoint_id.ensures)

@@ -1,5 +1,5 @@
 -- `log_check::well_formed` meets its contract. The loop's invariant: the kinds from record number `index` on are all known exactly where all of the log's are.
--- The measure is the number of records left. Assumes nothing.
+-- Assumes nothing.
 use Prim.Native.Nat.{◌-◌, ◌/◌}
 use mathlib.Core.Path.{◌≡◌}
 use native.Mathlib.Nat.{sub-zero}
@@ -16,7 +16,7 @@ unfolding well_formed
 returns-then-log-ne0 c = simp (ne_eqb _ _ c.if-log-ne0.true)
 
 pub loop-index-init : goal.loop-index-init
-loop-index-init c = (search rules, rw sub-zero)
+loop-index-init c = rw sub-zero
 
 pub returns-then-not-kind_known : goal.returns-then-not-kind_known
 unfolding well_formed
@@ -24,7 +24,7 @@ returns-then-not-kind_known c =
     let l = c.args.log.now in
     simp (
       eq-eqb _ _ c.if-log-ne0.false,
-      ← c.loop-index.invariant.1,
+      ← c.loop-index.invariant,
       kinds_known-next _ c.loop-index.index l c.loop-index-test.true,
       ← c.kind_known.ensures,
       c.if-not-kind_known.true,
@@ -32,18 +32,16 @@ returns-then-not-kind_known c =
 
 pub loop-index-preserved : goal.loop-index-preserved
 loop-index-preserved c =
-    let l = c.args.log.now in (
-      search rules,
-      rw (
-        ← c.loop-index.invariant.1,
-        kinds_known-next _ c.loop-index.index l c.loop-index-test.true,
-        ← c.kind_known.ensures,
-        c.if-not-kind_known.false,
-      ),
+    let l = c.args.log.now in
+    rw (
+      ← c.loop-index.invariant,
+      kinds_known-next _ c.loop-index.index l c.loop-index-test.true,
+      ← c.kind_known.ensures,
+      c.if-not-kind_known.false,
     )
 
 pub returns : goal.returns
 unfolding well_formed
 returns c =
     let none : length c.args.log.now / record_length - c.loop-index.index ≡ 0 = search rules in
-    simp (eq-eqb _ _ c.if-log-ne0.false, ← c.loop-index.invariant.1, none)
+    simp (eq-eqb _ _ c.if-log-ne0.false, ← c.loop-index.invariant, none)

@@ -4,7 +4,7 @@ use mathlib.Core.Path.{◌≡◌, sym, ap, ◌∙◌}
 use Rattle.trb.specs.Answers.{refusal_of}
 use Rattle.trb.specs.Questions.{first_no}
 use Rattle.log_compact.specs.Compacting.{compact_questions}
-use Rattle.log_compact.specs.declared.CompactAnswer.TheVariants.{Kept}
+use Rattle.std.proofs.Common.{Ok}
 use Rattle.log_compact.proofs.TakenLaws.{rows_kept-count, rows_kept-zeroed}
 use Rattle.log_compact.proofs.compact.Goals.{Else-not-well_formed, Start, Then-not-well_formed}
 use Rattle.log_compact.proofs.compact.Goals as goal
@@ -26,6 +26,6 @@ returns c =
     let kept = c.keep_rows-kept.ensures in
     record {
       number = sym (formed (goal.at.returns c).Else-not-well_formed);
-      answer = rw (formed (goal.at.returns c).Else-not-well_formed) (ap Kept (rows_kept-count kept));
+      answer = rw (formed (goal.at.returns c).Else-not-well_formed) (ap Ok (rows_kept-count kept));
       after = rw (formed (goal.at.returns c).Else-not-well_formed) (c.clear_from.ensures ∙ rows_kept-zeroed kept);
     }

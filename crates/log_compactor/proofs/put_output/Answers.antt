@@ -22,21 +22,21 @@ returns-then-read-gt-MAX_LOG c =
 
 pub overflow_mul-result : goal.overflow_mul-result
 overflow_mul-result c =
-    let fits = answer_of-fits (take c.args.read c.args.buffer.now) c.in-Kept.kept (sym c.in-Kept.is ∙ c.compact-answer.ensures.answer) in
+    let fits = answer_of-fits (take c.args.read c.args.buffer.now) c.in-Ok.kept (sym c.in-Ok.is ∙ c.compact.ensures.answer) in
     record { fits = omega (arith, fits, length-log (goal.at.overflow_mul-result c).Start) }
 
-pub returns-in-Kept : goal.returns-in-Kept
-returns-in-Kept c =
-    let compacts = c.compact-answer.ensures in
+pub returns-in-Ok : goal.returns-in-Ok
+returns-in-Ok c =
+    let compacts = c.compact.ensures in
     rw compacts.after
-    (output-kept (take c.args.read c.args.buffer.now) (rw (length-log (goal.at.returns-in-Kept c).Start) c.if-read-gt-MAX_LOG.false) c.in-Kept.kept (sym c.in-Kept.is ∙ compacts.answer) _)
+    (output-kept (take c.args.read c.args.buffer.now) (rw (length-log (goal.at.returns-in-Ok c).Start) c.if-read-gt-MAX_LOG.false) c.in-Ok.kept (sym c.in-Ok.is ∙ compacts.answer) _)
 
-pub returns-in-Refused : goal.returns-in-Refused
-returns-in-Refused c =
-    let put = c.put_refused-in-Refused.ensures in
-    let compacts = c.compact-answer.ensures in
+pub returns-in-Err : goal.returns-in-Err
+returns-in-Err c =
+    let put = c.put_refused-in-Err.ensures in
+    let compacts = c.compact.ensures in
     record {
       bytes = put.bytes
-          ∙ sym (output-refused (take c.args.read c.args.buffer.now) (rw (length-log (goal.at.returns-in-Refused c).Start) c.if-read-gt-MAX_LOG.false) c.in-Refused.refusal (sym c.in-Refused.is ∙ compacts.answer));
+          ∙ sym (output-refused (take c.args.read c.args.buffer.now) (rw (length-log (goal.at.returns-in-Err c).Start) c.if-read-gt-MAX_LOG.false) _ (sym c.in-Err.is ∙ compacts.answer));
       within = put.within;
     }

@@ -1,5 +1,5 @@
 -- `log_text::put_lines` meets its contract. The loop's invariant: the lines from record number `index` on remain to be written, and those before
--- took no more than their share of the room. The measure is the number of records left. Assumes nothing.
+-- took no more than their share of the room. Assumes nothing.
 use Prim.Native.Nat.{◌-◌, ◌/◌}
 use mathlib.Core.Path.{◌≡◌}
 use native.Mathlib.Nat.{sub-zero}
@@ -15,25 +15,21 @@ use Rattle.log_text.proofs.put_lines.Goals as goal
 pub loop-index-init : goal.loop-index-init
 loop-index-init c =
     let l = c.args.log.now in
-    (search rules, search rules, rw sub-zero (remaining-all _ _ _ (omega (arith, length-lines_in (length l / record_length) l, c.requires))))
+    (search rules, rw sub-zero (remaining-all _ _ _ (omega (arith, length-lines_in (length l / record_length) l, c.requires))))
 
 pub put_line-next-requires : goal.put_line-next-requires
-put_line-next-requires c = record { max_line_in_bounds = omega (arith, c.loop-index.invariant.1, c.loop-index.invariant.2.size, c.requires); index_in_bounds = search rules }
+put_line-next-requires c = record { max_line_in_bounds = omega (arith, c.loop-index.invariant.0, c.loop-index.invariant.1.size, c.requires); index_in_bounds = search rules }
 
 pub loop-index-preserved : goal.loop-index-preserved
 loop-index-preserved c =
     let l = c.args.log.now in (
-      search rules,
-      omega (arith, c.loop-index.invariant.1, c.put_line-next.ensures.next, c.put_line-next.ensures.within),
-      remaining-less _ _ (rw (lines_in-next (length l / record_length) c.loop-index.index l c.loop-index-test.true) at c.loop-index.invariant.2) c.put_line-next.ensures,
+      omega (arith, c.loop-index.invariant.0, c.put_line-next.ensures.next, c.put_line-next.ensures.within),
+      remaining-less _ _ (rw (lines_in-next (length l / record_length) c.loop-index.index l (omega arith)) at c.loop-index.invariant.1) c.put_line-next.ensures,
     )
-
-pub shape_of-text : goal.shape_of-text
-shape_of-text c = c.loop-index.invariant.2.size
 
 pub returns : goal.returns
 unfolding lines_in
 returns c =
     let l = c.args.log.now in
     let none : length l / record_length - c.loop-index.index ≡ 0 = search rules in
-    remaining-none (length-lines_in (length l / record_length) l) (rw none at c.loop-index.invariant.2)
+    remaining-none (length-lines_in (length l / record_length) l) (rw none at c.loop-index.invariant.1)

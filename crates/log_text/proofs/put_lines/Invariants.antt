@@ -7,8 +7,5 @@ use Rattle.log_text.specs.Lines.{lines_in}
 use Rattle.log_text.proofs.put_lines.Given as goal
 
 abbrev pub invariant-loop-index : goal.invariant-loop-index
-invariant-loop-index l = (l.index ≤ l.records) × (l.next ≤ l.at + l.index * max_line)
+invariant-loop-index l = (l.next ≤ l.at + l.index * max_line)
     × Remaining l.initial.text l.at (lines_in l.records l.log) l.text l.next (lines_in (l.records - l.index) (drop (record_length * l.index) l.log))
-
-abbrev pub decreases-loop-index : goal.decreases-loop-index
-decreases-loop-index l = l.records - l.index

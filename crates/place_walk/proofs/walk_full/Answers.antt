@@ -37,18 +37,18 @@ returns-then-not-is_default c = (omega arith, reached (walked_none (td_walker c.
 pub loop-j-init : goal.loop-j-init
 loop-j-init c =
     let p = c.args.from in
-    ((λ td e. walked_none (td_walker td) (going_on p.normals_left p.progress) (take c.args.count (trbs c.args.places.now c.args.at)) c.args.log.now (rw e c.requires.1.1.1.0)), omega arith)
+    λ td e. walked_none (td_walker td) (going_on p.normals_left p.progress) (take c.args.count (trbs c.args.places.now c.args.at)) c.args.log.now (rw e c.requires.1.1.1.0)
 
 -- in the loop, and where it is left
 module _ (c : At-loop-j) where
   walked : Walked (td_walker c.args.td) (going_on c.args.from.normals_left c.args.from.progress) (take c.args.count (trbs c.args.places.now c.args.at)) c.args.log.now c.loop-j.log (state-at c.loop-j.normals_left c.loop-j.start c.loop-j.edtla c.args.from.progress.state c.loop-j.records) c.loop-j.j
-  walked = c.loop-j.invariant.0 c.args.td refl
+  walked = c.loop-j.invariant c.args.td refl
 
-  left_here : {r : FullWalked} → r ≡ record { processed = (state-at c.loop-j.normals_left c.loop-j.start c.loop-j.edtla c.args.from.progress.state c.loop-j.records); count = c.loop-j.j }
+  left_here : c.loop-j.j ≤ c.args.count → {r : FullWalked} → r ≡ record { processed = (state-at c.loop-j.normals_left c.loop-j.start c.loop-j.edtla c.args.from.progress.state c.loop-j.records); count = c.loop-j.j }
       → (r.count ≤ c.args.count) × Reached c.args.td c.args.from (take c.args.count (trbs c.args.places.now c.args.at)) c.args.log.now c.loop-j.log r.processed r.count
-  left_here e =
+  left_here below e =
       subst (λ (x : FullWalked). (x.count ≤ c.args.count) × Reached c.args.td c.args.from (take c.args.count (trbs c.args.places.now c.args.at)) c.args.log.now c.loop-j.log x.processed x.count) (sym e)
-      (c.loop-j.invariant.1, reached-from c.requires.1.1.1.1 walked refl)
+      (below, reached-from c.requires.1.1.1.1 walked refl)
 
 -- a turn's place
 module _ (c : In-loop-j) where
@@ -65,7 +65,7 @@ pub shape_of-log-then-normals_left-eq1 : goal.shape_of-log-then-normals_left-eq1
 shape_of-log-then-normals_left-eq1 c = (walked (goal.at.shape_of-log-then-normals_left-eq1 c).At-loop-j).long
 
 pub returns-then-normals_left-eq1 : goal.returns-then-normals_left-eq1
-returns-then-normals_left-eq1 c = left_here (goal.at.returns-then-normals_left-eq1 c).At-loop-j c.full_walked.ensures
+returns-then-normals_left-eq1 c = left_here (goal.at.returns-then-normals_left-eq1 c).At-loop-j (omega (arith, c.loop-j-test.true)) c.full_walked.ensures
 
 pub overflow_sub-info : goal.overflow_sub-info
 overflow_sub-info c = (walked (goal.at.overflow_sub-info c).At-loop-j).good.within
@@ -77,7 +77,7 @@ pub shape_of-log-then-not-is_silent_normal : goal.shape_of-log-then-not-is_silen
 shape_of-log-then-not-is_silent_normal c = (walked (goal.at.shape_of-log-then-not-is_silent_normal c).At-loop-j).long
 
 pub returns-then-not-is_silent_normal : goal.returns-then-not-is_silent_normal
-returns-then-not-is_silent_normal c = left_here (goal.at.returns-then-not-is_silent_normal c).At-loop-j c.full_walked-then-not-is_silent_normal.ensures
+returns-then-not-is_silent_normal c = left_here (goal.at.returns-then-not-is_silent_normal c).At-loop-j (omega (arith, c.loop-j-test.true)) c.full_walked-then-not-is_silent_normal.ensures
 
 pub length_at-length-requires : goal.length_at-length-requires
 length_at-length-requires c = place-fits (goal.at.length_at-length-requires c).In-loop-j
@@ -104,12 +104,6 @@ overflow_add-records c =
     let room : record_length * (c.loop-j.records + 1) ≤ length c.args.log.now = omega (arith, (walked (goal.at.overflow_add-records c).At-loop-j).room, c.requires.1.1.0, c.loop-j-test.true) in
     search rules
 
-pub overflow_add-j : goal.overflow_add-j
-overflow_add-j c = omega (arith, c.loop-j-test.true, c.requires.1.0)
-
-pub loop-j-smaller : goal.loop-j-smaller
-loop-j-smaller c = omega (arith, c.loop-j-test.true)
-
 pub loop-j-preserved : goal.loop-j-preserved
 loop-j-preserved c =
     let b = c.args.places.now in
@@ -118,20 +112,20 @@ loop-j-preserved c =
     let few-held : p.j < max_held = omega (arith, c.loop-j-test.true, c.requires.1.0) in
     let len = c.length_at-length.ensures in
     let pointer : c.le64-pointer.result ≡ le_field 8 8 l =
-    c.le64-pointer.ensures ∙ sym (ap (λ (x : List ℕ). le_number (take 8 x)) (drop-drop 8 (c.args.at + place_length * c.loop-j.j) b)) in (
-      (λ td same.
-          walked-turn (td_walker td) (trbs c.args.places.now c.args.at) c.args.count (few (goal.at.loop-j-preserved c).Start) (going_on c.args.from.normals_left c.args.from.progress) c.args.log.now p.log c.put_record.new.log (state-at c.loop-j.normals_left c.loop-j.start c.loop-j.edtla c.args.from.progress.state c.loop-j.records) _ p.j past_end (p.invariant.0 td same) refl c.loop-j-test.true c.requires.1.1.0
-          (meets (ap (λ (t : TransferTrb). process_trb td (state-at c.loop-j.normals_left c.loop-j.start c.loop-j.edtla c.args.from.progress.state c.loop-j.records) t) (place_at In c.args.at b max_held p.j past_end few-held))
-          (full-met td same p.normals_left p.start p.edtla p.records c.args.from.progress.state l (c.is_default.ensures c.if-not-is_default.false) c.if-normals_left-eq1.false (silent (goal.at.loop-j-preserved c).After-length_at-length)
-          c.guest_write-write.result
-          (c.guest_write-write.ensures ∙ (λ k. guest_write (pointer k) (len k) p.start c.args.td.info.endpoint_id c.args.td.info.slot_id))
-          c.put_record.ensures
-          (λ k. state-at (c.one_less-normals_left.ensures k) (p.start + len k) ((c.edtla_after-edtla.ensures ∙ ap (edtla_after p.edtla) len) k) c.args.from.progress.state (p.records + 1))))),
-      omega (arith, c.loop-j-test.true),
-    )
+    c.le64-pointer.ensures ∙ sym (ap (λ (x : List ℕ). le_number (take 8 x)) (drop-drop 8 (c.args.at + place_length * c.loop-j.j) b)) in
+    λ td same.
+    walked-turn (td_walker td) (trbs c.args.places.now c.args.at) c.args.count (few (goal.at.loop-j-preserved c).Start) (going_on c.args.from.normals_left c.args.from.progress) c.args.log.now p.log c.put_record.new.log (state-at c.loop-j.normals_left c.loop-j.start c.loop-j.edtla c.args.from.progress.state c.loop-j.records) _ p.j past_end (p.invariant td same) refl c.loop-j-test.true c.requires.1.1.0
+    (meets (ap (λ (t : TransferTrb). process_trb td (state-at c.loop-j.normals_left c.loop-j.start c.loop-j.edtla c.args.from.progress.state c.loop-j.records) t) (place_at In c.args.at b max_held p.j past_end few-held))
+    (full-met td same p.normals_left p.start p.edtla p.records c.args.from.progress.state l (c.is_default.ensures c.if-not-is_default.false) c.if-normals_left-eq1.false (silent (goal.at.loop-j-preserved c).After-length_at-length)
+    c.guest_write-write.result
+    (c.guest_write-write.ensures ∙ (λ k. guest_write (pointer k) (len k) p.start c.args.td.info.endpoint_id c.args.td.info.slot_id))
+    c.put_record.ensures
+    (λ k. state-at (c.one_less-normals_left.ensures k) (p.start + len k) ((c.edtla_after-edtla.ensures ∙ ap (edtla_after p.edtla) len) k) c.args.from.progress.state (p.records + 1))))
 
 pub shape_of-log : goal.shape_of-log
 shape_of-log c = (walked (goal.at.shape_of-log c).At-loop-j).long
 
 pub returns : goal.returns
-returns c = left_here (goal.at.returns c).At-loop-j c.full_walked-2.ensures
+returns c =
+    let whole : c.loop-j.j ≡ c.args.count = omega (arith, c.loop-j-test.false) in
+    left_here (goal.at.returns c).At-loop-j (omega (arith, whole)) (rw whole c.full_walked-2.ensures)

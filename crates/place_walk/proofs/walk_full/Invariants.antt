@@ -1,4 +1,4 @@
-use Prim.Native.Nat.{ℕ, ◌-◌, ◌≤◌}
+use Prim.Native.Nat.{ℕ}
 use mathlib.Core.Path.{◌≡◌}
 use mathlib.Core.List.{List}
 use lib.ListN.{take, drop}
@@ -16,9 +16,5 @@ abbrev pub trbs : List ℕ → ℕ → List TransferTrb
 trbs places at = places_of In max_held (drop at places)
 
 abbrev pub invariant-loop-j : goal.invariant-loop-j
-invariant-loop-j l = ((td : InTd) → td.info ≡ l.info
-    → Walked (td_walker td) (state-at l.initial.normals_left l.initial.start l.initial.edtla l.state l.initial.records) (take l.count (trbs l.places l.at)) l.initial.log l.log (state-at l.normals_left l.start l.edtla l.state l.records) l.j)
-    × (l.j ≤ l.count)
-
-abbrev pub decreases-loop-j : goal.decreases-loop-j
-decreases-loop-j l = l.count - l.j
+invariant-loop-j l = (td : InTd) → td.info ≡ l.info
+    → Walked (td_walker td) (state-at l.initial.normals_left l.initial.start l.initial.edtla l.state l.initial.records) (take l.count (trbs l.places l.at)) l.initial.log l.log (state-at l.normals_left l.start l.edtla l.state l.records) l.j

@@ -1,7 +1,6 @@
 -- `place_walk::walk_places` meets its contract. The loop keeps to the TD's walk; an error ends both. Assumes nothing.
-use Prim.Native.Nat.{ℕ, ◌+◌, ◌-◌, ◌*◌, ◌≤◌}
+use Prim.Native.Nat.{ℕ, ◌+◌, ◌*◌, ◌≤◌}
 use mathlib.Core.Path.{sym, ap, ◌∙◌}
-use mathlib.Core.Bool.{false}
 use mathlib.Core.List.{List}
 use native.Mathlib.Omega.{arith}
 use lib.ListN.{length, take, drop}
@@ -16,7 +15,6 @@ use Rattle.in_td.specs.declared.TdProcessed.{TdProcessed}
 use Rattle.in_td.proofs.TdLaws.{td_walker}
 use Rattle.held_bytes.proofs.PlaceLaws.{length-places_of, place_at}
 use Rattle.place_walk.proofs.FullLaws.{walked_from}
-use borrow.Author.Rules.{rules}
 use Rattle.place_walk.proofs.walk_places.Invariants.{trbs}
 use Rattle.place_walk.proofs.walk_places.Goals.{After-process_trb-processed, At-loop-j, Start}
 use Rattle.place_walk.proofs.walk_places.Goals as goal
@@ -42,7 +40,7 @@ module _ (n : After-process_trb-processed) where
       let more = n.loop-j-test.true in
       let few' : a.count ≤ length (trbs a.places.now a.at) = omega (arith, n.requires.1.0, length-places_of In max_held (drop a.at a.places.now)) in
       let read = place_at In a.at a.places.now max_held l.j past_end (omega (arith, more, n.requires.1.0)) ∙ sym n.trb_from-t.ensures in
-      walked-turn (td_walker a.td) (trbs n.args.places.now n.args.at) a.count few' s₀ log l.log n.process_trb-processed.new.log l.processed n.process_trb-processed.result l.j past_end w l.invariant.1.0 more room
+      walked-turn (td_walker a.td) (trbs n.args.places.now n.args.at) a.count few' s₀ log l.log n.process_trb-processed.new.log l.processed n.process_trb-processed.result l.j past_end w l.invariant.1 more room
       (meets (ap (λ (t : TransferTrb). process_trb a.td l.processed t) read) n.process_trb-processed.ensures)
 
   turned : Walked (td_walker n.args.td) n.args.from (take n.args.count (trbs n.args.places.now n.args.at)) n.args.log.now n.process_trb-processed.new.log n.process_trb-processed.result (n.loop-j.j + 1)
@@ -54,7 +52,7 @@ walk_full-full-requires c = c.requires
 pub loop-j-init : goal.loop-j-init
 loop-j-init c =
     let full = c.walk_full-full.ensures in
-    ((λ s₀ l room w. w), (full.1.on, full.0))
+    ((λ s₀ l room w. w), full.1.on)
 
 pub trb_from-t-requires : goal.trb_from-t-requires
 trb_from-t-requires c = omega (arith, c.loop-j-test.true, c.requires.0)
@@ -62,7 +60,7 @@ trb_from-t-requires c = omega (arith, c.loop-j-test.true, c.requires.0)
 pub process_trb-processed-requires : goal.process_trb-processed-requires
 process_trb-processed-requires c =
     let w = walked (goal.at.process_trb-processed-requires c).At-loop-j in
-    (omega (arith, w.room, w.long, c.requires.1.1.0, c.loop-j-test.true, c.loop-j.invariant.1.1), w.good)
+    (omega (arith, w.room, w.long, c.requires.1.1.0, c.loop-j-test.true), w.good)
 
 pub shape_of-log-then-is_error : goal.shape_of-log-then-is_error
 shape_of-log-then-is_error c = (turned (goal.at.shape_of-log-then-is_error c).After-process_trb-processed).long
@@ -74,7 +72,7 @@ returns-then-is_error c =
     (sym c.is_error.ensures ∙ c.if-is_error.true)
 
 pub loop-j-preserved : goal.loop-j-preserved
-loop-j-preserved c = ((λ s₀ log room w. turn (goal.at.loop-j-preserved c).After-process_trb-processed s₀ log room (c.loop-j.invariant.0 s₀ log room w)), (sym c.is_error.ensures ∙ c.if-is_error.false, search rules))
+loop-j-preserved c = ((λ s₀ log room w. turn (goal.at.loop-j-preserved c).After-process_trb-processed s₀ log room (c.loop-j.invariant.0 s₀ log room w)), sym c.is_error.ensures ∙ c.if-is_error.false)
 
 pub shape_of-log : goal.shape_of-log
 shape_of-log c = (walked (goal.at.shape_of-log c).At-loop-j).long

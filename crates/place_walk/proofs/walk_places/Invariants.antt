@@ -1,4 +1,4 @@
-use Prim.Native.Nat.{ℕ, ◌+◌, ◌-◌, ◌*◌, ◌≤◌}
+use Prim.Native.Nat.{ℕ, ◌+◌, ◌*◌, ◌≤◌}
 use mathlib.Core.Path.{◌≡◌}
 use mathlib.Core.Bool.{false}
 use mathlib.Core.List.{List}
@@ -20,7 +20,4 @@ trbs places at = places_of In max_held (drop at places)
 abbrev pub invariant-loop-j : goal.invariant-loop-j
 invariant-loop-j l = ((s₀ : TdProcessed) (log : List ℕ) → record_length * (s₀.progress.records + 2 * l.count) ≤ length log
     → Walked (td_walker l.td) s₀ (take l.count (trbs l.places l.at)) log l.initial.log l.initial.processed l.initial.j → Walked (td_walker l.td) s₀ (take l.count (trbs l.places l.at)) log l.log l.processed l.j)
-    × ((ended l.processed ≡ false) × (l.j ≤ l.count))
-
-abbrev pub decreases-loop-j : goal.decreases-loop-j
-decreases-loop-j l = l.count - l.j
+    × (ended l.processed ≡ false)

@@ -4,10 +4,10 @@ use Rattle.raw_numbers.specs.RawNumbers.{numbered_trb}
 use Rattle.raw_numbers.proofs.EncodingLaws.{no_room, with-room}
 use Rattle.raw_numbers.proofs.encode_trb.Goals as goal
 
-pub returns-then-room-lt-RAW : goal.returns-then-room-lt-RAW
-returns-then-room-lt-RAW c =
+pub returns-then-raw-lt-RAW : goal.returns-then-raw-lt-RAW
+returns-then-raw-lt-RAW c =
     rw c.refusal_number.ensures
-    (no_room (numbered_trb c.args.kind c.args.flags c.args.value c.args.transfer_length) c.args.raw.now (omega (arith, c.if-room-lt-RAW.true)))
+    (no_room (numbered_trb c.args.kind c.args.flags c.args.value c.args.transfer_length) c.args.raw.now (omega (arith, c.if-raw-lt-RAW.true)))
 
 pub returns : goal.returns
-returns c = with-room (omega (arith, c.if-room-lt-RAW.false)) c.trb_of-t.ensures c.put_encoded.ensures
+returns c = with-room (omega (arith, c.if-raw-lt-RAW.false)) c.trb_of-t.ensures c.put_encoded.ensures

@@ -5,7 +5,7 @@ use Rattle.raw_numbers.proofs.put_encoded.Goals as goal
 pub returns-in-Accepted : goal.returns-in-Accepted
 returns-in-Accepted c =
     let e = c.encode-encoded in
-    accepted c.args.t c.args.raw.now e.result e.ensures c.in-Accepted.is c.put_raw.ensures
+    accepted c.args.t c.args.raw.now e.result e.ensures c.in-Accepted.is c.copy_into.ensures
 
 pub returns-in-Refused : goal.returns-in-Refused
 returns-in-Refused c =

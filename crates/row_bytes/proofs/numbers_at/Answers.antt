@@ -3,4 +3,4 @@ use lib.Seq.{drop-drop}
 use Rattle.row_bytes.proofs.numbers_at.Goals as goal
 
 pub returns : goal.returns
-returns c = let s = c.args in rw (c.le32-transfer_length.ensures, c.numbers_at-numbers.ensures, drop-drop 16 s.at s.row.now)
+returns c = let s = c.args in rw (c.le32.ensures, c.numbers_at.ensures, drop-drop 16 s.at s.row.now)

@@ -7,5 +7,5 @@ use Rattle.row_bytes.proofs.result_at.Goals as goal
 pub returns-then-i-results : goal.returns-then-i-results
 returns-then-i-results c = let s = c.args in c.result_from.ensures ∙ sym (result-in s.results.now s.i past_results c.if-i-results.true)
 
-pub returns : goal.returns
-returns c = let s = c.args in sym (result-behind s.results.now s.i past_results c.if-i-results.false)
+pub returns-else-i-results : goal.returns-else-i-results
+returns-else-i-results c = let s = c.args in sym (result-behind s.results.now s.i past_results c.if-i-results.false)

@@ -6,4 +6,4 @@ use Rattle.row_bytes.proofs.result_from.Goals as goal
 pub returns : goal.returns
 returns c =
     let s = c.args in
-    rw (c.le32-length.ensures, c.status_of-status.ensures) (sym (result-drop s.results.now s.at))
+    rw (c.le32.ensures, c.status_of.ensures) (sym (result-drop s.results.now s.at))

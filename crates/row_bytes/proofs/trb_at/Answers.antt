@@ -9,9 +9,9 @@ use Rattle.row_bytes.proofs.trb_at.Goals as goal
 pub overflow_mul-i : goal.overflow_mul-i
 overflow_mul-i c = omega (arith, length-trbs_in c.args.row.now, c.requires)
 
-pub numbers_at-numbers-requires : goal.numbers_at-numbers-requires
-numbers_at-numbers-requires c = omega (arith, length-trbs_in c.args.row.now, c.requires)
+pub numbers_at-requires : goal.numbers_at-requires
+numbers_at-requires c = omega (arith, length-trbs_in c.args.row.now, c.requires)
 
 pub returns : goal.returns
 unfolding given_trb
-returns c = rw (c.trb_of.ensures, c.numbers_at-numbers.ensures) (sym (trb-in c.args.row.now c.args.i past_end c.requires))
+returns c = rw (c.trb_of.ensures, c.numbers_at.ensures) (sym (trb-in c.args.row.now c.args.i past_end c.requires))

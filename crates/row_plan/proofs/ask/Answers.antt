@@ -28,8 +28,8 @@ returns-then-not-is_accepted c =
     rw (
       answered-no (completion_questions c.args.log_length (row_facts c.args.endpoint_id c.args.slot_id c.args.row_length c.args.found) c.args.res c.args.data_length) (refused_plan c.args.endpoint_id c.args.slot_id c.args.mode) (accepted_plan c.args.endpoint_id c.args.slot_id c.args.mode c.args.row_length c.args.found (status_of c.args.res) c.args.data_length) c.ask_completion-asked.result c.ask_completion-asked.ensures failed,
       refused-is c.ask_completion-asked.result failed,
-      c.td_of-td.ensures,
-      c.unprocessed-start.ensures,
+      c.td_of.ensures,
+      c.unprocessed.ensures,
     )
 
 pub overflow_cast-data_length : goal.overflow_cast-data_length
@@ -41,7 +41,7 @@ returns c =
     rw (
       answered-yes (completion_questions c.args.log_length (row_facts c.args.endpoint_id c.args.slot_id c.args.row_length c.args.found) c.args.res c.args.data_length) (refused_plan c.args.endpoint_id c.args.slot_id c.args.mode) (accepted_plan c.args.endpoint_id c.args.slot_id c.args.mode c.args.row_length c.args.found (status_of c.args.res) c.args.data_length) c.ask_completion-asked.result c.ask_completion-asked.ensures (passed (goal.at.returns c).Else-not-is_accepted),
       accepted-is c.ask_completion-asked.result (passed (goal.at.returns c).Else-not-is_accepted),
-      c.td_of-td-2.ensures,
-      c.status_of-status.ensures,
-      c.unprocessed-start-2.ensures,
+      c.td_of-2.ensures,
+      c.status_of.ensures,
+      c.unprocessed-2.ensures,
     )

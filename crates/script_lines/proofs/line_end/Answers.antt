@@ -1,34 +1,14 @@
--- `script_lines::line_end` meets its contract. The loop's invariant: the line that is left from here on ends where the whole line does.
--- The measure is what is left of the input. Assumes nothing.
-use mathlib.Core.Path.{ap}
+-- `script_lines::line_end` meets its contract: the bytes before a line feed are the first line. Assumes nothing.
 use native.Mathlib.Omega.{arith}
-use lib.ListN.{length}
-use borrow.Author.Rules.{rules}
-use Rattle.script_lines.proofs.LineLaws.{first_line-feed, first_line-next, first_line-none}
+use mathlib.Core.Path.{◌≡◌, ◌∙◌}
+use lib.ListN.{length, drop, length-drop}
+use Rattle.numerals.proofs.ListLaws.{take_rest}
+use Rattle.script_lines.specs.Lines.{first_line}
+use Rattle.script_lines.proofs.LineLaws.{length-take_while, length-first_line}
 use Rattle.script_lines.proofs.line_end.Goals as goal
-
-pub returns-then-input-at-eq10 : goal.returns-then-input-at-eq10
-returns-then-input-at-eq10 c =
-    let l = c.loop-at in
-    let a = c.args in
-    record {
-      start = l.invariant.0;
-      inside = l.invariant.1.0;
-      line = omega (arith, l.invariant.1.1, ap length (first_line-feed a.input.now l.at (search rules) c.if-input-at-eq10.true));
-    }
-
-pub loop-at-preserved : goal.loop-at-preserved
-loop-at-preserved c =
-    let l = c.loop-at in
-    let a = c.args in
-    (search rules, (search rules, omega (arith, l.invariant.1.1, ap length (first_line-next a.input.now l.at (search rules) c.if-input-at-eq10.false))))
 
 pub returns : goal.returns
 returns c =
-    let l = c.loop-at in
-    let a = c.args in
-    record {
-      start = l.invariant.0;
-      inside = l.invariant.1.0;
-      line = omega (arith, l.invariant.1.1, ap length (first_line-none a.input.now l.at (omega arith)));
-    }
+    let rest = drop c.args.from c.args.input.now in
+    let size : c.line_length.result ≡ length (first_line rest) = (rw (take_rest c.args.input.now c.args.from) at c.line_length.ensures) ∙ length-take_while rest in
+    record { start = omega arith; inside = omega (arith, size, length-first_line rest, length-drop c.args.from c.args.input.now); line = omega (arith, size) }

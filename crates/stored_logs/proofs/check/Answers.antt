@@ -6,6 +6,6 @@ pub returns-then-well_formed : goal.returns-then-well_formed
 unfolding first_no
 returns-then-well_formed c = rw (← c.well_formed-2.ensures, c.if-well_formed.true)
 
-pub returns : goal.returns
+pub returns-else-well_formed : goal.returns-else-well_formed
 unfolding first_no
-returns c = rw (← c.well_formed-2.ensures, c.if-well_formed.false) c.refusal_number.ensures
+returns-else-well_formed c = rw (← c.well_formed-2.ensures, c.if-well_formed.false) c.refusal_number.ensures

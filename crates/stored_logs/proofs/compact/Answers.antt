@@ -2,8 +2,8 @@
 use Rattle.stored_logs.proofs.StoredLaws.{compacts}
 use Rattle.stored_logs.proofs.compact.Goals as goal
 
-pub returns-in-Kept : goal.returns-in-Kept
-returns-in-Kept c = rw c.in-Kept.is at (compacts _ _ _ c.compact-answer.ensures)
+pub returns-in-Ok : goal.returns-in-Ok
+returns-in-Ok c = rw c.in-Ok.is at (compacts _ _ _ c.compact.ensures)
 
-pub returns-in-Refused : goal.returns-in-Refused
-returns-in-Refused c = rw c.refused.ensures (rw c.in-Refused.is at (compacts _ _ _ c.compact-answer.ensures))
+pub returns-in-Err : goal.returns-in-Err
+returns-in-Err c = rw c.refused.ensures (rw c.in-Err.is at (compacts _ _ _ c.compact.ensures))

@@ -1,4 +1,4 @@
-use Prim.Native.Nat.{suc, ◌-◌, ◌%◌, ◌<◌, ◌^◌}
+use Prim.Native.Nat.{◌%◌, ◌≤◌, ◌^◌}
 use mathlib.Core.Path.{◌≡◌}
 use mathlib.Core.List.{map}
 use Rattle.numerals.specs.Digits.{digit_char, digits, decimal_of}
@@ -7,7 +7,4 @@ use Rattle.numerals.proofs.WrittenLaws.{Remaining}
 use Rattle.written_numbers.proofs.put_decimal.Given as goal
 
 abbrev pub invariant-loop-place : goal.invariant-loop-place
-invariant-loop-place l = (l.place < decimal_places) × (l.rest ≡ l.n % 10 ^ suc l.place) × Remaining l.initial.text l.at (decimal_of l.n) l.text l.next (map digit_char (digits 10 (suc l.place) l.n))
-
-abbrev pub decreases-loop-place : goal.decreases-loop-place
-decreases-loop-place l = l.place
+invariant-loop-place l = (l.place ≤ decimal_places) × (l.rest ≡ l.n % 10 ^ l.place) × Remaining l.initial.text l.at (decimal_of l.n) l.text l.next (map digit_char (digits 10 l.place l.n))

@@ -1,5 +1,0 @@
--- `capture_header::same_numbers` meets its contract: field by field. Assumes nothing.
-use Rattle.capture_header.proofs.same_numbers.Goals as goal
-
-pub returns : goal.returns
-returns c = rw (c.both-4.ensures, c.both-3.ensures, c.both-2.ensures, c.both.ensures)

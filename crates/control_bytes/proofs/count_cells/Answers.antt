@@ -1,0 +1,13 @@
+-- Each field's bytes stand where `count_cells` has them.
+use mathlib.Core.Path.{◌≡◌}
+use borrow.Author.Rules.{rules}
+use Rattle.buffers.specs.LittleEndian.{le_bytes}
+use Rattle.control_bytes.proofs.count_cells.Goals as goal
+
+pub returns : goal.returns
+returns c =
+    let s = c.args in
+    let collected : c.copy_from_slice.new.self ≡ le_bytes 8 s.collected = search rules in
+    let request-length : c.copy_from_slice-2.new.self ≡ le_bytes 4 s.request_length = search rules in
+    let held : c.copy_from_slice-3.new.self ≡ le_bytes 4 s.held = search rules in
+    rw (held, request-length, collected)

@@ -1,5 +1,0 @@
--- `control_transfer::take_held` meets its contract, by whether the TRB is held. Assumes nothing.
-use Rattle.control_transfer.proofs.take_held.Goals as goal
-
-pub returns-then-is_held : goal.returns-then-is_held
-returns-then-is_held c = rw (← c.is_held.ensures, c.if-is_held.true) c.take_into.ensures

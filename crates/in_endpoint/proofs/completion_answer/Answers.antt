@@ -1,8 +1,0 @@
--- `in_endpoint::completion_answer` meets its contract, by the answer to the questions. Assumes nothing.
-use Rattle.in_endpoint.proofs.completion_answer.Goals as goal
-
-pub returns-in-Accepted : goal.returns-in-Accepted
-returns-in-Accepted c = rw c.in-Accepted.is
-
-pub returns-in-Refused : goal.returns-in-Refused
-returns-in-Refused c = rw c.in-Refused.is
