@@ -6,8 +6,6 @@ use Rattle.trb.specs.Codes.{code_number}
 use Rattle.trb.specs.declared.CompletionCode.TheVariants.{Success}
 use Rattle.trb.specs.declared.NormalTrb.{NormalTrb}
 use Rattle.trb.specs.declared.TransferTrb.{TransferTrb}
-use Rattle.trb.specs.declared.TransferTrbVariant.{TransferTrbVariant}
-use Rattle.trb.specs.declared.TransferTrbVariant.TheVariants.{SetupStage, DataStage, StatusStage, Normal, EventData, NoOp, Isoch, Unrecognized}
 use Rattle.in_td.specs.Normals.{normal_of, normal_length, requested}
 use Rattle.call_log.specs.Records.{write_kind, event_kind}
 use Rattle.call_log.specs.declared.Record.{Record}

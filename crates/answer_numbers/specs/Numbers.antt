@@ -1,12 +1,10 @@
 -- The cases of an answer as plain numbers. Assumes nothing.
-use Rattle.std.specs.Prelude.{ℕ, Bool, cond}
+use Rattle.std.specs.Prelude.{ℕ, Bool, cond, Err, Ok}
 use Rattle.trb.specs.Answers.{number_of, result_code}
 use Rattle.trb.specs.Refusals.{refusal_number}
-use Rattle.trb.specs.declared.Answer.{Answer}
-use Rattle.trb.specs.declared.CompletionAnswer.{CompletionAnswer}
-use Rattle.trb.specs.declared.CompletionAnswer.TheVariants.{Completed, Refused}
+use Rattle.trb.specs.Answers.{Answer, CompletionAnswer}
 use Rattle.trb.specs.declared.TrbProcessingResult.{TrbProcessingResult}
-use Rattle.trb.specs.declared.TrbProcessingResult.TheVariants.{Ok, Stall, StallAt, TrbError, TransactionError, TransactionErrorAt, Disconnect}
+use Rattle.trb.specs.declared.TrbProcessingResult.TheVariants as result
 use Rattle.answer_numbers.specs.declared.Answered.{Answered}
 use Rattle.answer_numbers.specs.declared.CompletionAnswered.{CompletionAnswered}
 
@@ -27,15 +25,15 @@ located r code a cycle n = record { number = 0; result = r; code = code; located
 
 -- the number of each result, and 01's completion code
 abbrev pub completed_with : TrbProcessingResult → ℕ → CompletionAnswered
-completed_with Ok n = plain 0 (result_code Ok) n
-completed_with Stall n = plain 1 (result_code Stall) n
-completed_with (StallAt a c) n = located 1 (result_code (StallAt a c)) a c n
-completed_with TransactionError n = plain 2 (result_code TransactionError) n
-completed_with (TransactionErrorAt a c) n = located 2 (result_code (TransactionErrorAt a c)) a c n
-completed_with Disconnect n = plain 3 (result_code Disconnect) n
-completed_with TrbError n = plain 4 (result_code TrbError) n
+completed_with result.Ok n = plain 0 (result_code result.Ok) n
+completed_with result.Stall n = plain 1 (result_code result.Stall) n
+completed_with (result.StallAt a c) n = located 1 (result_code (result.StallAt a c)) a c n
+completed_with result.TransactionError n = plain 2 (result_code result.TransactionError) n
+completed_with (result.TransactionErrorAt a c) n = located 2 (result_code (result.TransactionErrorAt a c)) a c n
+completed_with result.Disconnect n = plain 3 (result_code result.Disconnect) n
+completed_with result.TrbError n = plain 4 (result_code result.TrbError) n
 
 -- a refused call has no result
 abbrev pub completion_answered : CompletionAnswer → ℕ → CompletionAnswered
-completion_answered (Completed r) n = completed_with r n
-completion_answered (Refused q) n = record { number = refusal_number q; result = 0; code = 0; located = 0; cycle_bit = 0; records = n; address = 0 }
+completion_answered (Ok r) n = completed_with r n
+completion_answered (Err q) n = record { number = refusal_number q; result = 0; code = 0; located = 0; cycle_bit = 0; records = n; address = 0 }

@@ -35,8 +35,8 @@ pub fn number_of(answer: Answer) -> u8
     ensures { result ≡ number_of answer }
 {
     match answer {
-        Answer::Accepted => 0,
-        Answer::Refused(refusal) => trb::refusal_number(refusal),
+        Ok(()) => 0,
+        Err(refusal) => u8::from(refusal),
     }
 }
 
@@ -80,9 +80,9 @@ fn located(res: u8, code: u8, address: u64, cycle_bit: bool, records: usize) -> 
 fn completed_with(res: TrbProcessingResult, records: usize) -> CompletionAnswered
     ensures { result ≡ completed_with res records }
 {
-    let stall = trb::code_number(CompletionCode::StallError);
-    let failed = trb::code_number(CompletionCode::UsbTransactionError);
-    let bad_trb = trb::code_number(CompletionCode::TrbError);
+    let stall = u8::from(CompletionCode::StallError);
+    let failed = u8::from(CompletionCode::UsbTransactionError);
+    let bad_trb = u8::from(CompletionCode::TrbError);
     match res {
         TrbProcessingResult::Ok => plain(0, 0, records),
         TrbProcessingResult::Stall => plain(1, stall, records),
@@ -103,9 +103,9 @@ pub fn completed_as(answer: CompletionAnswer, records: usize) -> CompletionAnswe
     ensures { result ≡ completion_answered answer records }
 {
     match answer {
-        CompletionAnswer::Completed(result) => completed_with(result, records),
-        CompletionAnswer::Refused(refusal) => CompletionAnswered {
-            number: trb::refusal_number(refusal) as u32,
+        Ok(result) => completed_with(result, records),
+        Err(refusal) => CompletionAnswered {
+            number: u8::from(refusal) as u32,
             ..plain(0, 0, records)
         },
     }

@@ -25,18 +25,14 @@ pub extern "C" fn bench_calls_in_by_value(
     completes: bool,
     repeats: u32,
 ) -> u64 {
-    let created = in_endpoint::create(EndpointId(3), SlotId(2), InMode::AsPorted);
-    let mut block = created.block;
-    let mut sum = 0;
-    let mut k = 0;
-    while k < repeats {
-        let mut pointer = 0;
-        let mut i = 0;
-        while i < trbs {
-            let next = i + 1;
-            let ends = next == trbs;
+    let mut block = in_endpoint::create(EndpointId(3), SlotId(2), InMode::AsPorted).block;
+    let mut sum = 0u64;
+    for _ in 0..repeats {
+        let mut pointer = 0u64;
+        for i in 0..trbs {
+            let ends = i + 1 == trbs;
             let t = bench_work::normal_at(i, pointer, transfer_length, !ends);
-            pointer = std::num::wrapping_add_u64(pointer, transfer_length as u64);
+            pointer = pointer.wrapping_add(transfer_length as u64);
             let submitted = in_submission::submit_trb(
                 log,
                 block,
@@ -46,24 +42,20 @@ pub extern "C" fn bench_calls_in_by_value(
                 bench_work::HIGH_BASE,
                 window,
             );
-            let answer = submitted.answer;
-            sum = std::num::wrapping_add_u64(sum, bench_work::sum_of(answer, submitted.records));
+            sum = sum.wrapping_add(bench_work::sum_of(submitted.answer, submitted.records));
             block = submitted.block;
             if ends && !completes {
                 block = in_endpoint::cancel(block);
             } else {
                 let result = bench_work::result_at(ends, status);
                 let completed = in_completion::next_completion(log, block, result, data);
-                let completion = completed.answer;
-                sum = std::num::wrapping_add_u64(
-                    sum,
-                    bench_work::sum_of_completion(completion, completed.records),
-                );
+                sum = sum.wrapping_add(bench_work::sum_of_completion(
+                    completed.answer,
+                    completed.records,
+                ));
                 block = completed.block;
             }
-            i = next;
         }
-        k += 1;
     }
     sum
 }
@@ -84,7 +76,7 @@ fn setup_stage() -> TransferTrbVariant {
 fn data_stage(transfer_length: u32) -> TransferTrbVariant {
     TransferTrbVariant::DataStage(DataStageTrb {
         data_pointer: 0,
-        transfer_length: transfer_length,
+        transfer_length,
         chain: false,
         interrupt_on_completion: false,
         interrupt_on_short: true,
@@ -103,25 +95,15 @@ fn status_stage() -> TransferTrbVariant {
 
 // Number `i` of a control transfer: Setup 80 06, Data IN, Status.
 fn stage_at(i: u32, transfer_length: u32) -> TransferTrb {
-    let variant = if i == 0 {
-        setup_stage()
-    } else if i == 1 {
-        data_stage(transfer_length)
-    } else {
-        status_stage()
+    let variant = match i {
+        0 => setup_stage(),
+        1 => data_stage(transfer_length),
+        _ => status_stage(),
     };
     TransferTrb {
-        variant: variant,
+        variant,
         addr: bench_work::FIRST_TRB + bench_work::TRB_BYTES * (i as u64),
         cycle_bit: true,
-    }
-}
-
-fn control_result_at(ends: bool) -> ControlRequestProcessingResult {
-    if ends {
-        ControlRequestProcessingResult::SuccessfulControlIn
-    } else {
-        ControlRequestProcessingResult::NoneGiven
     }
 }
 
@@ -135,13 +117,14 @@ pub extern "C" fn bench_calls_control(
     transfer_length: u32,
     repeats: u32,
 ) -> u64 {
-    let created = control_endpoint::create(EndpointId(1), SlotId(2), GuestRelease::Release4);
-    let mut block = created.block;
-    let mut sum = 0;
-    let mut k = 0;
-    while k < repeats {
-        let mut i = 0;
-        while i < 3 {
+    let mut block = control_endpoint::create(
+        EndpointId(1),
+        SlotId(2),
+        GuestRelease::Release4,
+    ).block;
+    let mut sum = 0u64;
+    for _ in 0..repeats {
+        for i in 0..3 {
             let t = stage_at(i, transfer_length);
             let submitted = control_submission::submit_trb(
                 log,
@@ -153,20 +136,16 @@ pub extern "C" fn bench_calls_control(
                 bench_work::HIGH_BASE,
                 window,
             );
-            let answer = submitted.answer;
-            sum = std::num::wrapping_add_u64(sum, bench_work::sum_of(answer, submitted.records));
-            block = submitted.block;
-            let result = control_result_at(i == 2);
-            let completed = control_completion::next_completion(log, block, result, data);
-            let completion = completed.answer;
-            sum = std::num::wrapping_add_u64(
-                sum,
-                bench_work::sum_of_completion(completion, completed.records),
-            );
+            sum = sum.wrapping_add(bench_work::sum_of(submitted.answer, submitted.records));
+            let ends = i == 2;
+            let result = ends.then_some(ControlRequestProcessingResult::SuccessfulControlIn);
+            let completed = control_completion::next_completion(log, submitted.block, result, data);
+            sum = sum.wrapping_add(bench_work::sum_of_completion(
+                completed.answer,
+                completed.records,
+            ));
             block = completed.block;
-            i += 1;
         }
-        k += 1;
     }
     sum
 }

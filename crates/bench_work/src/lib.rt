@@ -3,8 +3,8 @@
 #![tactic(auto)]
 
 use trb::{
-    Answer, CompletionAnswer, InTrbProcessingResult, InTrbProcessingStatus, NormalTrb, TransferTrb,
-    TransferTrbVariant, TrbProcessingResult,
+    Answer, CompletionAnswer, InTrbProcessingStatus, NormalTrb, TransferTrb, TransferTrbVariant,
+    TrbProcessingResult,
 };
 
 const FAILED: u64 = 1048576;
@@ -24,31 +24,17 @@ pub const HIGH_BASE: u64 = 0x100000000;
 // What a call adds to the checksum by which the sides are held to each other.
 pub fn sum_of(answer: Answer, records: usize) -> u64 {
     match answer {
-        Answer::Accepted => records as u64,
-        Answer::Refused(_) => REFUSED,
-    }
-}
-
-fn sum_of_result(res: TrbProcessingResult) -> u64 {
-    match res {
-        TrbProcessingResult::Ok => 0,
-        TrbProcessingResult::Stall => FAILED,
-        TrbProcessingResult::StallAt(_, _) => FAILED,
-        TrbProcessingResult::TrbError => FAILED,
-        TrbProcessingResult::TransactionError => FAILED,
-        TrbProcessingResult::TransactionErrorAt(_, _) => FAILED,
-        TrbProcessingResult::Disconnect => FAILED,
+        Ok(()) => records as u64,
+        Err(_) => REFUSED,
     }
 }
 
 // The same of a completion, its result among it.
 pub fn sum_of_completion(answer: CompletionAnswer, records: usize) -> u64 {
     match answer {
-        CompletionAnswer::Completed(result) => std::num::wrapping_add_u64(
-            sum_of_result(result),
-            records as u64,
-        ),
-        CompletionAnswer::Refused(_) => REFUSED,
+        Ok(TrbProcessingResult::Ok) => records as u64,
+        Ok(_) => FAILED.wrapping_add(records as u64),
+        Err(_) => REFUSED,
     }
 }
 
@@ -56,16 +42,12 @@ pub fn sum_of_completion(answer: CompletionAnswer, records: usize) -> u64 {
 
 // The device result of this number.
 fn status_of(number: u8) -> InTrbProcessingStatus {
-    if number == 0 {
-        return InTrbProcessingStatus::Success;
+    match number {
+        0 => InTrbProcessingStatus::Success,
+        1 => InTrbProcessingStatus::Stall,
+        2 => InTrbProcessingStatus::TransactionError,
+        _ => InTrbProcessingStatus::Disconnect,
     }
-    if number == 1 {
-        return InTrbProcessingStatus::Stall;
-    }
-    if number == 2 {
-        return InTrbProcessingStatus::TransactionError;
-    }
-    InTrbProcessingStatus::Disconnect
 }
 
 // Number `i` of a TD of Normals: interrupt-on-short on all of them, on the last interrupt-on-completion in the place of the
@@ -73,10 +55,10 @@ fn status_of(number: u8) -> InTrbProcessingStatus {
 pub fn normal_at(i: u32, data_pointer: u64, transfer_length: u32, chain: bool) -> TransferTrb {
     TransferTrb {
         variant: TransferTrbVariant::Normal(NormalTrb {
-            data_pointer: data_pointer,
-            transfer_length: transfer_length,
+            data_pointer,
+            transfer_length,
             interrupt_on_short: true,
-            chain: chain,
+            chain,
             interrupt_on_completion: !chain,
             immediate_data: false,
         }),
@@ -86,10 +68,6 @@ pub fn normal_at(i: u32, data_pointer: u64, transfer_length: u32, chain: bool) -
 }
 
 // What the device gives, if this TRB has ended the TD.
-pub fn result_at(ends: bool, status: u8) -> InTrbProcessingResult {
-    if ends {
-        InTrbProcessingResult::Given(status_of(status))
-    } else {
-        InTrbProcessingResult::NoneGiven
-    }
+pub fn result_at(ends: bool, status: u8) -> Option<InTrbProcessingStatus> {
+    ends.then_some(status_of(status))
 }

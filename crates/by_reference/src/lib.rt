@@ -15,20 +15,13 @@ ghost use Rattle.by_reference.specs.Outcomes.{in_submitted, in_completed, contro
 use control_block::ControlBlock;
 use in_block::InBlock;
 use trb::{
-    Answer, CompletionAnswer, ControlRequestProcessingResult, InTrbProcessingResult, TransferTrb,
+    Answer, CompletionAnswer, ControlRequestProcessingResult, InTrbProcessingStatus, Logged,
+    TransferTrb,
 };
 
-#[derive(Clone, Copy)]
-pub struct SubmissionOutcome {
-    pub answer: Answer,
-    pub records: usize,
-}
+pub type SubmissionOutcome = Logged<Answer>;
 
-#[derive(Clone, Copy)]
-pub struct CompletionOutcome {
-    pub answer: CompletionAnswer,
-    pub records: usize,
-}
+pub type CompletionOutcome = Logged<CompletionAnswer>;
 
 // ---- IN endpoint
 
@@ -46,7 +39,7 @@ pub fn in_submit_trb(
 {
     let r = in_submission::submit_trb(log, *block, t, low_base, low, high_base, high);
     *block = r.block;
-    SubmissionOutcome {
+    Logged {
         answer: r.answer,
         records: r.records,
     }
@@ -56,14 +49,14 @@ pub fn in_submit_trb(
 pub fn in_next_completion(
     log: &mut [u8],
     block: &mut InBlock,
-    res: InTrbProcessingResult,
+    res: Option<InTrbProcessingStatus>,
     data: &[u8],
 ) -> CompletionOutcome
     ensures { CompletesIn block.old res (length «data».now) log.old (in_completed result block.new) log.new }
 {
     let r = in_completion::next_completion(log, *block, res, data);
     *block = r.block;
-    CompletionOutcome {
+    Logged {
         answer: r.answer,
         records: r.records,
     }
@@ -93,7 +86,7 @@ pub fn control_submit_trb<'a>(
 {
     let r = control_submission::submit_trb(log, collect, *block, t, low_base, low, high_base, high);
     *block = r.block;
-    SubmissionOutcome {
+    Logged {
         answer: r.answer,
         records: r.records,
     }
@@ -103,14 +96,14 @@ pub fn control_submit_trb<'a>(
 pub fn control_next_completion(
     log: &mut [u8],
     block: &mut ControlBlock,
-    res: ControlRequestProcessingResult,
+    res: Option<ControlRequestProcessingResult>,
     data: &[u8],
 ) -> CompletionOutcome
     ensures { CompletesControl block.old res (length «data».now) log.old (control_completed result block.new) log.new }
 {
     let r = control_completion::next_completion(log, *block, res, data);
     *block = r.block;
-    CompletionOutcome {
+    Logged {
         answer: r.answer,
         records: r.records,
     }

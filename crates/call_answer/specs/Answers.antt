@@ -1,12 +1,9 @@
 -- The answer of a call: its text, and for a completion guest memory afterwards. Assumes nothing.
-use Rattle.std.specs.Prelude.{ℕ, ◌+◌, ◌*◌, ◌≡◌, List, ◌++◌, length, take}
+use Rattle.std.specs.Prelude.{ℕ, ◌+◌, ◌*◌, ◌≡◌, List, ◌++◌, length, take, Err, Ok}
 use Rattle.trb.specs.Answers.{number_of}
 use Rattle.trb.specs.Limits.{record_length}
 use Rattle.trb.specs.Refusals.{refusal_number}
-use Rattle.trb.specs.declared.Answer.{Answer}
-use Rattle.trb.specs.declared.Answer.TheVariants.{Accepted, Refused as RefusedCall}
-use Rattle.trb.specs.declared.CompletionAnswer.{CompletionAnswer}
-use Rattle.trb.specs.declared.CompletionAnswer.TheVariants.{Completed, Refused}
+use Rattle.trb.specs.Answers.{Answer, CompletionAnswer}
 use Rattle.numerals.specs.Written.{Written}
 use Rattle.guest_memory.specs.Places.{Memory, regions_of}
 use Rattle.carry_out.specs.CarryOut.{answer_of, memory_after}
@@ -15,8 +12,8 @@ use Rattle.call_text.specs.Lines.{refused_line, accepted_line, completed_line, r
 
 -- creation, submission or cancel, with n records in the log
 unfoldable pub answer_text : Answer → ℕ → List ℕ → List ℕ
-answer_text Accepted n log = accepted_line (count_of n) ++ record_lines n log
-answer_text (RefusedCall q) n log = refused_line (refusal_number q)
+answer_text (Ok tt) n log = accepted_line (count_of n) ++ record_lines n log
+answer_text (Err q) n log = refused_line (refusal_number q)
 
 -- what carry-out answers of the first n records of the log
 abbrev pub carried_out : ℕ → List ℕ → List ℕ → Memory → Answer
@@ -24,18 +21,18 @@ carried_out n log bytes m = answer_of (take (record_length * n) log) (length byt
 
 -- a completion, with n records in the log and carry-out's answer
 unfoldable pub completion_text : CompletionAnswer → ℕ → List ℕ → Answer → List ℕ
-completion_text (Completed r) n log carried = completed_line (count_of n) r ++ record_lines n log ++ carried_out_line (number_of carried)
-completion_text (Refused q) n log carried = refused_line (refusal_number q)
+completion_text (Ok r) n log carried = completed_line (count_of n) r ++ record_lines n log ++ carried_out_line (number_of carried)
+completion_text (Err q) n log carried = refused_line (refusal_number q)
 
 -- a row, of which so many TDs were finished well
 unfoldable pub row_text : CompletionAnswer → ℕ → ℕ → List ℕ → Answer → List ℕ
-row_text (Completed r) finished n log carried = row_line (count_of n) r (count_of finished) ++ record_lines n log ++ carried_out_line (number_of carried)
-row_text (Refused q) finished n log carried = refused_line (refusal_number q)
+row_text (Ok r) finished n log carried = row_line (count_of n) r (count_of finished) ++ record_lines n log ++ carried_out_line (number_of carried)
+row_text (Err q) finished n log carried = refused_line (refusal_number q)
 
 -- guest memory afterwards: a completion or a row that is accepted is carried out
 unfoldable pub completion_memory : CompletionAnswer → ℕ → List ℕ → List ℕ → Memory → Memory
-completion_memory (Completed r) n log bytes m = memory_after (carried_out n log bytes m) (take (record_length * n) log) bytes m
-completion_memory (Refused q) n log bytes m = m
+completion_memory (Ok r) n log bytes m = memory_after (carried_out n log bytes m) (take (record_length * n) log) bytes m
+completion_memory (Err q) n log bytes m = m
 
 -- of carrying out the first n records, with carry-out's line written into the text t at index at
 pub record CarriedOut (n : ℕ) (log bytes : List ℕ) (m : Memory) (t : List ℕ) (at r : ℕ) (t' : List ℕ) (m' : Memory) : Type 0 where

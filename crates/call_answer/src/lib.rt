@@ -9,6 +9,7 @@ ghost use Rattle.numerals.specs.Written.{Written};
 ghost use Rattle.call_text.specs.Widths.{max_first, max_record_lines, max_carried_out};
 ghost use Rattle.call_text.specs.Lines.{record_lines};
 ghost use Rattle.call_answer.specs.Answers.{answer_text, Answered, RowAnswered, CarriedOut};
+ghost use Rattle.call_answer.specs.Called.{bad_said, silent_said, silent_ran};
 
 use trb::{Answer, CompletionAnswer};
 
@@ -29,11 +30,11 @@ pub fn put_answer(text: &mut [u8], at: usize, answer: Answer, records: usize, lo
     ensures { Written (max_first + max_record_lines) text.old at (answer_text answer records log.now) result text.new }
 {
     match answer {
-        Answer::Accepted => {
+        Ok(()) => {
             let next = call_text::put_accepted(text, at, call_text::count(records));
             put_first_records(text, next, records, log)
         }
-        Answer::Refused(refusal) => call_text::put_refused(text, at, trb::refusal_number(refusal)),
+        Err(refusal) => call_text::put_refused(text, at, u8::from(refusal)),
     }
 }
 
@@ -42,8 +43,8 @@ fn answer_number(answer: Answer) -> u8
     ensures { result ≡ number_of answer }
 {
     match answer {
-        Answer::Accepted => 0,
-        Answer::Refused(refusal) => trb::refusal_number(refusal),
+        Ok(()) => 0,
+        Err(refusal) => u8::from(refusal),
     }
 }
 
@@ -85,18 +86,14 @@ pub fn put_completion(
     ensures { Answered answer records log.now «data».now (memory_of low_base low.old high_base high.old) text.old at result text.new (memory_of low_base low.new high_base high.new) }
 {
     match answer {
-        CompletionAnswer::Completed(result) => {
+        Ok(result) => {
             let next = call_text::put_completed(text, at, call_text::count(records), result);
             let end = put_first_records(text, next, records, log);
             put_carry_out(
                 text, end, records, log, data, low_base, low, high_base, high,
             )
         }
-        CompletionAnswer::Refused(refusal) => call_text::put_refused(
-            text,
-            at,
-            trb::refusal_number(refusal),
-        ),
+        Err(refusal) => call_text::put_refused(text, at, u8::from(refusal)),
     }
 }
 
@@ -119,7 +116,7 @@ pub fn put_row(
     ensures { RowAnswered answer finished records log.now «data».now (memory_of low_base low.old high_base high.old) text.old at result text.new (memory_of low_base low.new high_base high.new) }
 {
     match answer {
-        CompletionAnswer::Completed(result) => {
+        Ok(result) => {
             let next = call_text::put_row_completed(
                 text,
                 at,
@@ -132,10 +129,41 @@ pub fn put_row(
                 text, end, records, log, data, low_base, low, high_base, high,
             )
         }
-        CompletionAnswer::Refused(refusal) => call_text::put_refused(
-            text,
-            at,
-            trb::refusal_number(refusal),
-        ),
+        Err(refusal) => call_text::put_refused(text, at, u8::from(refusal)),
+    }
+}
+
+// ---- What a call leaves
+
+// What a call on an endpoint leaves: the block, the index behind the answer, how many records it logged, and whether the line was good.
+#[derive(Clone, Copy)]
+pub struct EndpointRan<B> {
+    pub block: B,
+    pub end: usize,
+    pub records: usize,
+    pub good: bool,
+}
+
+// A bad line: nothing is done and nothing printed.
+pub fn bad<B>(block: B, at: usize) -> EndpointRan<B>
+    ensures { result ≡ silent_ran (bad_said block) at }
+{
+    EndpointRan {
+        block,
+        end: at,
+        records: 0,
+        good: false,
+    }
+}
+
+// A call that prints nothing.
+pub fn silent<B>(block: B, at: usize) -> EndpointRan<B>
+    ensures { result ≡ silent_ran (silent_said block) at }
+{
+    EndpointRan {
+        block,
+        end: at,
+        records: 0,
+        good: true,
     }
 }

@@ -1,11 +1,12 @@
 -- The address in the first place of a block, which is its first TRB's where it holds one. Assumes nothing.
+use Rattle.std.specs.Prelude.{Option}
 use Prim.Native.Nat.{ℕ, zero, suc, ◌<◌}
 use mathlib.Core.Bool.{true}
 use mathlib.Core.Path.{◌≡◌, refl}
 use mathlib.Core.List.{List, [], ◌∷◌}
 use native.Mathlib.Omega.{arith}
 use lib.ListN.{length, take, get_or}
-use Rattle.trb.specs.declared.InTrbProcessingResult.{InTrbProcessingResult}
+use Rattle.trb.specs.declared.InTrbProcessingStatus.{InTrbProcessingStatus}
 use Rattle.trb.specs.declared.TransferTrb.{TransferTrb}
 use Rattle.in_block.specs.Facts.{submission_due}
 use Rattle.in_block.specs.declared.InBlock.{InBlock}
@@ -24,6 +25,6 @@ first_address-take (suc n) [] h = refl
 first_address-take (suc n) (t ∷ ts) h = refl
 
 -- an accepted completion of a block that holds a TRB gives what capture_calls says of the TRBs held
-pub in_completion_captures-held : (s : Setting) (b after : InBlock) (r : InTrbProcessingResult) (bytes : List ℕ) → submission_due after.state ≡ true → 0 < b.held
+pub in_completion_captures-held : (s : Setting) (b after : InBlock) (r : Option InTrbProcessingStatus) (bytes : List ℕ) → submission_due after.state ≡ true → 0 < b.held
     → in_completion_captures s b after r bytes ≡ in_completion_capture (captured_of s) (pipe_of s b.endpoint_id) b r bytes
 in_completion_captures-held s b after r bytes due holds = rw (due, first_address-take b.held b.trbs holds) refl

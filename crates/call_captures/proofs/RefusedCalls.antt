@@ -1,4 +1,5 @@
 -- A call that leaves the blocks as they were and logs nothing gives no record: so does every refused one. Assumes nothing.
+use Rattle.std.specs.Prelude.{None, Option, Some}
 use Prim.Native.Nat.{ℕ}
 use mathlib.Core.Bool.{Bool, true, false, cond}
 use mathlib.Core.Path.{◌≡◌, refl}
@@ -6,10 +7,9 @@ use mathlib.Core.List.{List, [], ◌∷◌}
 use native.Mathlib.Numerals.{unary_clauses}
 use lib.ListN.{take, drop}
 use Rattle.trb.specs.declared.ControlRequestProcessingResult.{ControlRequestProcessingResult}
-use Rattle.trb.specs.declared.ControlRequestProcessingResult.TheVariants as device
 use Rattle.trb.specs.declared.ControlSubmissionState.{ControlSubmissionState}
 use Rattle.trb.specs.declared.ControlSubmissionState.TheVariants as control
-use Rattle.trb.specs.declared.InTrbProcessingResult.{InTrbProcessingResult}
+use Rattle.trb.specs.declared.InTrbProcessingStatus.{InTrbProcessingStatus}
 use Rattle.trb.specs.declared.TdBasedNormalSubmissionState.{TdBasedNormalSubmissionState}
 use Rattle.trb.specs.declared.TdBasedNormalSubmissionState.TheVariants.{SubmissionDue, CollectingTd, AwaitingRealTransfer, AwaitingLocalCompletion, UnsupportedTrb}
 use Rattle.trb.specs.declared.UsbRequest.{UsbRequest}
@@ -21,8 +21,8 @@ use Rattle.call_script.specs.declared.Call.TheVariants.{Window, Buffers, CreateI
 use Rattle.call_script.specs.declared.DeviceStatus.{DeviceStatus}
 use Rattle.in_calls.specs.Calls as input-calls
 use Rattle.control_calls.specs.Calls as control-calls
-use Rattle.session.specs.declared.Endpoint.{Endpoint}
-use Rattle.session.specs.declared.Endpoint.TheVariants.{Nothing, In, Control}
+use Rattle.held.specs.declared.EndpointKind.{EndpointKind}
+use Rattle.held.specs.declared.EndpointKind.TheVariants.{In, Control}
 use Rattle.session.specs.declared.Session.{Session}
 use Rattle.capture_record.specs.declared.InPipe.{InPipe}
 use Rattle.capture_calls.specs.Events.{in_completion_event, control_completion_event}
@@ -33,7 +33,7 @@ use Rattle.call_captures.specs.CallCaptures.{submission_captures, result_capture
 
 -- a completion that leaves its state: where a submission was due there was nothing to complete
 module _ (c : Caller) (bytes : List ℕ) where
-  in_kept : (p : InPipe) (first : ℕ) (r : InTrbProcessingResult) (state : TdBasedNormalSubmissionState)
+  in_kept : (p : InPipe) (first : ℕ) (r : Option InTrbProcessingStatus) (state : TdBasedNormalSubmissionState)
       → cond (input-facts.submission_due state) (writer_call c (in_completion_event p state first r) bytes) [] ≡ []
   in_kept p first r SubmissionDue = refl
   in_kept p first r CollectingTd = refl
@@ -41,7 +41,7 @@ module _ (c : Caller) (bytes : List ℕ) where
   in_kept p first r AwaitingLocalCompletion = refl
   in_kept p first r (UnsupportedTrb a) = refl
 
-  control-kept : (direction : Bool) (q : UsbRequest) (n : ℕ) (r : ControlRequestProcessingResult) (state : ControlSubmissionState)
+  control-kept : (direction : Bool) (q : UsbRequest) (n : ℕ) (r : Option ControlRequestProcessingResult) (state : ControlSubmissionState)
       → cond (control-facts.submission_due state) (writer_call c (control_completion_event state direction q n r) bytes) [] ≡ []
   control-kept direction q n r control.NoTrbSubmitted = refl
   control-kept direction q n r control.CollectingTd = refl
@@ -60,20 +60,20 @@ row-none c p (td ∷ tds) bytes = by (has_normal td.trbs) refl (row-none c p tds
     by false e rest = rw e rest
 
 module _ (s : Setting) (before after : Session) (in-same : after.in_block ≡ before.in_block) (control-same : after.control_block ≡ before.control_block) where
-  submission-kept : (e : Endpoint) (log collect : List ℕ) → submission_captures e s before after log 0 collect ≡ []
-  submission-kept Nothing log collect = refl
-  submission-kept In log collect = simp unary_clauses refl
-  submission-kept Control log collect = simp unary_clauses refl
+  submission-kept : (e : Option EndpointKind) (log collect : List ℕ) → submission_captures e s before after log 0 collect ≡ []
+  submission-kept None log collect = refl
+  submission-kept (Some In) log collect = simp unary_clauses refl
+  submission-kept (Some Control) log collect = simp unary_clauses refl
 
-  result-kept : (e : Endpoint) (status : DeviceStatus) (bytes : List ℕ) → result_captures e s before after status bytes ≡ []
-  result-kept Nothing status bytes = refl
-  result-kept In status bytes = rw in-same (in_kept _ bytes _ _ (input-calls.result_of status) before.in_block.state)
-  result-kept Control status bytes = rw control-same (control-kept _ bytes _ _ _ (control-calls.result_of status) before.control_block.state)
+  result-kept : (e : Option EndpointKind) (status : DeviceStatus) (bytes : List ℕ) → result_captures e s before after status bytes ≡ []
+  result-kept None status bytes = refl
+  result-kept (Some In) status bytes = rw in-same (in_kept _ bytes _ _ (input-calls.result_of status) before.in_block.state)
+  result-kept (Some Control) status bytes = rw control-same (control-kept _ bytes _ _ _ (control-calls.result_of status) before.control_block.state)
 
-  no-result-kept : (e : Endpoint) → no_result_captures e s before after ≡ []
-  no-result-kept Nothing = refl
-  no-result-kept In = refl
-  no-result-kept Control = rw control-same (control-kept _ [] _ _ _ device.NoneGiven before.control_block.state)
+  no-result-kept : (e : Option EndpointKind) → no_result_captures e s before after ≡ []
+  no-result-kept None = refl
+  no-result-kept (Some In) = refl
+  no-result-kept (Some Control) = rw control-same (control-kept _ [] _ _ _ None before.control_block.state)
 
   pub call_captures-kept : (c : Call) (log collect bytes : List ℕ) → call_captures s before after c log 0 collect bytes ≡ []
   unfolding call_captures requests_in

@@ -1,8 +1,7 @@
 -- 02, R-2: what a call of a script gives to a capture, from the sessions before and behind it. Assumes nothing.
-use Rattle.std.specs.Prelude.{ℕ, cond, List, [], take}
+use Rattle.std.specs.Prelude.{ℕ, cond, List, [], take, None, Option, Some}
 use Rattle.trb.specs.declared.ControlRequestProcessingResult.{ControlRequestProcessingResult}
-use Rattle.trb.specs.declared.ControlRequestProcessingResult.TheVariants as device
-use Rattle.trb.specs.declared.InTrbProcessingResult.{InTrbProcessingResult}
+use Rattle.trb.specs.declared.InTrbProcessingStatus.{InTrbProcessingStatus}
 use Rattle.in_block.specs.declared.InBlock.{InBlock}
 use Rattle.in_block.specs.Facts as input
 use Rattle.control_block.specs.declared.ControlBlock.{ControlBlock}
@@ -14,8 +13,8 @@ use Rattle.call_script.specs.declared.Call.TheVariants.{Window, Buffers, CreateI
 use Rattle.call_script.specs.declared.DeviceStatus.{DeviceStatus}
 use Rattle.in_calls.specs.Calls as input-calls
 use Rattle.control_calls.specs.Calls as control-calls
-use Rattle.session.specs.declared.Endpoint.{Endpoint}
-use Rattle.session.specs.declared.Endpoint.TheVariants.{Nothing, In, Control}
+use Rattle.held.specs.declared.EndpointKind.{EndpointKind}
+use Rattle.held.specs.declared.EndpointKind.TheVariants.{In, Control}
 use Rattle.session.specs.declared.Session.{Session}
 use Rattle.capture_record.specs.Calls.{CaptureCall}
 use Rattle.capture_calls.specs.Events.{in_completion_event, control_completion_event, control_request_event}
@@ -27,42 +26,42 @@ use Rattle.captured_calls.specs.Rows.{row_captures, requests_in}
 -- ---- A submission
 
 -- the requests among the records that it logged; on control with the bytes that the block behind it has collected
-abbrev pub submission_captures : Endpoint → Setting → Session → Session → List ℕ → ℕ → List ℕ → List CaptureCall
-submission_captures Nothing s before after log records collect = []
-submission_captures In s before after log records collect =
+abbrev pub submission_captures : Option EndpointKind → Setting → Session → Session → List ℕ → ℕ → List ℕ → List CaptureCall
+submission_captures None s before after log records collect = []
+submission_captures (Some In) s before after log records collect =
     in_submission_capture (captured_of s) (pipe_of s before.in_block.endpoint_id) (logged_records records log)
-submission_captures Control s before after log records collect =
+submission_captures (Some Control) s before after log records collect =
     request_captures (captured_of s) control_request_event (take after.control_block.collected collect) (logged_records records log)
 
 -- ---- A completion
 
 -- of the IN block before the call: the address of its first TRB, and all of the device's data. Behind an accepted one a submission is due; a
 -- refused one leaves its block as it was, and gives nothing
-abbrev pub in_completion_captures : Setting → InBlock → InBlock → InTrbProcessingResult → List ℕ → List CaptureCall
+abbrev pub in_completion_captures : Setting → InBlock → InBlock → Option InTrbProcessingStatus → List ℕ → List CaptureCall
 in_completion_captures s b after r bytes =
     cond (input.submission_due after.state)
     (writer_call (captured_of s) (in_completion_event (pipe_of s b.endpoint_id) b.state (first_address b.trbs) r) bytes) []
 
 -- of the control block before the call, likewise
-abbrev pub control_completion_captures : Setting → ControlBlock → ControlBlock → ControlRequestProcessingResult → List ℕ → List CaptureCall
+abbrev pub control_completion_captures : Setting → ControlBlock → ControlBlock → Option ControlRequestProcessingResult → List ℕ → List CaptureCall
 control_completion_captures s b after r bytes =
     cond (control.submission_due after.state)
     (writer_call (captured_of s) (control_completion_event b.state b.direction b.request (count_of b.collected) r) bytes) []
 
 -- with a device result
-abbrev pub result_captures : Endpoint → Setting → Session → Session → DeviceStatus → List ℕ → List CaptureCall
-result_captures Nothing s before after status bytes = []
-result_captures In s before after status bytes =
+abbrev pub result_captures : Option EndpointKind → Setting → Session → Session → DeviceStatus → List ℕ → List CaptureCall
+result_captures None s before after status bytes = []
+result_captures (Some In) s before after status bytes =
     in_completion_captures s before.in_block after.in_block (input-calls.result_of status) bytes
-result_captures Control s before after status bytes =
+result_captures (Some Control) s before after status bytes =
     control_completion_captures s before.control_block after.control_block (control-calls.result_of status) bytes
 
 -- without one: a TRB error on control; 000 writes none on IN
-abbrev pub no_result_captures : Endpoint → Setting → Session → Session → List CaptureCall
-no_result_captures Nothing s before after = []
-no_result_captures In s before after = []
-no_result_captures Control s before after =
-    control_completion_captures s before.control_block after.control_block device.NoneGiven []
+abbrev pub no_result_captures : Option EndpointKind → Setting → Session → Session → List CaptureCall
+no_result_captures None s before after = []
+no_result_captures (Some In) s before after = []
+no_result_captures (Some Control) s before after =
+    control_completion_captures s before.control_block after.control_block None []
 
 -- ---- A row
 

@@ -13,9 +13,10 @@ ghost use Rattle.call_captures.specs.CallCaptures.{submission_captures, result_c
 use call_script::{Call, DeviceStatus, InTransferType};
 use capture_record::UsbDevice;
 use captured_calls::Setting;
-use session::{Endpoint, Session};
+use held::EndpointKind;
+use session::Session;
 use trb::{
-    ControlRequestProcessingResult, ControlSubmissionState, EndpointId, InTrbProcessingResult,
+    ControlRequestProcessingResult, ControlSubmissionState, EndpointId, InTrbProcessingStatus,
     TdBasedNormalSubmissionState, TransferTrb, UsbRequest,
 };
 
@@ -78,9 +79,11 @@ fn put_submission(
 ) -> usize
     ensures { Lays (submission_captures after.endpoint setting before after log.now records collect.now) output.old 0 result output.new }
 {
-    match after.endpoint {
-        Endpoint::Nothing => 0,
-        Endpoint::In => captured_calls::put_in_submission(
+    let Some(endpoint) = after.endpoint else {
+        return 0;
+    };
+    match endpoint {
+        EndpointKind::In => captured_calls::put_in_submission(
             output,
             0,
             setting,
@@ -88,7 +91,7 @@ fn put_submission(
             log,
             records,
         ),
-        Endpoint::Control => {
+        EndpointKind::Control => {
             let collected = after.control_block.collected.min(collect.len());
             captured_calls::put_control_submission(
                 output,
@@ -117,7 +120,7 @@ fn put_in_completion(
     state: TdBasedNormalSubmissionState,
     first: u64,
     due: bool,
-    res: InTrbProcessingResult,
+    res: Option<InTrbProcessingStatus>,
     data: &[u8],
 ) -> usize
     ensures { Lays (cond due (writer_call (captured_of setting) (in_completion_event (pipe_of setting endpoint_id) state first res) «data».now) []) output.old 0 result output.new }
@@ -137,7 +140,7 @@ fn put_control_completion(
     request: UsbRequest,
     collected: usize,
     due: bool,
-    res: ControlRequestProcessingResult,
+    res: Option<ControlRequestProcessingResult>,
     data: &[u8],
 ) -> usize
     ensures { Lays (cond due (writer_call (captured_of setting) (control_completion_event state direction request (count_of collected) res) «data».now) []) output.old 0 result output.new }
@@ -162,9 +165,11 @@ fn put_result(
 ) -> usize
     ensures { Lays (result_captures after.endpoint setting before after status «data».now) output.old 0 result output.new }
 {
-    match after.endpoint {
-        Endpoint::Nothing => 0,
-        Endpoint::In => put_in_completion(
+    let Some(endpoint) = after.endpoint else {
+        return 0;
+    };
+    match endpoint {
+        EndpointKind::In => put_in_completion(
             output,
             setting,
             before.in_block.endpoint_id,
@@ -174,7 +179,7 @@ fn put_result(
             in_calls::result_of(status),
             data,
         ),
-        Endpoint::Control => {
+        EndpointKind::Control => {
             let block = before.control_block;
             put_control_completion(
                 output,
@@ -195,9 +200,12 @@ fn put_result(
 fn put_no_result(output: &mut [u8], setting: Setting, before: Session, after: Session) -> usize
     ensures { Lays (no_result_captures after.endpoint setting before after) output.old 0 result output.new }
 {
-    match after.endpoint {
-        Endpoint::Nothing | Endpoint::In => 0,
-        Endpoint::Control => {
+    let Some(endpoint) = after.endpoint else {
+        return 0;
+    };
+    match endpoint {
+        EndpointKind::In => 0,
+        EndpointKind::Control => {
             let block = before.control_block;
             put_control_completion(
                 output,
@@ -207,7 +215,7 @@ fn put_no_result(output: &mut [u8], setting: Setting, before: Session, after: Se
                 block.request,
                 block.collected,
                 control_block::submission_due(after.control_block.state),
-                ControlRequestProcessingResult::NoneGiven,
+                None,
                 &[],
             )
         }

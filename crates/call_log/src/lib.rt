@@ -64,7 +64,7 @@ pub fn transfer_event(
     ensures { result ≡ transfer_event trb_pointer trb_transfer_length completion_code event_data endpoint_id slot_id }
 {
     Record {
-        code: trb::code_number(completion_code),
+        code: u8::from(completion_code),
         flag: event_data as u8,
         address: trb_pointer,
         length: trb_transfer_length,

@@ -1,7 +1,7 @@
 -- Turns of a run, one behind the other. Assumes nothing.
 use Prim.Native.Nat.{ℕ, ◌+◌, ◌-◌, ◌≤◌, ◌<◌}
 use mathlib.Core.Path.{◌≡◌, refl, sym, ap, ◌∙◌, subst}
-use mathlib.Core.Bool.{Bool, true, false, cond, true≢false}
+use mathlib.Core.Bool.{Bool, true, false, true≢false}
 use mathlib.Core.List.{List, [], ◌++◌, append-nil}
 use native.Mathlib.Omega.{arith}
 use lib.ListN.{length, take, drop, length-drop}
@@ -118,9 +118,6 @@ module _ {bytes : List ℕ} {s : State} {l : List ℕ} {from filled : ℕ} {r : 
 -- ---- Turns
 
 -- where a turn is left there may be more
-pub left-more : (more : Bool) (turns n : ℕ) → n ≡ cond more (turns - 1) 0 → 0 < n → more ≡ true
-left-more true turns n e h = refl
-left-more false turns n e h = absurd (omega arith)
 
 -- a run in the state s that has come to r, with the input l: of its lines and its text, those that were taken and printed, and the bytes that were read
 pub record Reaches (bytes : List ℕ) (s : State) (r : Progress) (l : List ℕ) (s' : State) (had has old new : Option (List ℕ)) : Type 0 where

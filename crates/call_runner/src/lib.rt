@@ -60,7 +60,7 @@ fn ahead_of(refilled: Refilled) -> Ahead
     match refilled {
         Refilled::Piece(filled) => Ahead {
             from: 0,
-            filled: filled,
+            filled,
             lines: 0,
             good: true,
             more: true,
@@ -97,7 +97,7 @@ fn read_on<R: Read>(
     if !good {
         return Ok(Ahead {
             from: next,
-            filled: filled,
+            filled,
             lines: 0,
             good: false,
             more: false,
@@ -106,7 +106,7 @@ fn read_on<R: Read>(
     if !room {
         return Ok(Ahead {
             from: next,
-            filled: filled,
+            filled,
             lines: 0,
             good: true,
             more: true,
@@ -135,13 +135,11 @@ fn take_turn<R: Read, W: Write>(
     ensures { IfOk result (λ after. Turns «data».now (state_of progress.session log.old collect.old low.old high.old) input.old progress after text.new input.new (state_of after.session log.new collect.new low.new high.new) (R.remaining reader.old) (R.remaining reader.new) (W.contents writer.old) (W.contents writer.new)) }
 {
     let before = progress.session;
-    let from = progress.from;
-    let filled = progress.filled;
     let taken = script_pieces::take_lines(
         text,
         before,
-        &input[..filled],
-        from,
+        &input[..progress.filled],
+        progress.from,
         log,
         collect,
         data,
@@ -151,7 +149,7 @@ fn take_turn<R: Read, W: Write>(
     let end = taken.end;
     script_lines::write_text(writer, text, end)?;
     let room = end <= text.len() - state_text::MAX_ANSWER;
-    let ahead = read_on(reader, input, taken.next, filled, taken.good, room)?;
+    let ahead = read_on(reader, input, taken.next, progress.filled, taken.good, room)?;
     let lines = script_lines::lines_behind(progress.lines, taken.lines);
     let after = taken.session;
     Ok(Progress {
@@ -182,12 +180,14 @@ fn run_input<R: Read, W: Write>(
     ensures { IfOk result (λ ended. RunsInput «data».now (state_of started.session log.old collect.old low.old high.old) ended (state_of ended.session log.new collect.new low.new high.new) (R.remaining reader.old) (R.remaining reader.new) (W.contents writer.old) (W.contents writer.new)) }
 {
     let mut progress = started();
-    let mut turns = u64::MAX;
-    while 0 < turns {
+    // A proved loop has to end, and nothing says that the input does: so its turns are counted, up to a number that no run uses up.
+    for _ in 0..u64::MAX {
+        if !progress.more {
+            return Ok(progress);
+        }
         progress = take_turn(
             reader, writer, text, progress, input, log, collect, data, low, high,
         )?;
-        turns = script_lines::turns_left(turns, progress.more);
     }
     Ok(progress)
 }

@@ -1,7 +1,7 @@
 // One line of a call script: the call that it asks for.
 #![tactic(auto)]
 
-ghost use Rattle.std.specs.Prelude.{◌≡◌, min};
+ghost use Rattle.std.specs.Prelude.{◌≡◌};
 ghost use Rattle.call_script.specs.Limits.{script_limits};
 ghost use Rattle.call_script.specs.Calls.{mode_of, release_of, status_of, in_status_of, in_state_of, phase_of, control_state_of, transfer_type_of, is_transfer_type, trb_fields, line_trb, one_region, two_regions, window_call, buffers_call, ported_creation, mode_creation, in_creation, four_creation, release_creation, control_creation, submit_call, hold_call, append_call, result_call, no_result_call, cancel_call, in_state_call, control_state_call, make_up_call, row_result_call, row_call, time_call, capture_call, numbered_call, raw_call, call_of};
 ghost use Rattle.call_script.specs.RawLines.{decode_line, encode_line, raw_line_of};
@@ -48,13 +48,6 @@ pub fn script_limits() -> ScriptLimits
         collect: MAX_LENT_COLLECT,
         script_data: MAX_SCRIPT_DATA,
     }
-}
-
-// Of what a script asks for, as much as there is: the smaller of two numbers.
-pub fn least(n: usize, room: usize) -> usize
-    ensures { result ≡ min n room }
-{
-    n.min(room)
 }
 
 const MAX_BYTE: u64 = 0xff;

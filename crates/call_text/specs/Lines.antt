@@ -2,7 +2,7 @@
 use Rattle.std.specs.Prelude.{ℕ, ◌-◌, ◌*◌, ◌/◌, ◌^◌, min, Bool, cond, List, [], ◌∷◌, ◌++◌, length, take}
 use Rattle.trb.specs.Limits.{record_length}
 use Rattle.trb.specs.declared.TrbProcessingResult.{TrbProcessingResult}
-use Rattle.trb.specs.declared.TrbProcessingResult.TheVariants.{Ok, Stall, StallAt, TrbError, TransactionError, TransactionErrorAt, Disconnect}
+use Rattle.trb.specs.declared.TrbProcessingResult.TheVariants as result
 use Rattle.numerals.specs.Digits.{decimal_of, hex_of}
 use Rattle.log_text.specs.Lines.{space, line_feed, lines_in}
 use Rattle.call_text.specs.Words.{refused_word, accepted_word, no_result, no_address, cycle_on, cycle_off, ok_word, stall_word, trb_word, transaction_word, disconnect_word, carried_out_word}
@@ -25,13 +25,13 @@ address_fields a cycle = behind (hex_of a) ++ cond cycle cycle_on cycle_off
 
 -- RESULT, ADDR and CYCLE; where the result carries no address, `-` for each
 unfoldable pub result_fields : TrbProcessingResult → List ℕ
-result_fields Ok = ok_word ++ no_address
-result_fields Stall = stall_word ++ no_address
-result_fields (StallAt a cycle) = stall_word ++ address_fields a cycle
-result_fields TrbError = trb_word ++ no_address
-result_fields TransactionError = transaction_word ++ no_address
-result_fields (TransactionErrorAt a cycle) = transaction_word ++ address_fields a cycle
-result_fields Disconnect = disconnect_word ++ no_address
+result_fields result.Ok = ok_word ++ no_address
+result_fields result.Stall = stall_word ++ no_address
+result_fields (result.StallAt a cycle) = stall_word ++ address_fields a cycle
+result_fields result.TrbError = trb_word ++ no_address
+result_fields result.TransactionError = transaction_word ++ no_address
+result_fields (result.TransactionErrorAt a cycle) = transaction_word ++ address_fields a cycle
+result_fields result.Disconnect = disconnect_word ++ no_address
 
 -- `ok COUNT RESULT ADDR CYCLE`
 unfoldable pub completed_fields : ℕ → TrbProcessingResult → List ℕ

@@ -1,7 +1,7 @@
 -- 02, R-2: what a call of the engine gives to a capture: at most one call of the writer. Assumes nothing.
 use Rattle.std.specs.Prelude.{ℕ, List, [], ◌∷◌, ◌++◌, Option, Some, None, take}
 use Rattle.trb.specs.declared.ControlRequestProcessingResult.{ControlRequestProcessingResult}
-use Rattle.trb.specs.declared.InTrbProcessingResult.{InTrbProcessingResult}
+use Rattle.trb.specs.declared.InTrbProcessingStatus.{InTrbProcessingStatus}
 use Rattle.trb.specs.declared.TransferTrb.{TransferTrb}
 use Rattle.call_log.specs.declared.Record.{Record}
 use Rattle.in_block.specs.declared.InBlock.{InBlock}
@@ -44,8 +44,8 @@ first_address [] = 0
 first_address (t ∷ ts) = t.addr
 
 -- an accepted completion of the block b: its payload is all of the device's data
-abbrev pub in_completion_capture : Captured → InPipe → InBlock → InTrbProcessingResult → List ℕ → List CaptureCall
+abbrev pub in_completion_capture : Captured → InPipe → InBlock → Option InTrbProcessingStatus → List ℕ → List CaptureCall
 in_completion_capture c p b r bytes = writer_call c (in_completion_event p b.state (first_address (input.held_of b)) r) bytes
 
-abbrev pub control_completion_capture : Captured → ControlBlock → ControlRequestProcessingResult → List ℕ → List CaptureCall
+abbrev pub control_completion_capture : Captured → ControlBlock → Option ControlRequestProcessingResult → List ℕ → List CaptureCall
 control_completion_capture c b r bytes = writer_call c (control_completion_event b.state b.direction b.request b.collected r) bytes

@@ -4,8 +4,7 @@ use Rattle.trb.specs.declared.ControlRequestProcessingResult.{ControlRequestProc
 use Rattle.trb.specs.declared.ControlRequestProcessingResult.TheVariants as device
 use Rattle.trb.specs.declared.ControlSubmissionState.{ControlSubmissionState}
 use Rattle.trb.specs.declared.ControlSubmissionState.TheVariants as control
-use Rattle.trb.specs.declared.InTrbProcessingResult.{InTrbProcessingResult}
-use Rattle.trb.specs.declared.InTrbProcessingResult.TheVariants.{NoneGiven, Given}
+use Rattle.trb.specs.declared.InTrbProcessingStatus.{InTrbProcessingStatus}
 use Rattle.trb.specs.declared.TdBasedNormalSubmissionState.{TdBasedNormalSubmissionState}
 use Rattle.trb.specs.declared.TdBasedNormalSubmissionState.TheVariants.{SubmissionDue, CollectingTd, AwaitingRealTransfer, AwaitingLocalCompletion, UnsupportedTrb}
 use Rattle.trb.specs.declared.UsbRequest.{UsbRequest}
@@ -40,25 +39,25 @@ control_request_event r = cond (eqb r.kind request_kind) (Some (ControlSubmissio
 -- ---- An accepted completion
 
 -- `in_completion`: with a device result only; 000 writes no record of a TRB error on IN
-abbrev pub in_completion_event : InPipe → TdBasedNormalSubmissionState → ℕ → InTrbProcessingResult → Option CaptureEvent
+abbrev pub in_completion_event : InPipe → TdBasedNormalSubmissionState → ℕ → Option InTrbProcessingStatus → Option CaptureEvent
 in_completion_event p SubmissionDue first r = None
 in_completion_event p CollectingTd first r = None
-in_completion_event p AwaitingRealTransfer first NoneGiven = None
-in_completion_event p AwaitingRealTransfer first (Given status) = Some (InCompletion p first status)
+in_completion_event p AwaitingRealTransfer first None = None
+in_completion_event p AwaitingRealTransfer first (Some status) = Some (InCompletion p first status)
 in_completion_event p AwaitingLocalCompletion first r = None
 in_completion_event p (UnsupportedTrb a) first r = None
 
 -- `control_completion_in`, `control_completion_out` with the request's length, `control_in_error`, `control_out_error`: 02, R-2: a failed one is E
-abbrev pub request_completion_event : Bool → UsbRequest → ℕ → ControlRequestProcessingResult → Option CaptureEvent
-request_completion_event direction q collected device.NoneGiven = None
-request_completion_event direction q collected device.Disconnect = Some (ControlError direction Disconnect q collected)
-request_completion_event direction q collected device.Stall = Some (ControlError direction Stall q collected)
-request_completion_event direction q collected device.TransactionError = Some (ControlError direction TransactionError q collected)
-request_completion_event direction q collected device.SuccessfulControlIn = Some (ControlCompletionIn q.address)
-request_completion_event direction q collected device.SuccessfulControlOut = Some (ControlCompletionOut q.address q.length)
+abbrev pub request_completion_event : Bool → UsbRequest → ℕ → Option ControlRequestProcessingResult → Option CaptureEvent
+request_completion_event direction q collected None = None
+request_completion_event direction q collected (Some device.Disconnect) = Some (ControlError direction Disconnect q collected)
+request_completion_event direction q collected (Some device.Stall) = Some (ControlError direction Stall q collected)
+request_completion_event direction q collected (Some device.TransactionError) = Some (ControlError direction TransactionError q collected)
+request_completion_event direction q collected (Some device.SuccessfulControlIn) = Some (ControlCompletionIn q.address)
+request_completion_event direction q collected (Some device.SuccessfulControlOut) = Some (ControlCompletionOut q.address q.length)
 
 -- `trb_error`: the bad TRB's address, after Unrecognized and after a TRB that was not expected
-abbrev pub control_completion_event : ControlSubmissionState → Bool → UsbRequest → ℕ → ControlRequestProcessingResult → Option CaptureEvent
+abbrev pub control_completion_event : ControlSubmissionState → Bool → UsbRequest → ℕ → Option ControlRequestProcessingResult → Option CaptureEvent
 control_completion_event control.NoTrbSubmitted direction q collected r = None
 control_completion_event control.CollectingTd direction q collected r = None
 control_completion_event (control.ParserError a) direction q collected r = Some (TrbError a)

@@ -7,7 +7,7 @@ ghost use Rattle.capture_calls.specs.Events.{in_request_event, control_request_e
 use call_log::Record;
 use capture_record::{CaptureEvent, InPipe, TransferError};
 use trb::{
-    ControlRequestProcessingResult, ControlSubmissionState, InTrbProcessingResult,
+    ControlRequestProcessingResult, ControlSubmissionState, InTrbProcessingStatus,
     TdBasedNormalSubmissionState, UsbRequest,
 };
 
@@ -47,15 +47,14 @@ pub fn in_completion_event(
     pipe: InPipe,
     state: TdBasedNormalSubmissionState,
     first: u64,
-    res: InTrbProcessingResult,
+    res: Option<InTrbProcessingStatus>,
 ) -> Option<CaptureEvent>
     ensures { result ≡ in_completion_event pipe state first res }
 {
     match (state, res) {
-        (
-            TdBasedNormalSubmissionState::AwaitingRealTransfer,
-            InTrbProcessingResult::Given(status),
-        ) => Some(CaptureEvent::InCompletion(pipe, first, status)),
+        (TdBasedNormalSubmissionState::AwaitingRealTransfer, Some(status)) => Some(
+            CaptureEvent::InCompletion(pipe, first, status),
+        ),
         _ => None,
     }
 }
@@ -76,19 +75,19 @@ fn request_completion_event(
     direction: bool,
     request: UsbRequest,
     collected: u32,
-    res: ControlRequestProcessingResult,
+    res: Option<ControlRequestProcessingResult>,
 ) -> Option<CaptureEvent>
     ensures { result ≡ request_completion_event direction request collected res }
 {
     match res {
-        ControlRequestProcessingResult::NoneGiven => None,
-        ControlRequestProcessingResult::Disconnect => {
+        None => None,
+        Some(ControlRequestProcessingResult::Disconnect) => {
             error_event(direction, TransferError::Disconnect, request, collected)
         }
-        ControlRequestProcessingResult::Stall => {
+        Some(ControlRequestProcessingResult::Stall) => {
             error_event(direction, TransferError::Stall, request, collected)
         }
-        ControlRequestProcessingResult::TransactionError => {
+        Some(ControlRequestProcessingResult::TransactionError) => {
             error_event(
                 direction,
                 TransferError::TransactionError,
@@ -96,10 +95,10 @@ fn request_completion_event(
                 collected,
             )
         }
-        ControlRequestProcessingResult::SuccessfulControlIn => {
+        Some(ControlRequestProcessingResult::SuccessfulControlIn) => {
             Some(CaptureEvent::ControlCompletionIn(request.address))
         }
-        ControlRequestProcessingResult::SuccessfulControlOut => {
+        Some(ControlRequestProcessingResult::SuccessfulControlOut) => {
             Some(CaptureEvent::ControlCompletionOut(request.address, request.length))
         }
     }
@@ -111,7 +110,7 @@ pub fn control_completion_event(
     direction: bool,
     request: UsbRequest,
     collected: u32,
-    res: ControlRequestProcessingResult,
+    res: Option<ControlRequestProcessingResult>,
 ) -> Option<CaptureEvent>
     ensures { result ≡ control_completion_event state direction request collected res }
 {

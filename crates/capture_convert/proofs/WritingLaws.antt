@@ -1,10 +1,10 @@
 -- The loop that writes resized records: writing what is left is writing all from the start. Assumes nothing.
 use Prim.Native.Nat.{ℕ, ◌+◌, ◌≤◌, ◌<◌}
-use mathlib.Core.Bool.{true, ◌&&◌}
+use mathlib.Core.Bool.{true}
 use mathlib.Core.Path.{◌≡◌, refl, sym, ap, ◌∙◌}
 use mathlib.Core.List.{List, [], ◌∷◌, ◌++◌}
 use native.Mathlib.Omega.{arith}
-use lib.ListN.{length, drop, length-append, length-drop}
+use lib.ListN.{length, drop, length-append}
 use Rattle.buffers.specs.Patch.{patch}
 use Rattle.buffers.proofs.PatchLaws.{length-patch, patch-none, patch-behind}
 use Rattle.capture_file.specs.Records.{layout}

@@ -61,6 +61,7 @@ fn write_records(records: &[u8], from: usize, to: usize, dst: &mut [u8])
 {
     let mut rest = records;
     let mut out = 24;
+    // A record says its own length: what is left is cut where it ends.
     while !rest.is_empty() {
         out += write_record(rest, from, to, dst, out);
         rest = &rest[capture_tests::record_size(rest)..];
@@ -118,9 +119,7 @@ pub fn converted_length(src: &[u8]) -> Result<usize, Refusal>
     ensures { Measures src.now result }
 {
     let survey = capture_survey::survey_file(src, ADDED_LENGTH).ok_or(Refusal::NotACapture)?;
-    if !survey.convertible {
-        return Err(Refusal::NotConvertible);
-    }
+    trb::ask(survey.convertible, Refusal::NotConvertible)?;
     Ok(resized_length(src.len(), survey.records, buffers::le32(src, 20)))
 }
 
@@ -130,9 +129,7 @@ pub fn convert(src: &[u8], dst: &mut [u8]) -> Result<usize, Refusal>
     ensures { Converts src.now dst.old result dst.new }
 {
     let length = converted_length(src)?;
-    if dst.len() < length {
-        return Err(Refusal::OutputTooShort);
-    }
+    trb::ask(length <= dst.len(), Refusal::OutputTooShort)?;
     write_file(src, dst);
     Ok(length)
 }

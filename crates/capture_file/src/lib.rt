@@ -26,7 +26,7 @@ pub fn answer_number(answer: Result<usize, Refusal>) -> u8
 {
     match answer {
         Ok(_) => 0,
-        Err(refusal) => trb::refusal_number(refusal),
+        Err(refusal) => u8::from(refusal),
     }
 }
 

@@ -76,12 +76,12 @@ pub fn merged_length(a: &[u8], b: &[u8]) -> Result<usize, Refusal>
 {
     let first = capture_survey::survey_file(a, NO_GROWTH).ok_or(Refusal::NotACapture)?;
     let second = capture_survey::survey_file(b, NO_GROWTH).ok_or(Refusal::NotACapture)?;
-    if buffers::le32(a, 20) != buffers::le32(b, 20) {
-        return Err(Refusal::LinkTypesDiffer);
-    }
-    if !first.ordered || !second.ordered {
-        return Err(Refusal::TimesGoBackwards);
-    }
+    trb::ask(
+        buffers::le32(a, 20) == buffers::le32(b, 20),
+        Refusal::LinkTypesDiffer,
+    )?;
+    trb::ask(first.ordered, Refusal::TimesGoBackwards)?;
+    trb::ask(second.ordered, Refusal::TimesGoBackwards)?;
     Ok(a.len() + (b.len() - 24))
 }
 
@@ -91,9 +91,7 @@ pub fn merge(a: &[u8], b: &[u8], dst: &mut [u8]) -> Result<usize, Refusal>
     ensures { Merges a.now b.now dst.old result dst.new }
 {
     let length = merged_length(a, b)?;
-    if dst.len() < length {
-        return Err(Refusal::OutputTooShort);
-    }
+    trb::ask(length <= dst.len(), Refusal::OutputTooShort)?;
     write_merged(a, b, dst);
     Ok(length)
 }

@@ -58,6 +58,7 @@ fn count_records(records: &[u8]) -> Option<usize>
 {
     let mut rest = records;
     let mut count = 0;
+    // A record says its own length: what is left is cut where it ends.
     while !rest.is_empty() {
         if !is_record(rest) {
             return None;

@@ -32,6 +32,7 @@ fn survey_records(records: &[u8], extra: usize, most: u32) -> Option<Survey>
     let mut ordered = true;
     let mut seconds = 0;
     let mut microseconds = 0;
+    // A record says its own length: what is left is cut where it ends.
     while !rest.is_empty() {
         if !capture_tests::whole_record(rest, extra, most) {
             return None;

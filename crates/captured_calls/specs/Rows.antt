@@ -1,6 +1,5 @@
 -- 02, R-2 of R-7: what a row of TDs in a single call gives to a capture. Assumes nothing.
 use Rattle.std.specs.Prelude.{ℕ, ◌+◌, ◌≡◌, Bool, cond, List, [], ◌∷◌, ◌++◌, Option, Some, None, eqb, length, take, drop}
-use Rattle.trb.specs.declared.InTrbProcessingResult.TheVariants.{Given}
 use Rattle.trb.specs.declared.InTrbProcessingStatus.{InTrbProcessingStatus}
 use Rattle.trb.specs.declared.TdBasedNormalSubmissionState.TheVariants.{AwaitingRealTransfer}
 use Rattle.trb.specs.declared.TransferTrb.{TransferTrb}
@@ -30,7 +29,7 @@ request_at n (Some r) log = record_at log r ∷ requests_in (records_from n (r +
 -- a TD that has logged this request: its submission, then its completion with its identifier, its status and its own bytes
 abbrev pub td_capture : Captured → InPipe → Record → InTrbProcessingStatus → List ℕ → List CaptureCall
 td_capture c p q status bytes =
-    writer_call c (in_request_event p q) [] ++ writer_call c (in_completion_event p AwaitingRealTransfer q.address (Given status)) bytes
+    writer_call c (in_request_event p q) [] ++ writer_call c (in_completion_event p AwaitingRealTransfer q.address (Some status)) bytes
 
 -- a TD with a Normal: the first of these requests is its own, and without one it was not started
 abbrev pub started_capture : Captured → InPipe → List Record → InTrbProcessingStatus → List ℕ → List CaptureCall

@@ -17,9 +17,8 @@ use call_log::Record;
 use capture_record::{CaptureEvent, InPipe, UsbDevice};
 use row_walk::TdResult;
 use trb::{
-    ControlRequestProcessingResult, ControlSubmissionState, EndpointId, InTrbProcessingResult,
-    InTrbProcessingStatus, TdBasedNormalSubmissionState, TransferTrb, TransferTrbVariant,
-    UsbRequest,
+    ControlRequestProcessingResult, ControlSubmissionState, EndpointId, InTrbProcessingStatus,
+    TdBasedNormalSubmissionState, TransferTrb, TransferTrbVariant, UsbRequest,
 };
 
 // What captures say from here on: the time, whose transfers they are, and whether an IN endpoint's are interrupt, or else bulk.
@@ -156,7 +155,7 @@ pub fn put_in_completion(
     endpoint_id: EndpointId,
     state: TdBasedNormalSubmissionState,
     first: u64,
-    res: InTrbProcessingResult,
+    res: Option<InTrbProcessingStatus>,
     data: &[u8],
 ) -> usize
     requires { at ≤ length output.old }
@@ -176,7 +175,7 @@ pub fn put_control_completion(
     direction: bool,
     request: UsbRequest,
     collected: u32,
-    res: ControlRequestProcessingResult,
+    res: Option<ControlRequestProcessingResult>,
     data: &[u8],
 ) -> usize
     requires { at ≤ length output.old }
@@ -273,7 +272,7 @@ fn put_started(
         endpoint_id,
         TdBasedNormalSubmissionState::AwaitingRealTransfer,
         request.address,
-        InTrbProcessingResult::Given(status),
+        Some(status),
         data,
     )
 }

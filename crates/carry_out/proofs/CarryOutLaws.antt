@@ -1,4 +1,5 @@
 -- Carrying out the log of a call: its records are what is carried out. Assumes nothing.
+use Rattle.std.specs.Prelude.{Err, Ok}
 use Prim.Native.Nat.{ℕ, ◌*◌, ◌/◌, ◌%◌}
 use mathlib.Core.Bool.{true, cond, Bool, false}
 use mathlib.Core.Path.{◌≡◌, sym, ap, ◌∙◌, refl}
@@ -11,7 +12,6 @@ use Rattle.trb.specs.Answers.{refusal_of}
 use Rattle.trb.specs.Questions.{first_no, after_questions}
 use Rattle.buffers.specs.Patch.{patch}
 use Rattle.trb.specs.Limits.{record_length}
-use Rattle.trb.specs.declared.Answer.TheVariants.{Accepted, Refused}
 use Rattle.trb.specs.declared.Refusal.TheVariants.{WriteOutOfRange}
 use Rattle.call_log.specs.declared.Record.{Record}
 use Rattle.call_log.specs.Logs.{encode_all, logged, records_in, AllFit}
@@ -44,14 +44,14 @@ module _ (rs : List Record) (fits : AllFit rs) where
 
   -- of known kinds, on regions that share no address: only question 11 is left
   pub answer_of-encode_all : (n : ℕ) (regions : Regions) → share_an_address regions ≡ false → kinds_known rs ≡ true
-      → answer_of (encode_all rs) n regions ≡ cond (writes_in_range n regions rs) Accepted (Refused WriteOutOfRange)
+      → answer_of (encode_all rs) n regions ≡ cond (writes_in_range n regions rs) (Ok tt) (Err WriteOutOfRange)
   unfolding first_no refusal_of
   answer_of-encode_all n regions apart known = rw (apart, well_formed-encode_all, known, records_of-encode_all) (by-range (writes_in_range n regions rs))
     where
-      by-range : (b : Bool) → after_questions ((true, 13) ∷ (true, 10) ∷ (b, 11) ∷ []) (λ k. Refused (refusal_of k)) Accepted ≡ cond b Accepted (Refused WriteOutOfRange)
+      by-range : (b : Bool) → after_questions ((true, 13) ∷ (true, 10) ∷ (b, 11) ∷ []) (λ k. Err (refusal_of k)) (Ok (tt {0})) ≡ cond b (Ok tt) (Err WriteOutOfRange)
       by-range true = refl
       by-range false = refl
 
   -- accepted: the records are carried out
-  pub memory_after-encode_all : (bytes : List ℕ) (m : Memory) → memory_after Accepted (encode_all rs) bytes m ≡ written bytes m rs
+  pub memory_after-encode_all : (bytes : List ℕ) (m : Memory) → memory_after (Ok tt) (encode_all rs) bytes m ≡ written bytes m rs
   memory_after-encode_all bytes m = ap (written bytes m) records_of-encode_all

@@ -1,9 +1,8 @@
 -- 01, Carry-out: what it answers, and guest memory afterwards. Assumes nothing.
-use Rattle.std.specs.Prelude.{ℕ, Bool, not, ◌≡◌, List, [], ◌∷◌, length}
+use Rattle.std.specs.Prelude.{ℕ, Bool, not, ◌≡◌, List, [], ◌∷◌, length, Err, Ok}
 use Rattle.trb.specs.Answers.{number_of, refusal_of}
 use Rattle.trb.specs.Questions.{first_no, after_questions}
-use Rattle.trb.specs.declared.Answer.{Answer}
-use Rattle.trb.specs.declared.Answer.TheVariants.{Accepted, Refused}
+use Rattle.trb.specs.Answers.{Answer}
 use Rattle.log_check.specs.WellFormed.{well_formed}
 use Rattle.guest_memory.specs.declared.Regions.{Regions}
 use Rattle.guest_memory.specs.Regions.{share_an_address}
@@ -15,12 +14,12 @@ abbrev pub carry_out_questions : List ℕ → ℕ → Regions → List (Bool × 
 carry_out_questions log n regions = (not (share_an_address regions), 13) ∷ (well_formed log, 10) ∷ (writes_in_range n regions (records_of log), 11) ∷ []
 
 abbrev pub answer_of : List ℕ → ℕ → Regions → Answer
-answer_of log n regions = after_questions (carry_out_questions log n regions) (λ k. Refused (refusal_of k)) Accepted
+answer_of log n regions = after_questions (carry_out_questions log n regions) (λ k. Err (refusal_of k)) (Ok tt)
 
 -- 01, Questions asked: a no leaves guest memory unchanged; after a yes to all of them every write is performed
 abbrev pub memory_after : Answer → List ℕ → List ℕ → Memory → Memory
-memory_after Accepted log bytes m = written bytes m (records_of log)
-memory_after (Refused q) log bytes m = m
+memory_after (Ok tt) log bytes m = written bytes m (records_of log)
+memory_after (Err q) log bytes m = m
 
 -- of a carry-out of a log on guest memory m, with the device's data bytes: it answered r and left m'
 pub record Carried (log bytes : List ℕ) (m : Memory) (r : Answer) (m' : Memory) : Type 0 where

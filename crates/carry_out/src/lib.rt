@@ -89,6 +89,7 @@ fn perform_writes(
 
 // Performs the writes of a log on guest memory, the regions of `low`'s and `high`'s bytes at their bases: question 13, question 10,
 // question 11 of the whole log, then every write in the log's order.
+#[tactic(auto, unfolding(trb::specs::Questions::first_no, trb::specs::Answers::refusal_of))]
 pub fn carry_out(
     log: &[u8],
     data: &[u8],
@@ -100,15 +101,15 @@ pub fn carry_out(
     ensures { Carried log.now «data».now (memory_of low_base low.old high_base high.old) result (memory_of low_base low.new high_base high.new) }
 {
     let regions = guest_memory::guest_regions(low_base, low.len(), high_base, high.len());
-    if guest_memory::share_an_address(regions) {
-        return Answer::Refused(Refusal::RegionsOverlap);
-    }
-    if !log_check::well_formed(log) {
-        return Answer::Refused(Refusal::MalformedLog);
-    }
-    if !writes_in_range(log, data.len(), regions) {
-        return Answer::Refused(Refusal::WriteOutOfRange);
-    }
+    trb::ask(
+        !guest_memory::share_an_address(regions),
+        Refusal::RegionsOverlap,
+    )?;
+    trb::ask(log_check::well_formed(log), Refusal::MalformedLog)?;
+    trb::ask(
+        writes_in_range(log, data.len(), regions),
+        Refusal::WriteOutOfRange,
+    )?;
     perform_writes(log, data, low_base, low, high_base, high);
-    Answer::Accepted
+    Ok(())
 }

@@ -1,4 +1,5 @@
 -- 02, R-9: demand 3 of a completion's log, compacted. The log of a completion is its records, in the first bytes of the log that was lent. Assumes nothing.
+use Rattle.std.specs.Prelude.{Option}
 use Prim.Native.Nat.{ℕ, ◌*◌}
 use mathlib.Core.Bool.{Bool, true, false, cond}
 use mathlib.Core.Path.{◌≡◌, refl, ap, subst, ◌∙◌}
@@ -8,7 +9,7 @@ use lib.Dec.{eqb}
 use lib.ListN.{length, take}
 use Rattle.trb.specs.Limits.{record_length}
 use Rattle.trb.specs.Questions.{first_no}
-use Rattle.trb.specs.declared.InTrbProcessingResult.{InTrbProcessingResult}
+use Rattle.trb.specs.declared.InTrbProcessingStatus.{InTrbProcessingStatus}
 use Rattle.call_log.specs.Logs.{encode_all, records_in}
 use Rattle.call_log.proofs.LogLaws.{records_in-logged}
 use Rattle.carry_out.specs.Writes.{records_of}
@@ -20,13 +21,13 @@ use Rattle.in_block.specs.Outcomes.{ending_of}
 use Rattle.in_block.specs.declared.InBlock.{InBlock}
 use Rattle.in_questions.specs.Questions.{completion_questions}
 use Rattle.in_endpoint.specs.Completion.{refused, completed_as, completion, Accounted, Completes}
-use Rattle.in_endpoint.specs.declared.Completed.{Completed}
+use Rattle.in_endpoint.specs.Returned.{Completed}
 use Rattle.in_endpoint.proofs.CompletionLaws.{completed_as-counts}
 use Rattle.log_compact.specs.Compacting.{kept_bytes}
 use Rattle.compact_account.proofs.AccountLaws.{account-kept}
 
 -- a completion counts its records
-counted : (l : ℕ) (b : InBlock) (s : InTrbProcessingResult) (n : ℕ) → (completion l b s n).state.records ≡ length (completion l b s n).records
+counted : (l : ℕ) (b : InBlock) (s : Option InTrbProcessingStatus) (n : ℕ) → (completion l b s n).state.records ≡ length (completion l b s n).records
 unfolding completion
 counted l b s n = by_answer (eqb (first_no (completion_questions l (facts_of b) s n)) 0)
   where
@@ -36,7 +37,7 @@ counted l b s n = by_answer (eqb (first_no (completion_questions l (facts_of b) 
     by_answer false = refl
 
 -- 02, R-9: the account rule's byte statement holds of compacted logs too
-pub accounted-kept : (b : InBlock) (s : InTrbProcessingResult) (n : ℕ) (l : List ℕ) (r : Completed) (l' : List ℕ) → Completes b s n l r l'
+pub accounted-kept : (b : InBlock) (s : Option InTrbProcessingStatus) (n : ℕ) (l : List ℕ) (r : Completed) (l' : List ℕ) → Completes b s n l r l'
     → Accounted b n r.answer (records_of (kept_bytes (take (record_length * r.records) l')))
 accounted-kept b s n l r l' h waits accepts distinct isp last =
     let rs = (completion (length l) b s n).records in

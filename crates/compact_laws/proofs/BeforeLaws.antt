@@ -1,5 +1,6 @@
 -- 02, R-9: or up to any event. An event or a request of a log stands in what is kept of it too; what is kept before it is what is kept of the log before it,
 -- and carrying that out leaves the same. Assumes nothing.
+use Rattle.std.specs.Prelude.{Ok}
 use Prim.Native.Nat.{ℕ, zero, suc, ◌+◌, ◌-◌, ◌*◌, ◌/◌, ◌%◌, ◌≤◌}
 use mathlib.Core.Bool.{true, false}
 use mathlib.Core.Path.{◌≡◌, refl, sym, ap, ◌∙◌}
@@ -12,7 +13,6 @@ use lib.Seq.{length-take-le, drop-drop, take_at, drop_at}
 use borrow.Author.Tests.{eq-eqb}
 use Rattle.trb.specs.Limits.{record_length}
 use Rattle.trb.specs.Questions.{first_no}
-use Rattle.trb.specs.declared.Answer.TheVariants.{Accepted}
 use Rattle.trb.proofs.TestLaws.{and_left, and_right}
 use Rattle.call_log.specs.Records.{decode, record_at, write_kind}
 use Rattle.log_check.specs.WellFormed.{kind_known, kinds_known, well_formed}
@@ -113,12 +113,12 @@ in_range-front n regions (x ∷ xs) ys e =
     let both = writes_in_range-cons n regions (decode x) (map decode (xs ++ ys)) e in
     rw both.0 (in_range-front n regions xs ys both.1)
 
-module _ (log bytes : List ℕ) (m : Memory) (off : touch (regions_of m) ≡ false) (accepted : answer_of log (length bytes) (regions_of m) ≡ Accepted)
+module _ (log bytes : List ℕ) (m : Memory) (off : touch (regions_of m) ≡ false) (accepted : answer_of log (length bytes) (regions_of m) ≡ Ok tt)
     (k : ℕ) (room : record_length * (k + 1) ≤ length log) where
   records_of-parted : records_of log ≡ map decode (rows_of (log_before k log) ++ (row_at log k ∷ rows_behind log k room))
   records_of-parted = records_of-rows_of log ∙ ap (map decode) (rows_of-parted log k room)
 
-  accepted-before : answer_of (log_before k log) (length bytes) (regions_of m) ≡ Accepted
+  accepted-before : answer_of (log_before k log) (length bytes) (regions_of m) ≡ Ok tt
   unfolding first_no well_formed
   accepted-before =
       let size : length (log_before k log) ≡ record_length * k = length-take-le (record_length * k) log (omega arith) in
@@ -142,5 +142,5 @@ module _ (log bytes : List ℕ) (m : Memory) (off : touch (regions_of m) ≡ fal
       record {
         stays = s;
         accepted = ap (λ (l : List ℕ). answer_of l (length bytes) (regions_of m)) s.front ∙ carry_out-kept (log_before k log) bytes m off accepted-before;
-        same = ap (λ (l : List ℕ). memory_after Accepted l bytes m) s.front ∙ memory_after-kept (log_before k log) bytes m off accepted-before;
+        same = ap (λ (l : List ℕ). memory_after (Ok tt) l bytes m) s.front ∙ memory_after-kept (log_before k log) bytes m off accepted-before;
       }

@@ -11,9 +11,7 @@ use borrow.Author.Tests.{eq-eqb, eqb-true}
 use Rattle.trb.specs.Answers.{is_accepted, refusal_of}
 use Rattle.trb.specs.Limits.{record_length}
 use Rattle.trb.specs.Questions.{first_no, after_questions}
-use Rattle.trb.specs.declared.Answer.{Answer}
-use Rattle.trb.specs.declared.Answer.TheVariants.{Accepted}
-use Rattle.trb.specs.declared.Answer.TheVariants as answer
+use Rattle.trb.specs.Answers.{Answer}
 use Rattle.trb.proofs.AnswerLaws.{accepted-is}
 use Rattle.trb.proofs.QuestionLaws.{yes-first, yes-behind}
 use Rattle.trb.proofs.TestLaws.{and_left, and_right}
@@ -137,12 +135,12 @@ module _ (log : List ℕ) (ok : well_formed log ≡ true) where
 -- ---- Carry-out
 
 -- an accepted carry-out has answered its questions with yes
-module _ (log : List ℕ) (n : ℕ) (regions : Regions) (accepted : carry_out.answer_of log n regions ≡ Accepted) where
+module _ (log : List ℕ) (n : ℕ) (regions : Regions) (accepted : carry_out.answer_of log n regions ≡ Ok tt) where
   none : first_no (carry_out_questions log n regions) ≡ 0
   none = by (eqb (first_no (carry_out_questions log n regions)) 0) refl accepted
     where
       by : (t : Bool) → eqb (first_no (carry_out_questions log n regions)) 0 ≡ t
-          → cond t Accepted (answer.Refused (refusal_of (first_no (carry_out_questions log n regions)))) ≡ Accepted → first_no (carry_out_questions log n regions) ≡ 0
+          → cond t (Ok (tt {0})) (Err (refusal_of (first_no (carry_out_questions log n regions)))) ≡ Ok (tt {0}) → first_no (carry_out_questions log n regions) ≡ 0
       by true e a = eqb-true (first_no (carry_out_questions log n regions)) 0 e
       by false e a = absurd (true≢false (sym (ap is_accepted a)))
 
@@ -166,7 +164,7 @@ module _ (log : List ℕ) (n : ℕ) (regions : Regions) (accepted : carry_out.an
   accepted-in_range = yes-first (writes_in_range n regions (records_of log)) 10 [] (yes-behind (well_formed log) 9 from-range formed)
 
 -- 02, R-9: carrying out the result leaves memory as the original does, whenever the original is accepted and the regions do not touch
-module _ (log bytes : List ℕ) (m : Memory) (off : touch (regions_of m) ≡ false) (accepted : carry_out.answer_of log (length bytes) (regions_of m) ≡ Accepted) where
+module _ (log bytes : List ℕ) (m : Memory) (off : touch (regions_of m) ≡ false) (accepted : carry_out.answer_of log (length bytes) (regions_of m) ≡ Ok tt) where
   apart : share_an_address (regions_of m) ≡ false
   apart = accepted-apart log (length bytes) (regions_of m) accepted
 
@@ -175,20 +173,20 @@ module _ (log bytes : List ℕ) (m : Memory) (off : touch (regions_of m) ≡ fal
       carried-compacted bytes m (rows_of log) apart off (all_sized-rows_of log)
       (rw (records_of-rows_of log) at (accepted-in_range log (length bytes) (regions_of m) accepted))
 
-  pub carry_out-kept : carry_out.answer_of (kept_bytes log) (length bytes) (regions_of m) ≡ Accepted
+  pub carry_out-kept : carry_out.answer_of (kept_bytes log) (length bytes) (regions_of m) ≡ Ok tt
   unfolding first_no
   carry_out-kept = rw (apart, well_formed-kept log (accepted-formed log (length bytes) (regions_of m) accepted), records_of-kept log, same.in_range)
 
-  pub memory_after-kept : memory_after Accepted (kept_bytes log) bytes m ≡ memory_after Accepted log bytes m
+  pub memory_after-kept : memory_after (Ok tt) (kept_bytes log) bytes m ≡ memory_after (Ok tt) log bytes m
   memory_after-kept = ap (written bytes m) (records_of-kept log) ∙ same.same ∙ ap (written bytes m) (sym (records_of-rows_of log))
 
 -- of two calls of carry_out, with a log and with what is kept of it
 pub carried-kept : {log bytes : List ℕ} {m : Memory} {r r' : Answer} {after after' : Memory} → touch (regions_of m) ≡ false → Carried log bytes m r after
-    → is_accepted r ≡ true → Carried (kept_bytes log) bytes m r' after' → (r' ≡ Accepted) × (after' ≡ after)
+    → is_accepted r ≡ true → Carried (kept_bytes log) bytes m r' after' → (r' ≡ Ok tt) × (after' ≡ after)
 carried-kept {log} {bytes} {m} {r} {r'} {after} {after'} off h accepts k =
-    let taken : r ≡ Accepted = accepted-is r accepts in
-    let accepted : carry_out.answer_of log (length bytes) (regions_of m) ≡ Accepted = sym h.answer ∙ taken in
-    let kept : r' ≡ Accepted = k.answer ∙ carry_out-kept log bytes m off accepted in (
+    let taken : r ≡ Ok tt = accepted-is r accepts in
+    let accepted : carry_out.answer_of log (length bytes) (regions_of m) ≡ Ok tt = sym h.answer ∙ taken in
+    let kept : r' ≡ Ok tt = k.answer ∙ carry_out-kept log bytes m off accepted in (
       kept,
       k.after ∙ ap (λ (a : Answer). memory_after a (kept_bytes log) bytes m) kept ∙ memory_after-kept log bytes m off accepted
           ∙ sym (h.after ∙ ap (λ (a : Answer). memory_after a log bytes m) taken),

@@ -1,7 +1,6 @@
 -- 02, R-9: a log up to one of its events or requests, beside what is kept of it up to there. Assumes nothing.
-use Rattle.std.specs.Prelude.{ℕ, ◌*◌, ◌≡◌, List, length, take}
+use Rattle.std.specs.Prelude.{ℕ, ◌*◌, ◌≡◌, List, length, take, Ok}
 use Rattle.trb.specs.Limits.{record_length}
-use Rattle.trb.specs.declared.Answer.TheVariants.{Accepted}
 use Rattle.guest_memory.specs.Places.{Memory, regions_of}
 use Rattle.carry_out.specs.CarryOut.{answer_of, memory_after}
 use Rattle.kept_records.specs.Rows.{row_at, rows_of}
@@ -23,5 +22,5 @@ pub record Stays (log : List ℕ) (k : ℕ) : Type 0 where
 -- of the log before record number k, and what is kept before it: the latter is accepted, and leaves the same memory
 pub record SameBefore (log bytes : List ℕ) (m : Memory) (k : ℕ) : Type 0 where
   pub stays : Stays log k
-  pub accepted : answer_of (log_before stays.place (kept_bytes log)) (length bytes) (regions_of m) ≡ Accepted
-  pub same : memory_after Accepted (log_before stays.place (kept_bytes log)) bytes m ≡ memory_after Accepted (log_before k log) bytes m
+  pub accepted : answer_of (log_before stays.place (kept_bytes log)) (length bytes) (regions_of m) ≡ Ok tt
+  pub same : memory_after (Ok tt) (log_before stays.place (kept_bytes log)) bytes m ≡ memory_after (Ok tt) (log_before k log) bytes m

@@ -1,8 +1,7 @@
 -- Why the regions must not touch, computed on the definitions. Assumes nothing.
-use Rattle.std.specs.Prelude.{ℕ, true, false, ◌≡◌, refl, List, [], ◌∷◌, map}
+use Rattle.std.specs.Prelude.{ℕ, true, false, ◌≡◌, refl, List, [], ◌∷◌, map, Err, Ok}
 use Rattle.trb.specs.Answers.{refusal_of}
 use Rattle.trb.specs.Questions.{first_no}
-use Rattle.trb.specs.declared.Answer.TheVariants.{Accepted, Refused}
 use Rattle.trb.specs.declared.Refusal.TheVariants.{WriteOutOfRange}
 use Rattle.buffers.specs.Patch.{patch}
 use Rattle.call_log.specs.Logs.{encode_all}
@@ -34,10 +33,10 @@ unfolding touch meets_at_end
 touch-computed = refl
 
 -- why regions must not touch: both writes lie in range, but the joined one crosses from one region into the other, which is outside
-pub across-accepted : answer_of across 600 touching ≡ Accepted
+pub across-accepted : answer_of across 600 touching ≡ Ok tt
 unfolding first_no refusal_of encode_all well_formed kind_known moves_bytes write_in_range place_of in_region share_an_address shares_at holds
 across-accepted = refl
 
-pub kept-refused : answer_of (kept_bytes across) 600 touching ≡ Refused WriteOutOfRange
+pub kept-refused : answer_of (kept_bytes across) 600 touching ≡ Err WriteOutOfRange
 unfolding first_no refusal_of encode_all well_formed kind_known moves_bytes write_in_range place_of in_region share_an_address shares_at holds compacted empty_write joins same_endpoint_writes goes_on joined with_length patch
 kept-refused = refl

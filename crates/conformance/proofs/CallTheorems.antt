@@ -1,5 +1,6 @@
 -- The theorems reach the calls: an accepted completion of a block that awaits the device logs the records of the walk over the TRBs held, of which
 -- the other theorems speak. Assumes nothing.
+use Rattle.std.specs.Prelude.{Ok, Option, Some}
 use Prim.Native.Nat.{ℕ, ◌<◌}
 use mathlib.Core.Path.{◌≡◌, refl, sym, ap, ◌∙◌}
 use mathlib.Core.Bool.{true, true≢false}
@@ -7,8 +8,6 @@ use native.Mathlib.Omega.{arith}
 use Rattle.trb.specs.declared.ControlRequestProcessingResult.TheVariants.{SuccessfulControlIn}
 use Rattle.trb.specs.declared.ControlSubmissionState.{ControlSubmissionState}
 use Rattle.trb.specs.declared.ControlSubmissionState.TheVariants.{AwaitingControlRequest}
-use Rattle.trb.specs.declared.InTrbProcessingResult.{InTrbProcessingResult}
-use Rattle.trb.specs.declared.InTrbProcessingResult.TheVariants.{Given}
 use Rattle.trb.specs.declared.InTrbProcessingStatus.{InTrbProcessingStatus}
 use Rattle.trb.specs.declared.InTrbProcessingStatus.TheVariants as status
 use Rattle.trb.specs.declared.TdBasedNormalSubmissionState.{TdBasedNormalSubmissionState}
@@ -29,7 +28,7 @@ use Rattle.in_block.specs.Outcomes.{ending_of as in_ending_of}
 use Rattle.in_block.specs.declared.InBlock.{InBlock}
 use Rattle.in_endpoint.specs.Completion.{transferred, completed_as, is_accepted, completion as in_completion}
 use Rattle.in_endpoint.proofs.CompletionLaws.{accepted-none, accepted-completion}
-use Rattle.in_endpoint.specs.declared.Completed.{Completed}
+use Rattle.in_endpoint.specs.Returned.{Completed}
 use Rattle.control_block.specs.declared.ControlBlock.{ControlBlock}
 use Rattle.control_block.specs.Blocks.{held_of as held_control}
 use Rattle.control_block.specs.Endings.{ending_of}
@@ -40,20 +39,19 @@ use Rattle.control_endpoint.specs.Completion.{refused as refused_control, accept
 use Rattle.control_questions.specs.Completion.{completion_questions}
 use Rattle.trb.specs.Questions.{first_no}
 use Rattle.trb.proofs.AnswerLaws.{answered-yes}
-use Rattle.trb.specs.declared.Answer.TheVariants.{Accepted}
 
 -- ---- IN
 
 -- an accepted completion of a block that awaits the device, with a log of l bytes
-pub completion-process_td : (b : InBlock) (st : InTrbProcessingStatus) (n l : ℕ) → b.state ≡ AwaitingRealTransfer → is_accepted (in_completion l b (Given st) n).state.answer ≡ true
-    → (in_completion l b (Given st) n).records ≡ (process_td (in_td b.endpoint_id b.slot_id b.mode st n) (held_of b)).records
+pub completion-process_td : (b : InBlock) (st : InTrbProcessingStatus) (n l : ℕ) → b.state ≡ AwaitingRealTransfer → is_accepted (in_completion l b (Some st) n).state.answer ≡ true
+    → (in_completion l b (Some st) n).records ≡ (process_td (in_td b.endpoint_id b.slot_id b.mode st n) (held_of b)).records
 unfolding transferred
 completion-process_td b st n l awaits h =
-    ap (λ (o : Out Completed). o.records) (accepted-completion l b (Given st) n h)
-    ∙ ap (λ (state : TdBasedNormalSubmissionState). (completed_as (in_ending_of state (Given st) n) b).records) awaits
+    ap (λ (o : Out Completed). o.records) (accepted-completion l b (Some st) n h)
+    ∙ ap (λ (state : TdBasedNormalSubmissionState). (completed_as (in_ending_of state (Some st) n) b).records) awaits
 
 -- 02, R-4: such a block holds a Normal
-accepted-normals : (b : InBlock) (r : InTrbProcessingResult) (n l : ℕ) → b.state ≡ AwaitingRealTransfer → is_accepted (in_completion l b r n).state.answer ≡ true → 0 < normals (held_of b)
+accepted-normals : (b : InBlock) (r : Option InTrbProcessingStatus) (n l : ℕ) → b.state ≡ AwaitingRealTransfer → is_accepted (in_completion l b r n).state.answer ≡ true → 0 < normals (held_of b)
 accepted-normals b r n l awaits h =
     let known : PassedCompletion l (facts_in b) r n = passed-completion l (facts_in b) r n (accepted-none l b r n h) in
     omega (arith, sound-normals (facts_in b) known.sound (ap awaits_device awaits))
@@ -66,21 +64,21 @@ agreed-strict status.Disconnect n requested h = tt
 
 -- so in strict mode the events of a failed transfer are the standard's, however many bytes came
 pub strict-events : (b : InBlock) (st : InTrbProcessingStatus) (n l : ℕ) → b.mode ≡ Strict → is_failure st ≡ true → b.state ≡ AwaitingRealTransfer
-    → is_accepted (in_completion l b (Given st) n).state.answer ≡ true
-    → told (in_completion l b (Given st) n).records ≡ events repeated_residual (outcome (ending_of_status st) n (td_of (held_of b))) n (td_of (held_of b))
+    → is_accepted (in_completion l b (Some st) n).state.answer ≡ true
+    → told (in_completion l b (Some st) n).records ≡ events repeated_residual (outcome (ending_of_status st) n (td_of (held_of b))) n (td_of (held_of b))
 strict-events b st n l strict failed awaits h =
-    let made : (in_completion l b (Given st) n).records ≡ (process_td (in_td b.endpoint_id b.slot_id Strict st n) (held_of b)).records =
+    let made : (in_completion l b (Some st) n).records ≡ (process_td (in_td b.endpoint_id b.slot_id Strict st n) (held_of b)).records =
     completion-process_td b st n l awaits h ∙ ap (λ (mode : InMode). (process_td (in_td b.endpoint_id b.slot_id mode st n) (held_of b)).records) strict in
     ap told made
-    ∙ told-events b.endpoint_id b.slot_id Strict st n (held_of b) (counted-normal st (held_of b) (accepted-normals b (Given st) n l awaits h))
+    ∙ told-events b.endpoint_id b.slot_id Strict st n (held_of b) (counted-normal st (held_of b) (accepted-normals b (Some st) n l awaits h))
     (agreed-strict st n (asked (td_of (held_of b))) failed)
 
 -- ---- Control
 
-pub completion-realize_chain : (log : ℕ) (b : ControlBlock) (n : ℕ) → b.state ≡ AwaitingControlRequest → first_no (completion_questions log (facts_control b) SuccessfulControlIn n) ≡ 0
-    → (completion_control log b SuccessfulControlIn n).records ≡ (realize_chain (input_td b.endpoint_id b.slot_id n) (held_control b)).records
+pub completion-realize_chain : (log : ℕ) (b : ControlBlock) (n : ℕ) → b.state ≡ AwaitingControlRequest → first_no (completion_questions log (facts_control b) (Some SuccessfulControlIn) n) ≡ 0
+    → (completion_control log b (Some SuccessfulControlIn) n).records ≡ (realize_chain (input_td b.endpoint_id b.slot_id n) (held_control b)).records
 unfolding completion_control accepted ending_records
 completion-realize_chain log b n awaits none =
     ap (λ o. o.records)
-    (answered-yes (completion_questions log (facts_control b) SuccessfulControlIn n) (refused_control b) (accepted (ending_of b.state SuccessfulControlIn n) b) Accepted (sym none) refl)
-    ∙ ap (λ (state : ControlSubmissionState). (accepted (ending_of state SuccessfulControlIn n) b).records) awaits
+    (answered-yes (completion_questions log (facts_control b) (Some SuccessfulControlIn) n) (refused_control b) (accepted (ending_of b.state (Some SuccessfulControlIn) n) b) (Ok tt) (sym none) refl)
+    ∙ ap (λ (state : ControlSubmissionState). (accepted (ending_of state (Some SuccessfulControlIn) n) b).records) awaits

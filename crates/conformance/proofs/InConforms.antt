@@ -39,7 +39,7 @@ use Rattle.in_td.specs.declared.InMode.TheVariants.{AsPorted, Strict}
 use Rattle.in_td.specs.declared.InTd.{InTd}
 use Rattle.in_td.specs.declared.TdProcessed.{TdProcessed}
 use Rattle.account.specs.Strict.{is_failure}
-use Rattle.standard.specs.Xhci.{Trb, normal, stage, transfer_length, short_residual, event_data, no_op, Outcome, ended, failed, complete, cut, fate, any_on_bus, asked, repeated_residual, events_at, events_from, events, deliveries_from, halted_from}
+use Rattle.standard.specs.Xhci.{Trb, normal, stage, transfer_length, short_residual, event_data, no_op, Outcome, ended, failed, complete, cut, fate, any_on_bus, asked, repeated_residual, events_at, events_from, deliveries_from, halted_from}
 use Rattle.standard.proofs.XhciLaws.{fate-complete, fate-cut, fate-beyond, fate-failed-ended}
 use Rattle.conformance.specs.Translate.{trb_by_kind, td_of, told, wrote, in_outcome, halt_of, in_halt}
 use Rattle.conformance.proofs.PartsConform.{trb_of, Reached, Shortened, Conforms, full-reached, full-conforms, short-shortened, short-conforms, failed-events, failed-writes, passed-shortened, passed-conforms, event-reached, event-conforms, event-shortened, event-passed, no_op-reached, no_op-conforms, no_op-shortened, no_op-passed}

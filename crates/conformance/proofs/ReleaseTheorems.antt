@@ -1,6 +1,7 @@
 -- A control transfer that failed, for guests of release 5, against xHCI 1.2, 4.10.2 and 4.11.2.2: behind the Setup Stage TD's own event, the
 -- event of the Status Stage TRB where there is no data stage, and that of the Data Stage TRB, but for its residual, where the transfer
 -- failed there. Assumes nothing.
+use Rattle.std.specs.Prelude.{Option}
 use Prim.Native.Nat.{ℕ, ◌+◌, ◌-◌, ◌<◌, min}
 use mathlib.Core.Path.{◌≡◌, refl, ap, ◌∙◌}
 use mathlib.Core.Bool.{Bool, true, false, ◌&&◌, true≢false}
@@ -89,7 +90,7 @@ module _ (r : Reading) (code : ℕ) where
 -- ---- The transfer
 
 -- a completion of a block for release 5 that holds the chain, with a device's answer that fails it
-module _ (log : ℕ) (b : ControlBlock) (d : ControlRequestProcessingResult) (n : ℕ) (code : CompletionCode) (result : TrbProcessingResult) (c : Chain) where
+module _ (log : ℕ) (b : ControlBlock) (d : Option ControlRequestProcessingResult) (n : ℕ) (code : CompletionCode) (result : TrbProcessingResult) (c : Chain) where
   module _ (rule : b.release ≡ Release5) (holds : held_of b ≡ trbs_of c) (awaits : b.state ≡ AwaitingControlRequest) (fails : request_ending d n ≡ Fail code result) (none : first_no (completion_questions log (facts_of b) d n) ≡ 0) where
     told_at : (a : ℕ) → stage_address (trbs_of c) b.request.address ≡ a → told (completion log b d n).records ≡ transfer_event (code_number code) false a 0 ∷ []
     unfolding error_address

@@ -1,8 +1,7 @@
 -- Where the engine departs from the public texts: for each departure, by its number in docs/DIFFERENCES.md, the smallest call, computed on the
 -- engine's definitions and on the standard's. Assumes nothing.
-use Rattle.std.specs.Prelude.{ℕ, ◌≡◌, refl, true, false, cond, List, [], ◌∷◌, eqb}
+use Rattle.std.specs.Prelude.{ℕ, ◌≡◌, refl, true, false, cond, List, [], ◌∷◌, eqb, None, Some}
 use Rattle.trb.specs.declared.ControlRequestProcessingResult.TheVariants as device
-use Rattle.trb.specs.declared.InTrbProcessingResult.TheVariants.{Given, NoneGiven}
 use Rattle.trb.specs.declared.InTrbProcessingStatus.TheVariants as status
 use Rattle.trb.specs.declared.TransferTrbVariant.TheVariants.{Unrecognized}
 use Rattle.in_td.specs.declared.InMode.TheVariants.{Strict}
@@ -41,7 +40,7 @@ request_lengths (r ∷ rs) = cond (eqb r.kind request_kind) (r.length ∷ reques
 
 -- ---- 1: a Normal of 0 bytes with IOC; Stall, as ported
 
-pub stall-of-none-engine : in_run (in_call (normal_trb 0x1000 0x8000 0 false true false false) (Given status.Stall) 0 ∷ [])
+pub stall-of-none-engine : in_run (in_call (normal_trb 0x1000 0x8000 0 false true false false) (Some status.Stall) 0 ∷ [])
     ≡ record { events = transfer_event 1 false 0x1000 0 ∷ []; writes = []; halt = runs_on }
 unfolding in_run
 stall-of-none-engine = refl
@@ -51,14 +50,14 @@ pub stall-of-none-standard : standard_seen own_residual stalled 0 (normal 0x1000
 stall-of-none-standard = refl
 
 -- 02, R-4: in strict mode they agree
-pub stall-of-none-strict : in_run_of Strict (in_call (normal_trb 0x1000 0x8000 0 false true false false) (Given status.Stall) 0 ∷ [])
+pub stall-of-none-strict : in_run_of Strict (in_call (normal_trb 0x1000 0x8000 0 false true false false) (Some status.Stall) 0 ∷ [])
     ≡ standard_seen own_residual stalled 0 (normal 0x1000 0x8000 0 true false ∷ [])
 unfolding in_run_of
 stall-of-none-strict = refl
 
 -- ---- 2: a Normal of 8 bytes with IOC; 9 bytes come
 
-pub babble-engine : in_run (in_call (normal_trb 0x1000 0x8000 8 false true false false) (Given status.Success) 9 ∷ [])
+pub babble-engine : in_run (in_call (normal_trb 0x1000 0x8000 8 false true false false) (Some status.Success) 9 ∷ [])
     ≡ record { events = transfer_event 1 false 0x1000 0 ∷ []; writes = delivery 0x8000 8 0 ∷ []; halt = runs_on }
 unfolding in_run
 babble-engine = refl
@@ -71,8 +70,8 @@ babble-standard = refl
 
 pub passed-normal-engine :
     in_run (
-    in_call (normal_trb 0x1000 0x8000 8 true false true false) NoneGiven 0
-    ∷ in_call (normal_trb 0x1010 0x8008 16 false true false false) (Given status.Success) 3
+    in_call (normal_trb 0x1000 0x8000 8 true false true false) None 0
+    ∷ in_call (normal_trb 0x1010 0x8008 16 false true false false) (Some status.Success) 3
     ∷ []
     )
     ≡ record { events = transfer_event 13 false 0x1000 5 ∷ transfer_event 13 false 0x1010 5 ∷ []; writes = delivery 0x8000 3 0 ∷ []; halt = runs_on }
@@ -89,7 +88,7 @@ pub immediate-in-refused : in_number (normal_trb 0x1000 0x8000 4 false true fals
 unfolding in_number
 immediate-in-refused = refl
 
-pub immediate-in-engine : in_made_up (normal_trb 0x1000 0x8000 4 false true false true) (Given status.Success) 4
+pub immediate-in-engine : in_made_up (normal_trb 0x1000 0x8000 4 false true false true) (Some status.Success) 4
     ≡ record { events = transfer_event 1 false 0x1000 0 ∷ []; writes = delivery 0x8000 4 0 ∷ []; halt = runs_on }
 unfolding in_made_up
 immediate-in-engine = refl
@@ -100,7 +99,7 @@ immediate-in-standard = refl
 -- ---- 11: a chained Normal of 8 bytes with IOC, then a Setup
 
 pub dropped-normal-engine :
-    in_run (in_call (normal_trb 0x1000 0x8000 8 true true false false) NoneGiven 0 ∷ in_call (setup_stage_trb 0x1010 no_request false) NoneGiven 0 ∷ [])
+    in_run (in_call (normal_trb 0x1000 0x8000 8 true true false false) None 0 ∷ in_call (setup_stage_trb 0x1010 no_request false) None 0 ∷ [])
     ≡ record { events = transfer_event 5 false 0x1010 0 ∷ []; writes = []; halt = halts }
 unfolding in_run
 dropped-normal-engine = refl
@@ -112,7 +111,7 @@ dropped-normal-standard = refl
 
 -- ---- 14: a Normal of 8 bytes; 3 bytes come, and the device is gone
 
-pub disconnect-engine : in_run (in_call (normal_trb 0x1000 0x8000 8 false false false false) (Given status.Disconnect) 3 ∷ [])
+pub disconnect-engine : in_run (in_call (normal_trb 0x1000 0x8000 8 false false false false) (Some status.Disconnect) 3 ∷ [])
     ≡ record { events = transfer_event 4 false 0x1000 5 ∷ []; writes = delivery 0x8000 3 0 ∷ []; halt = halts }
 unfolding in_run
 disconnect-engine = refl
@@ -126,10 +125,10 @@ disconnect-standard = refl
 
 pub final-code-engine :
     told (control_run (
-    control_call (setup_stage_trb 0x1000 get_descriptor false) device.NoneGiven 0
-    ∷ control_call (data_stage_trb 0x1010 0x8000 18 false false false false true) device.NoneGiven 0
-    ∷ control_call (status_stage_trb 0x1020 true false false) device.NoneGiven 0
-    ∷ control_call (event_data_trb 0x1030 0xABCD false true) device.SuccessfulControlIn 8
+    control_call (setup_stage_trb 0x1000 get_descriptor false) None 0
+    ∷ control_call (data_stage_trb 0x1010 0x8000 18 false false false false true) None 0
+    ∷ control_call (status_stage_trb 0x1020 true false false) None 0
+    ∷ control_call (event_data_trb 0x1030 0xABCD false true) (Some device.SuccessfulControlIn) 8
     ∷ []
     )).records ≡ transfer_event 13 true 0xABCD 0 ∷ []
 unfolding control_run
@@ -149,9 +148,9 @@ final-code-standard = refl
 
 abbrev stalled_calls : List ControlCall
 stalled_calls =
-    control_call (setup_stage_trb 0x1000 get_descriptor true) device.NoneGiven 0
-    ∷ control_call (data_stage_trb 0x1010 0x8000 18 false false false false true) device.NoneGiven 0
-    ∷ control_call (status_stage_trb 0x1020 false false false) device.Stall 0
+    control_call (setup_stage_trb 0x1000 get_descriptor true) None 0
+    ∷ control_call (data_stage_trb 0x1010 0x8000 18 false false false false true) None 0
+    ∷ control_call (status_stage_trb 0x1020 false false false) (Some device.Stall) 0
     ∷ []
 
 pub control-stall-engine : told (control_run_for Release4 stalled_calls).records ≡ transfer_event 6 false 0x1000 0 ∷ []
@@ -175,8 +174,8 @@ status-stall-standard = refl
 -- without a data stage, and Setup without IOC: release 5's is the standard's
 pub no-data-stall-engine :
     told (control_run_for Release5 (
-    control_call (setup_stage_trb 0x1000 get_descriptor false) device.NoneGiven 0
-    ∷ control_call (status_stage_trb 0x1010 false false false) device.Stall 0
+    control_call (setup_stage_trb 0x1000 get_descriptor false) None 0
+    ∷ control_call (status_stage_trb 0x1010 false false false) (Some device.Stall) 0
     ∷ []
     )).records ≡ transfer_event 6 false 0x1010 0 ∷ []
 unfolding control_run_for
@@ -189,7 +188,7 @@ no-data-stall-standard = refl
 
 -- ---- 6: a No Op with IOC
 
-pub no-op-engine : told (control_run (control_call (no_op_trb 0x1000 false true) device.NoneGiven 0 ∷ [])).records ≡ transfer_event 5 false 0x1000 0 ∷ []
+pub no-op-engine : told (control_run (control_call (no_op_trb 0x1000 false true) None 0 ∷ [])).records ≡ transfer_event 5 false 0x1000 0 ∷ []
 unfolding control_run
 no-op-engine = refl
 
@@ -200,9 +199,9 @@ no-op-standard = refl
 
 pub length-asked-engine :
     request_lengths (control_run (
-    control_call (setup_stage_trb 0x1000 get_descriptor false) device.NoneGiven 0
-    ∷ control_call (data_stage_trb 0x1010 0x8000 18 false false false false true) device.NoneGiven 0
-    ∷ control_call (status_stage_trb 0x1020 false false false) device.SuccessfulControlIn 18
+    control_call (setup_stage_trb 0x1000 get_descriptor false) None 0
+    ∷ control_call (data_stage_trb 0x1010 0x8000 18 false false false false true) None 0
+    ∷ control_call (status_stage_trb 0x1020 false false false) (Some device.SuccessfulControlIn) 18
     ∷ []
     )).records ≡ 18 ∷ []
 unfolding control_run
@@ -217,9 +216,9 @@ length-asked-standard = refl
 abbrev restarted : ControlRan
 restarted =
     control_run (
-    control_call (setup_stage_trb 0x1000 get_descriptor false) device.NoneGiven 0
-    ∷ control_call (data_stage_trb 0x1010 0x8000 18 false true false false true) device.NoneGiven 0
-    ∷ control_call (setup_stage_trb 0x1020 get_descriptor false) device.NoneGiven 0
+    control_call (setup_stage_trb 0x1000 get_descriptor false) None 0
+    ∷ control_call (data_stage_trb 0x1010 0x8000 18 false true false false true) None 0
+    ∷ control_call (setup_stage_trb 0x1020 get_descriptor false) None 0
     ∷ []
     )
 
@@ -237,10 +236,10 @@ restart-standard = refl
 abbrev immediate_out : ControlRan
 immediate_out =
     control_run (
-    control_call (setup_stage_trb 0x1000 set_report false) device.NoneGiven 0
-    ∷ control_call (data_stage_trb 0x1010 0x1122334455667788 12 true false false true false) device.NoneGiven 0
-    ∷ control_call (event_data_trb 0x1020 0xABCD false true) device.NoneGiven 0
-    ∷ control_call (status_stage_trb 0x1030 false false false) device.SuccessfulControlOut 0
+    control_call (setup_stage_trb 0x1000 set_report false) None 0
+    ∷ control_call (data_stage_trb 0x1010 0x1122334455667788 12 true false false true false) None 0
+    ∷ control_call (event_data_trb 0x1020 0xABCD false true) None 0
+    ∷ control_call (status_stage_trb 0x1030 false false false) (Some device.SuccessfulControlOut) 0
     ∷ []
     )
 
@@ -260,10 +259,10 @@ immediate-out-standard = refl
 abbrev unrecognized_between : ControlRan
 unrecognized_between =
     control_run (
-    control_call (setup_stage_trb 0x1000 get_descriptor false) device.NoneGiven 0
-    ∷ control_call (data_stage_trb 0x1010 0x8000 18 false false false false true) device.NoneGiven 0
-    ∷ control_call (unrecognized_trb 0x1020) device.NoneGiven 0
-    ∷ control_call (status_stage_trb 0x1030 false false false) device.SuccessfulControlIn 18
+    control_call (setup_stage_trb 0x1000 get_descriptor false) None 0
+    ∷ control_call (data_stage_trb 0x1010 0x8000 18 false false false false true) None 0
+    ∷ control_call (unrecognized_trb 0x1020) None 0
+    ∷ control_call (status_stage_trb 0x1030 false false false) (Some device.SuccessfulControlIn) 18
     ∷ []
     )
 
@@ -283,9 +282,9 @@ unrecognized-standard k = elim [ ]
 
 pub chained-end-engine :
     request_lengths (control_run (
-    control_call (setup_stage_trb 0x1000 get_descriptor false) device.NoneGiven 0
-    ∷ control_call (status_stage_trb 0x1010 true false false) device.NoneGiven 0
-    ∷ control_call (event_data_trb 0x1020 0xABCD true true) device.SuccessfulControlIn 0
+    control_call (setup_stage_trb 0x1000 get_descriptor false) None 0
+    ∷ control_call (status_stage_trb 0x1010 true false false) None 0
+    ∷ control_call (event_data_trb 0x1020 0xABCD true true) (Some device.SuccessfulControlIn) 0
     ∷ []
     )).records ≡ 0 ∷ []
 unfolding control_run
@@ -299,10 +298,10 @@ chained-end-standard = refl
 
 pub dropped-chain-engine :
     told (control_run (
-    control_call (setup_stage_trb 0x1000 get_descriptor false) device.NoneGiven 0
-    ∷ control_call (data_stage_trb 0x1010 0x8000 18 true false false false true) device.NoneGiven 0
-    ∷ control_call (event_data_trb 0x1020 0xABCD true true) device.NoneGiven 0
-    ∷ control_call (setup_stage_trb 0x1030 get_descriptor false) device.NoneGiven 0
+    control_call (setup_stage_trb 0x1000 get_descriptor false) None 0
+    ∷ control_call (data_stage_trb 0x1010 0x8000 18 true false false false true) None 0
+    ∷ control_call (event_data_trb 0x1020 0xABCD true true) None 0
+    ∷ control_call (setup_stage_trb 0x1030 get_descriptor false) None 0
     ∷ []
     )).records ≡ transfer_event 1 false 0x1020 0 ∷ []
 unfolding control_run
@@ -317,9 +316,9 @@ dropped-chain-standard = refl
 abbrev turned_round : ControlRan
 turned_round =
     control_run (
-    control_call (setup_stage_trb 0x1000 get_descriptor false) device.NoneGiven 0
-    ∷ control_call (data_stage_trb 0x1010 0x8000 18 false false false false false) device.NoneGiven 0
-    ∷ control_call (status_stage_trb 0x1020 false false true) device.SuccessfulControlIn 18
+    control_call (setup_stage_trb 0x1000 get_descriptor false) None 0
+    ∷ control_call (data_stage_trb 0x1010 0x8000 18 false false false false false) None 0
+    ∷ control_call (status_stage_trb 0x1020 false false true) (Some device.SuccessfulControlIn) 18
     ∷ []
     )
 
@@ -335,9 +334,9 @@ direction-standard = refl
 
 pub no-length-engine :
     request_lengths (control_run (
-    control_call (setup_stage_trb 0x1000 get_nothing false) device.NoneGiven 0
-    ∷ control_call (data_stage_trb 0x1010 0x8000 18 false false false false true) device.NoneGiven 0
-    ∷ control_call (status_stage_trb 0x1020 false false false) device.SuccessfulControlIn 18
+    control_call (setup_stage_trb 0x1000 get_nothing false) None 0
+    ∷ control_call (data_stage_trb 0x1010 0x8000 18 false false false false true) None 0
+    ∷ control_call (status_stage_trb 0x1020 false false false) (Some device.SuccessfulControlIn) 18
     ∷ []
     )).records ≡ 18 ∷ []
 unfolding control_run
@@ -348,8 +347,8 @@ no-length-standard = refl
 
 pub no-data-engine :
     request_lengths (control_run (
-    control_call (setup_stage_trb 0x1000 get_descriptor false) device.NoneGiven 0
-    ∷ control_call (status_stage_trb 0x1010 false false true) device.SuccessfulControlIn 0
+    control_call (setup_stage_trb 0x1000 get_descriptor false) None 0
+    ∷ control_call (status_stage_trb 0x1010 false false true) (Some device.SuccessfulControlIn) 0
     ∷ []
     )).records ≡ 0 ∷ []
 unfolding control_run
@@ -363,9 +362,9 @@ no-data-standard = refl
 abbrev overfilled : ControlRan
 overfilled =
     control_run (
-    control_call (setup_stage_trb 0x1000 get_descriptor false) device.NoneGiven 0
-    ∷ control_call (data_stage_trb 0x1010 0x8000 8 false true false false true) device.NoneGiven 0
-    ∷ control_call (status_stage_trb 0x1020 false false false) device.SuccessfulControlIn 9
+    control_call (setup_stage_trb 0x1000 get_descriptor false) None 0
+    ∷ control_call (data_stage_trb 0x1010 0x8000 8 false true false false true) None 0
+    ∷ control_call (status_stage_trb 0x1020 false false false) (Some device.SuccessfulControlIn) 9
     ∷ []
     )
 
@@ -385,9 +384,9 @@ control-babble-standard = refl
 abbrev stalled_after_some : ControlRan
 stalled_after_some =
     control_run (
-    control_call (setup_stage_trb 0x1000 get_descriptor false) device.NoneGiven 0
-    ∷ control_call (data_stage_trb 0x1010 0x8000 18 false false false false true) device.NoneGiven 0
-    ∷ control_call (status_stage_trb 0x1020 false false false) device.Stall 8
+    control_call (setup_stage_trb 0x1000 get_descriptor false) None 0
+    ∷ control_call (data_stage_trb 0x1010 0x8000 18 false false false false true) None 0
+    ∷ control_call (status_stage_trb 0x1020 false false false) (Some device.Stall) 8
     ∷ []
     )
 
@@ -414,7 +413,7 @@ long-buffer-engine = refl
 pub long-buffer-standard : buffer_allowed 0x8000 65537 ≡ false
 long-buffer-standard = refl
 
-pub crossing-buffer-engine : in_run (in_call (normal_trb 0x1000 0xfff8 16 false true false false) (Given status.Success) 16 ∷ [])
+pub crossing-buffer-engine : in_run (in_call (normal_trb 0x1000 0xfff8 16 false true false false) (Some status.Success) 16 ∷ [])
     ≡ record { events = transfer_event 1 false 0x1000 0 ∷ []; writes = delivery 0xfff8 16 0 ∷ []; halt = runs_on }
 unfolding in_run
 crossing-buffer-engine = refl

@@ -1,14 +1,13 @@
 -- Calls on a fresh endpoint, run on the engine's definitions, and what the public texts say of the same TRBs, in the same words.
 -- Endpoint 3, slot 2; guest memory as a script has it at its start, 0x40000 bytes at 0x8000. Assumes nothing.
-use Rattle.std.specs.Prelude.{ℕ, Bool, false, List, [], ◌∷◌, ◌++◌}
-use Rattle.std.proofs.Math.Option.{Option, none, some}
+use Rattle.std.specs.Prelude.{ℕ, Bool, false, List, [], ◌∷◌, ◌++◌, Err, Ok, Option}
+use Rattle.std.proofs.Math.Option.{Option as Maybe, none, some}
 use Rattle.trb.specs.Answers.{number_of, refusal_of}
 use Rattle.trb.specs.Limits.{min_log, max_collected}
 use Rattle.trb.specs.Questions.{first_no}
-use Rattle.trb.specs.declared.CompletionAnswer.{CompletionAnswer}
-use Rattle.trb.specs.declared.CompletionAnswer.TheVariants.{Completed, Refused}
+use Rattle.trb.specs.Answers.{CompletionAnswer}
 use Rattle.trb.specs.declared.ControlRequestProcessingResult.{ControlRequestProcessingResult}
-use Rattle.trb.specs.declared.InTrbProcessingResult.{InTrbProcessingResult}
+use Rattle.trb.specs.declared.InTrbProcessingStatus.{InTrbProcessingStatus}
 use Rattle.trb.specs.declared.TdBasedNormalSubmissionState.TheVariants.{AwaitingRealTransfer}
 use Rattle.trb.specs.declared.TransferTrb.{TransferTrb}
 use Rattle.trb.specs.declared.TransferTrbVariant.{TransferTrbVariant}
@@ -63,13 +62,13 @@ pub record Seen : Type 0 where
   pub halt : Halt
 
 abbrev halt_answered : CompletionAnswer → Halt
-halt_answered (Completed r) = halt_of r
-halt_answered (Refused q) = runs_on
+halt_answered (Ok r) = halt_of r
+halt_answered (Err q) = runs_on
 
 abbrev pub seen : List Record → Halt → Seen
 seen rs h = record { events = told rs; writes = wrote rs; halt = h }
 
-abbrev halt_there : Option ℕ → Halt
+abbrev halt_there : Maybe ℕ → Halt
 halt_there none = runs_on
 halt_there (some a) = halts_at a
 
@@ -91,7 +90,7 @@ memory = memory_of 0x8000 [] 0 []
 
 -- a submission, and its completion with a result and n bytes
 pub data InCall : Type 0 where
-  in_call : TransferTrb → InTrbProcessingResult → (n : ℕ) → InCall
+  in_call : TransferTrb → Option InTrbProcessingStatus → (n : ℕ) → InCall
 
 unfoldable pub in_from : InBlock → List Record → Halt → List InCall → Seen
 in_from b rs h [] = seen rs h
@@ -115,7 +114,7 @@ unfolding in_submission in_submission_questions outcome_of first_no refusal_of i
 in_number t = number_of (in_submission min_log (fresh_block (record { 0 = 3 }) (record { 0 = 2 }) AsPorted) t window).state.answer
 
 -- the completion of a made-up block that holds this TRB alone and awaits the device
-unfoldable pub in_made_up : TransferTrb → InTrbProcessingResult → (n : ℕ) → Seen
+unfoldable pub in_made_up : TransferTrb → Option InTrbProcessingStatus → (n : ℕ) → Seen
 unfolding in_completion in_completion_questions first_no transferred ids_in_range in_sound sound_trb all cleared walk process_trb handle_normal put_dma realize_dma
 in_made_up t r n =
     let p = in_completion min_log (with_state (stored (fresh_block (record { 0 = 3 }) (record { 0 = 2 }) AsPorted) t) AwaitingRealTransfer) r n in
@@ -124,7 +123,7 @@ in_made_up t r n =
 -- ---- Control
 
 pub data ControlCall : Type 0 where
-  control_call : TransferTrb → ControlRequestProcessingResult → (n : ℕ) → ControlCall
+  control_call : TransferTrb → Option ControlRequestProcessingResult → (n : ℕ) → ControlCall
 
 -- the block, and the records of all calls
 pub record ControlRan : Type 0 where

@@ -1,6 +1,7 @@
 -- The TRBs of a control transfer, submitted one after the other, are held one behind the other, and the last one makes the request. By induction over the list, with the
 -- TRBs that are held already; what the phase table leads to a request is taken and kept up to the last TRB. Assumes nothing.
-use Prim.Native.Nat.{ℕ, ◌+◌, ◌<◌}
+use Rattle.std.specs.Prelude.{None}
+use Prim.Native.Nat.{ℕ, ◌<◌}
 use mathlib.Core.Bool.{Bool, true, false, cond, false≢true}
 use mathlib.Core.Path.{◌≡◌, refl, sym, ap, ◌∙◌}
 use mathlib.Core.List.{List, [], ◌∷◌, ◌++◌, append_assoc, map}
@@ -10,7 +11,6 @@ use lib.ListN.{length, take, length-set}
 use lib.Seq.{take-suc-set}
 use Rattle.trb.specs.Limits.{max_held}
 use Rattle.trb.specs.Questions.{first_no}
-use Rattle.trb.specs.declared.ControlRequestProcessingResult.TheVariants.{NoneGiven}
 use Rattle.trb.specs.declared.ControlSubmissionState.TheVariants.{NoTrbSubmitted, CollectingTd, AwaitingControlRequest}
 use Rattle.trb.specs.declared.ControlTransferState.{ControlTransferState}
 use Rattle.trb.specs.declared.ControlTransferState.TheVariants.{ExpectSetupStageTrb, MaybeDataStageTrb, MoreData, ExpectStatusStageTrb, ExpectFinalEventDataTrb}
@@ -40,8 +40,8 @@ use Rattle.control_questions.proofs.SubmissionLaws.{passed, room-held}
 use Rattle.control_transfer.specs.Transfers.{transfer_after}
 use Rattle.control_endpoint.specs.Completion as completing
 use Rattle.control_endpoint.specs.Submission as submitting
-use Rattle.control_endpoint.specs.declared.Completed.{Completed}
-use Rattle.control_endpoint.specs.declared.Submitted.{Submitted}
+use Rattle.control_endpoint.specs.Returned.{Completed}
+use Rattle.control_endpoint.specs.Returned.{Submitted}
 use Rattle.conformance.specs.Requests.{transfer_behind}
 use Rattle.conformance_control_calls.specs.Transfers.{Lent, submitted, collecting, EachAccepted, Ran, calls_of, Ready, Requested}
 
@@ -114,7 +114,7 @@ module _ (lent : Lent) (b : ControlBlock) (t : TransferTrb) (places : length b.t
     -- ---- Its completion, while TRBs are being collected
 
     module _ (waits : state_after o t.addr ≡ CollectingTd)
-        (yes : first_no (completion_questions lent.log (facts_of (submitted lent b t).state.block) NoneGiven 0) ≡ 0) where
+        (yes : first_no (completion_questions lent.log (facts_of (submitted lent b t).state.block) None 0) ≡ 0) where
       abbrev between : ControlBlock
       between = advanced (stored b t) (transfer_after o t.variant t.addr (transfer_of b)) NoTrbSubmitted
 
@@ -219,7 +219,7 @@ module _ (lent : Lent) (b : ControlBlock) (us : List TransferTrb) (holds-us : he
     unfolding EachAccepted
     first-yes = all.0
 
-    kept-yes : first_no (completion_questions lent.log (facts_of (submitted lent b t).state.block) NoneGiven 0) ≡ 0
+    kept-yes : first_no (completion_questions lent.log (facts_of (submitted lent b t).state.block) None 0) ≡ 0
     unfolding EachAccepted
     kept-yes = all.1.0
 

@@ -1,5 +1,6 @@
 -- A control transfer by calls conforms: the TRBs of every transfer of 4.11.2.2 lead the phase table to a request, so they are held and the device is awaited; and its
 -- completion walks the TRBs held. Assumes nothing.
+use Rattle.std.specs.Prelude.{None, Option, Some}
 use Prim.Native.Nat.{ℕ, min}
 use mathlib.Core.Bool.{Bool, true, false, false≢true}
 use mathlib.Core.Path.{◌≡◌, refl, sym, ap, ◌∙◌, subst}
@@ -38,7 +39,7 @@ use Rattle.held.specs.Places.{blank_trb, cleared}
 use Rattle.control_questions.specs.Completion.{is_given, completion_questions}
 use Rattle.control_transfer.specs.Transfers.{transfer_after}
 use Rattle.control_endpoint.specs.Completion.{block_behind, accepted, completion}
-use Rattle.control_endpoint.specs.declared.Completed.{Completed}
+use Rattle.control_endpoint.specs.Returned.{Completed}
 use Rattle.standard.specs.Control.{Kind, IsControl, outgoing}
 use Rattle.standard.specs.Usb.{Setup, to_host}
 use Rattle.conformance.specs.Phases.{OfKinds}
@@ -104,31 +105,31 @@ module _ (c : Chain) where
 -- ---- The completion
 
 -- of a block that awaits the device
-completion-done : (log : ℕ) (b : ControlBlock) (r : ControlRequestProcessingResult) (n : ℕ) → b.state ≡ AwaitingControlRequest → first_no (completion_questions log (facts_of b) r n) ≡ 0
+completion-done : (log : ℕ) (b : ControlBlock) (r : Option ControlRequestProcessingResult) (n : ℕ) → b.state ≡ AwaitingControlRequest → first_no (completion_questions log (facts_of b) r n) ≡ 0
     → completion log b r n ≡ accepted (request_ending r n) b
 unfolding completion
 completion-done log b r n awaits none = rw none (ap (λ (x : ControlSubmissionState). accepted (ending_of x r n) b) awaits)
 
-completion-ending : (log : ℕ) (b : ControlBlock) (r : ControlRequestProcessingResult) (n : ℕ) → b.state ≡ AwaitingControlRequest → first_no (completion_questions log (facts_of b) r n) ≡ 0
+completion-ending : (log : ℕ) (b : ControlBlock) (r : Option ControlRequestProcessingResult) (n : ℕ) → b.state ≡ AwaitingControlRequest → first_no (completion_questions log (facts_of b) r n) ≡ 0
     → (completion log b r n).records ≡ ending_records (request_ending r n) (error_address b) b.endpoint_id b.slot_id (held_of b)
 unfolding accepted
 completion-ending log b r n awaits none = ap (λ (o : Out Completed). o.records) (completion-done log b r n awaits none)
 
 module _ (b : ControlBlock) (c : Chain) (awaits : b.state ≡ AwaitingControlRequest) (held : held_of b ≡ trbs_of c) (log n : ℕ) where
-  received_as : first_no (completion_questions log (facts_of b) SuccessfulControlIn n) ≡ 0 → ReceivedAs c n (completion log b SuccessfulControlIn n).records
+  received_as : first_no (completion_questions log (facts_of b) (Some SuccessfulControlIn) n) ≡ 0 → ReceivedAs c n (completion log b (Some SuccessfulControlIn) n).records
   unfolding ending_records
   received_as none =
-      let made : (completion log b SuccessfulControlIn n).records ≡ (realize_chain (input_td b.endpoint_id b.slot_id n) (trbs_of c)).records =
-      completion-ending log b SuccessfulControlIn n awaits none
+      let made : (completion log b (Some SuccessfulControlIn) n).records ≡ (realize_chain (input_td b.endpoint_id b.slot_id n) (trbs_of c)).records =
+      completion-ending log b (Some SuccessfulControlIn) n awaits none
       ∙ ap (λ (ts : List TransferTrb). (realize_chain (input_td b.endpoint_id b.slot_id n) ts).records) held in
       subst (ReceivedAs c n) (sym made)
       (record { events = receiving.told-chain_events b.endpoint_id b.slot_id n c; writes = receiving.wrote-deliveries b.endpoint_id b.slot_id n c })
 
-  sent-as : first_no (completion_questions log (facts_of b) SuccessfulControlOut n) ≡ 0 → SentAs c (completion log b SuccessfulControlOut n).records
+  sent-as : first_no (completion_questions log (facts_of b) (Some SuccessfulControlOut) n) ≡ 0 → SentAs c (completion log b (Some SuccessfulControlOut) n).records
   unfolding ending_records
   sent-as none =
-      let made : (completion log b SuccessfulControlOut n).records ≡ (realize_chain (output_td b.endpoint_id b.slot_id) (trbs_of c)).records =
-      completion-ending log b SuccessfulControlOut n awaits none
+      let made : (completion log b (Some SuccessfulControlOut) n).records ≡ (realize_chain (output_td b.endpoint_id b.slot_id) (trbs_of c)).records =
+      completion-ending log b (Some SuccessfulControlOut) n awaits none
       ∙ ap (λ (ts : List TransferTrb). (realize_chain (output_td b.endpoint_id b.slot_id) ts).records) held in
       subst (SentAs c) (sym made)
       (record { events = sending.told-sent_whole b.endpoint_id b.slot_id c; writes = sending.wrote_none b.endpoint_id b.slot_id c })
@@ -140,7 +141,7 @@ unfolding cleared
 length-cleared n xs =
     length-append (replicate (min n (length xs)) blank_trb) (drop n xs) ∙ omega (arith, length-replicate (min n (length xs)) blank_trb, length-drop n xs)
 
-ready-behind : (log : ℕ) (b : ControlBlock) (r : ControlRequestProcessingResult) (n : ℕ) → b.state ≡ AwaitingControlRequest → b.phase ≡ ExpectSetupStageTrb → length b.trbs ≡ max_held
+ready-behind : (log : ℕ) (b : ControlBlock) (r : Option ControlRequestProcessingResult) (n : ℕ) → b.state ≡ AwaitingControlRequest → b.phase ≡ ExpectSetupStageTrb → length b.trbs ≡ max_held
     → is_given r ≡ true → first_no (completion_questions log (facts_of b) r n) ≡ 0 → Ready (completion log b r n).state.block
 unfolding accepted block_behind
 ready-behind log b r n awaits phase places given none =
@@ -149,13 +150,13 @@ ready-behind log b r n awaits phase places given none =
     emptied-places : length (cleared b.held b.trbs) ≡ max_held
     emptied-places = length-cleared b.held b.trbs ∙ places
 
-    by_result : (r : ControlRequestProcessingResult) → is_given r ≡ true → Ready (block_behind (request_ending r n) b)
-    by_result device.NoneGiven h = absurd (false≢true h)
-    by_result device.Disconnect h = record { due = refl; phase = ap (λ (x : ControlSubmissionState). phase_behind x b.phase) awaits ∙ phase; empty = refl; places = emptied-places }
-    by_result device.Stall h = record { due = refl; phase = ap (λ (x : ControlSubmissionState). phase_behind x b.phase) awaits ∙ phase; empty = refl; places = emptied-places }
-    by_result device.TransactionError h = record { due = refl; phase = ap (λ (x : ControlSubmissionState). phase_behind x b.phase) awaits ∙ phase; empty = refl; places = emptied-places }
-    by_result device.SuccessfulControlIn h = record { due = refl; phase = ap (λ (x : ControlSubmissionState). phase_behind x b.phase) awaits ∙ phase; empty = refl; places = emptied-places }
-    by_result device.SuccessfulControlOut h = record { due = refl; phase = ap (λ (x : ControlSubmissionState). phase_behind x b.phase) awaits ∙ phase; empty = refl; places = emptied-places }
+    by_result : (r : Option ControlRequestProcessingResult) → is_given r ≡ true → Ready (block_behind (request_ending r n) b)
+    by_result None h = absurd (false≢true h)
+    by_result (Some device.Disconnect) h = record { due = refl; phase = ap (λ (x : ControlSubmissionState). phase_behind x b.phase) awaits ∙ phase; empty = refl; places = emptied-places }
+    by_result (Some device.Stall) h = record { due = refl; phase = ap (λ (x : ControlSubmissionState). phase_behind x b.phase) awaits ∙ phase; empty = refl; places = emptied-places }
+    by_result (Some device.TransactionError) h = record { due = refl; phase = ap (λ (x : ControlSubmissionState). phase_behind x b.phase) awaits ∙ phase; empty = refl; places = emptied-places }
+    by_result (Some device.SuccessfulControlIn) h = record { due = refl; phase = ap (λ (x : ControlSubmissionState). phase_behind x b.phase) awaits ∙ phase; empty = refl; places = emptied-places }
+    by_result (Some device.SuccessfulControlOut) h = record { due = refl; phase = ap (λ (x : ControlSubmissionState). phase_behind x b.phase) awaits ∙ phase; empty = refl; places = emptied-places }
 
 -- ---- The theorems
 

@@ -1,9 +1,9 @@
 -- A control transfer by calls: each TRB is submitted, and while TRBs are being collected its completion is asked for, with no device result. Assumes nothing.
-use Rattle.std.specs.Prelude.{ℕ, Bool, true, false, ◌≡◌, List, [], ◌∷◌, ◌++◌, length}
+use Rattle.std.specs.Prelude.{ℕ, Bool, true, false, ◌≡◌, List, [], ◌∷◌, ◌++◌, length, None, Option, Some}
 use Rattle.trb.specs.Limits.{max_held}
 use Rattle.trb.specs.Questions.{first_no}
 use Rattle.trb.specs.declared.ControlRequestProcessingResult.{ControlRequestProcessingResult}
-use Rattle.trb.specs.declared.ControlRequestProcessingResult.TheVariants.{NoneGiven, SuccessfulControlIn, SuccessfulControlOut}
+use Rattle.trb.specs.declared.ControlRequestProcessingResult.TheVariants.{SuccessfulControlIn, SuccessfulControlOut}
 use Rattle.trb.specs.declared.ControlSubmissionState.TheVariants.{NoTrbSubmitted, AwaitingControlRequest}
 use Rattle.trb.specs.declared.ControlTransferState.TheVariants.{ExpectSetupStageTrb}
 use Rattle.trb.specs.declared.TransferTrb.{TransferTrb}
@@ -21,8 +21,8 @@ use Rattle.control_block.specs.declared.ControlBlock.{ControlBlock}
 use Rattle.control_questions.specs.Completion.{is_given, completion_questions}
 use Rattle.control_endpoint.specs.Completion.{completion}
 use Rattle.control_endpoint.specs.Submission.{questions_of, submission, bytes_collected}
-use Rattle.control_endpoint.specs.declared.Completed.{Completed}
-use Rattle.control_endpoint.specs.declared.Submitted.{Submitted}
+use Rattle.control_endpoint.specs.Returned.{Completed}
+use Rattle.control_endpoint.specs.Returned.{Submitted}
 use Rattle.standard.specs.Control.{control_events, sent_whole, Source, buffer, immediate, immediate_allowed, outgoing}
 use Rattle.standard.specs.Usb.{Setup, to_host}
 use Rattle.standard.specs.Xhci.{repeated_residual, deliveries}
@@ -41,7 +41,7 @@ submitted lent b t = submission lent.log lent.collect b t lent.regions
 
 -- the completion behind it, while TRBs are being collected
 abbrev pub collecting : Lent → ControlBlock → TransferTrb → Out Completed
-collecting lent b t = completion lent.log (submitted lent b t).state.block NoneGiven 0
+collecting lent b t = completion lent.log (submitted lent b t).state.block None 0
 
 -- every call is accepted: each question is answered with yes
 unfoldable pub EachAccepted : Lent → ControlBlock → List TransferTrb → Type 0
@@ -49,7 +49,7 @@ EachAccepted lent b [] = Unit {0}
 EachAccepted lent b (t ∷ []) = first_no (questions_of lent.log lent.collect b t lent.regions) ≡ 0
 EachAccepted lent b (t ∷ u ∷ ts) =
     (first_no (questions_of lent.log lent.collect b t lent.regions) ≡ 0)
-    × ((first_no (completion_questions lent.log (facts_of (submitted lent b t).state.block) NoneGiven 0) ≡ 0) × EachAccepted lent (collecting lent b t).state.block (u ∷ ts))
+    × ((first_no (completion_questions lent.log (facts_of (submitted lent b t).state.block) None 0) ≡ 0) × EachAccepted lent (collecting lent b t).state.block (u ∷ ts))
 
 -- the block behind the last submission, and what all calls logged
 pub record Ran : Type 0 where
@@ -140,10 +140,10 @@ pub record Conforms (lent : Lent) (b : ControlBlock) (ts : List TransferTrb) : T
   -- 4.9.1, 6.4.1.1: what an OUT transfer collects are the bytes that go out
   pub collected : (m : Memory) → lent.regions ≡ regions_of m → (p : Setup) (ioc : Bool) → Sized p → chain.setup ≡ setup_trb p ioc → to_host p ≡ false
       → all allowed (sources_of ts) ≡ true → collected_by lent m b ts ≡ outgoing (bytes_at m) (sources_of ts)
-  pub received : (log n : ℕ) → first_no (completion_questions log (facts_of (calls_of lent b ts).block) SuccessfulControlIn n) ≡ 0
-      → ReceivedAs chain n (completion log (calls_of lent b ts).block SuccessfulControlIn n).records
+  pub received : (log n : ℕ) → first_no (completion_questions log (facts_of (calls_of lent b ts).block) (Some SuccessfulControlIn) n) ≡ 0
+      → ReceivedAs chain n (completion log (calls_of lent b ts).block (Some SuccessfulControlIn) n).records
   -- behind whatever the device gave, the block is ready for another
-  pub ready : (log : ℕ) (r : ControlRequestProcessingResult) (n : ℕ) → is_given r ≡ true → first_no (completion_questions log (facts_of (calls_of lent b ts).block) r n) ≡ 0
+  pub ready : (log : ℕ) (r : Option ControlRequestProcessingResult) (n : ℕ) → is_given r ≡ true → first_no (completion_questions log (facts_of (calls_of lent b ts).block) r n) ≡ 0
       → Ready (completion log (calls_of lent b ts).block r n).state.block
-  pub sent : (log n : ℕ) → first_no (completion_questions log (facts_of (calls_of lent b ts).block) SuccessfulControlOut n) ≡ 0
-      → SentAs chain (completion log (calls_of lent b ts).block SuccessfulControlOut n).records
+  pub sent : (log n : ℕ) → first_no (completion_questions log (facts_of (calls_of lent b ts).block) (Some SuccessfulControlOut) n) ≡ 0
+      → SentAs chain (completion log (calls_of lent b ts).block (Some SuccessfulControlOut) n).records

@@ -1,10 +1,9 @@
 -- A TD by calls on an IN endpoint, in the words of xHCI 1.2. Assumes nothing.
-use Rattle.std.specs.Prelude.{ℕ, ◌≤◌, Bool, true, false, ◌≡◌, List, ◌++◌, map, length}
+use Rattle.std.specs.Prelude.{ℕ, ◌≤◌, Bool, true, false, ◌≡◌, List, ◌++◌, map, length, Err, Ok}
 use Rattle.trb.specs.Limits.{max_held, max_data, min_log}
 use Rattle.trb.specs.Questions.{first_no}
 use Rattle.trb.specs.Trbs.{chain_of}
-use Rattle.trb.specs.declared.CompletionAnswer.{CompletionAnswer}
-use Rattle.trb.specs.declared.CompletionAnswer.TheVariants.{Completed, Refused}
+use Rattle.trb.specs.Answers.{CompletionAnswer}
 use Rattle.trb.specs.declared.TdBasedNormalSubmissionState.TheVariants.{SubmissionDue}
 use Rattle.trb.specs.declared.TransferTrb.{TransferTrb}
 use Rattle.call_log.specs.Calls.{Out}
@@ -27,8 +26,8 @@ chains ts = map (λ (t : TransferTrb). chain_of t.variant) ts
 
 -- what the last completion says of the endpoint
 abbrev pub halt_answered : CompletionAnswer → Halt
-halt_answered (Completed r) = halt_of r
-halt_answered (Refused q) = runs_on
+halt_answered (Ok r) = halt_of r
+halt_answered (Err q) = runs_on
 
 -- a sound block that holds nothing, a submission due; logs of l bytes; regions that share no address
 pub record Ready (l : ℕ) (b : InBlock) (regions : Regions) : Type 0 where

@@ -1,5 +1,5 @@
 -- 01, Control endpoint: what a completion does. Assumes nothing.
-use Rattle.std.specs.Prelude.{ℕ, true, false}
+use Rattle.std.specs.Prelude.{ℕ, true, false, None, Option, Some}
 use Rattle.trb.specs.declared.CompletionCode.TheVariants.{UsbTransactionError, StallError}
 use Rattle.trb.specs.declared.ControlRequestProcessingResult.{ControlRequestProcessingResult}
 use Rattle.trb.specs.declared.ControlRequestProcessingResult.TheVariants as device
@@ -13,16 +13,16 @@ use Rattle.control_block.specs.declared.Ending.{Ending}
 use Rattle.control_block.specs.declared.Ending.TheVariants.{KeepCollecting, ReportBadTrb, Fail, Realize}
 
 -- Stall, TransactionError, Disconnect: code 6, 4, 4. Data counts only with SuccessfulControlIn. (That none is given is refused by question 8.)
-abbrev pub request_ending : ControlRequestProcessingResult → ℕ → Ending
-request_ending device.NoneGiven n = KeepCollecting
-request_ending device.Disconnect n = Fail UsbTransactionError result.Disconnect
-request_ending device.Stall n = Fail StallError result.Stall
-request_ending device.TransactionError n = Fail UsbTransactionError result.TransactionError
-request_ending device.SuccessfulControlIn n = Realize true n
-request_ending device.SuccessfulControlOut n = Realize false 0
+abbrev pub request_ending : Option ControlRequestProcessingResult → ℕ → Ending
+request_ending None n = KeepCollecting
+request_ending (Some device.Disconnect) n = Fail UsbTransactionError result.Disconnect
+request_ending (Some device.Stall) n = Fail StallError result.Stall
+request_ending (Some device.TransactionError) n = Fail UsbTransactionError result.TransactionError
+request_ending (Some device.SuccessfulControlIn) n = Realize true n
+request_ending (Some device.SuccessfulControlOut) n = Realize false 0
 
 -- TRBs still being collected are kept; a bad TRB is reported. (A submission that is due is refused by question 3.)
-abbrev pub ending_of : ControlSubmissionState → ControlRequestProcessingResult → ℕ → Ending
+abbrev pub ending_of : ControlSubmissionState → Option ControlRequestProcessingResult → ℕ → Ending
 ending_of NoTrbSubmitted r n = KeepCollecting
 ending_of CollectingTd r n = KeepCollecting
 ending_of (ParserError a) r n = ReportBadTrb a

@@ -204,32 +204,35 @@ pub enum Ending {
 }
 
 // What the device's answer to a request comes to.
-fn request_ending(res: ControlRequestProcessingResult, data_length: u32) -> Ending
+fn request_ending(res: Option<ControlRequestProcessingResult>, data_length: u32) -> Ending
     ensures { result ≡ request_ending res data_length }
 {
     match res {
-        ControlRequestProcessingResult::NoneGiven => Ending::KeepCollecting,
-        ControlRequestProcessingResult::Disconnect => Ending::Fail(
+        None => Ending::KeepCollecting,
+        Some(ControlRequestProcessingResult::Disconnect) => Ending::Fail(
             CompletionCode::UsbTransactionError,
             TrbProcessingResult::Disconnect,
         ),
-        ControlRequestProcessingResult::Stall => Ending::Fail(
+        Some(ControlRequestProcessingResult::Stall) => Ending::Fail(
             CompletionCode::StallError,
             TrbProcessingResult::Stall,
         ),
-        ControlRequestProcessingResult::TransactionError => Ending::Fail(
+        Some(ControlRequestProcessingResult::TransactionError) => Ending::Fail(
             CompletionCode::UsbTransactionError,
             TrbProcessingResult::TransactionError,
         ),
-        ControlRequestProcessingResult::SuccessfulControlIn => Ending::Realize(true, data_length),
-        ControlRequestProcessingResult::SuccessfulControlOut => Ending::Realize(false, 0),
+        Some(ControlRequestProcessingResult::SuccessfulControlIn) => Ending::Realize(
+            true,
+            data_length,
+        ),
+        Some(ControlRequestProcessingResult::SuccessfulControlOut) => Ending::Realize(false, 0),
     }
 }
 
 // What a completion does, by what the endpoint is at.
 pub fn ending_of(
     state: ControlSubmissionState,
-    res: ControlRequestProcessingResult,
+    res: Option<ControlRequestProcessingResult>,
     data_length: u32,
 ) -> Ending
     ensures { result ≡ ending_of state res data_length }

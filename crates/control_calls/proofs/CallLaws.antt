@@ -1,4 +1,5 @@
 -- Laws of a script's calls on a control endpoint. Assumes nothing.
+use Rattle.std.specs.Prelude.{Ok, Option}
 use Prim.Native.Nat.{ℕ, zero, suc, ◌+◌, ◌≤◌, min}
 use mathlib.Core.Path.{◌≡◌, refl, sym, subst}
 use mathlib.Core.Bool.{Bool, true, false, cond}
@@ -8,12 +9,16 @@ use native.Mathlib.Omega.{arith}
 use lib.Dec.{leb, lit≤}
 use lib.ListN.{length, take, drop, length-take}
 use Rattle.trb.specs.Limits.{max_held}
-use Rattle.trb.specs.declared.Answer.TheVariants.{Accepted}
 use Rattle.trb.specs.declared.ControlRequestProcessingResult.{ControlRequestProcessingResult}
+use Rattle.trb.specs.declared.ControlSubmissionState.{ControlSubmissionState}
+use Rattle.trb.specs.declared.ControlTransferState.{ControlTransferState}
 use Rattle.trb.specs.declared.EndpointId.{EndpointId}
 use Rattle.trb.specs.declared.SlotId.{SlotId}
 use Rattle.trb.specs.declared.TransferTrb.{TransferTrb}
 use Rattle.call_log.specs.Calls.{Out, Meets}
+use Rattle.call_script.specs.declared.Call.{Call}
+use Rattle.call_script.specs.declared.Call.TheVariants.{Window, Buffers, CreateIn, CreateControl, Submit, CompleteWithResult, CompleteWithout, Cancel, Hold, MakeUpIn, MakeUpControl, AppendTrb, AppendResult, CompleteRow, Time, Captured, Bad}
+use Rattle.call_script.specs.declared.DeviceStatus.{DeviceStatus}
 use Rattle.call_log.specs.Logs.{logged}
 use Rattle.numerals.specs.Written.{Written}
 use Rattle.numerals.proofs.WrittenLaws.{written-append, written-within}
@@ -26,19 +31,19 @@ use Rattle.call_answer.specs.Answers.{answer_text, Answered}
 use Rattle.control_endpoint.specs.Creation.{creation}
 use Rattle.control_endpoint.specs.Submission.{submission, bytes_collected}
 use Rattle.control_endpoint.specs.Completion.{completion}
-use Rattle.control_endpoint.specs.declared.Created.{Created}
-use Rattle.control_endpoint.specs.declared.Submitted.{Submitted}
-use Rattle.control_endpoint.specs.declared.Completed.{Completed}
+use Rattle.control_endpoint.specs.Returned.{Created}
+use Rattle.control_endpoint.specs.Returned.{Submitted}
+use Rattle.control_endpoint.specs.Returned.{Completed}
 use Rattle.state_text.specs.Widths.{max_state, max_answer}
-use Rattle.call_answer.specs.Called.{Said, bad_said, silent_said, Called}
+use Rattle.call_answer.specs.Called.{Said, bad_said, silent_said, Called, called, Runs, Says, silent_ran}
 use Rattle.control_block.specs.Blocks.{stored}
 use Rattle.control_block.specs.declared.ControlBlock.{ControlBlock}
 use Rattle.control_block.specs.declared.GuestRelease.{GuestRelease}
-use Rattle.control_calls.specs.declared.ControlRan.{ControlRan}
-use Rattle.control_calls.specs.Calls.{answered, created, submitted, completed, create_call, collect_after, submit_call, complete_call, cancel_call, hold_call, Stated, silent_ran, Says, Runs}
+use Rattle.call_answer.specs.declared.EndpointRan.{EndpointRan}
+use Rattle.control_calls.specs.Calls.{answered, created, submitted, completed, create_call, collect_after, submit_call, complete_call, cancel_call, hold_call, control_call, collect_behind, Stated}
 
 -- a call that prints nothing
-pub says-silent : (o : Said ControlBlock) (t : List ℕ) (at : ℕ) (r : ControlRan) → o.text ≡ [] → r ≡ silent_ran o at → Says o t at r t
+pub says-silent : (o : Said ControlBlock) (t : List ℕ) (at : ℕ) (r : EndpointRan ControlBlock) → o.text ≡ [] → r ≡ silent_ran o at → Says o t at r t
 says-silent o t at r none e = rw e (record {
   block = refl;
   records = refl;
@@ -47,7 +52,7 @@ says-silent o t at r none e = rw e (record {
 })
 
 -- a state line behind an answer of at most so many characters
-says-answered : {a next n : ℕ} {t t' t'' text : List ℕ} {b : ControlBlock} {collect : List ℕ} {r : ControlRan} (at : ℕ) → at + a ≤ length t → a + max_state ≤ max_answer
+says-answered : {a next n : ℕ} {t t' t'' text : List ℕ} {b : ControlBlock} {collect : List ℕ} {r : EndpointRan ControlBlock} (at : ℕ) → at + a ≤ length t → a + max_state ≤ max_answer
     → Written a t at text next t' → Stated b collect n t' next r t'' → Says (answered text b collect n) t at r t''
 says-answered at fits most w s = record {
   block = s.block;
@@ -57,13 +62,13 @@ says-answered at fits most w s = record {
 }
 
 -- what a call with this state and this log comes to is what the call that was met comes to
-runs-met : {S : Type 0} {o : Out S} {l l' : List ℕ} {s : S} {r : ControlRan} {t t' : List ℕ} {at : ℕ} {m' : Memory} (run : S → List ℕ → Called ControlBlock)
+runs-met : {S : Type 0} {o : Out S} {l l' : List ℕ} {s : S} {r : EndpointRan ControlBlock} {t t' : List ℕ} {at : ℕ} {m' : Memory} (run : S → List ℕ → Called ControlBlock)
     → Meets o 0 l s l' → Runs (run s l') t at r t' l' m' → Runs (run o.state (logged l 0 o.records)) t at r t' l' m'
 runs-met {o = o} {l = l} {l' = l'} {s = s} {r = r} {t = t} {t' = t'} {at = at} {m' = m'} run met p =
     subst (λ (x : List ℕ). Runs (run o.state x) t at r t' l' m') met.log (subst (λ x. Runs (run x l') t at r t' l' m') met.state p)
 
 -- with room for the longest answer
-module _ {log log' t t' t'' : List ℕ} {next : ℕ} {r : ControlRan} (at : ℕ) (b : ControlBlock) (m : Memory) (fits : at + max_answer ≤ length t) where
+module _ {log log' t t' t'' : List ℕ} {next : ℕ} {r : EndpointRan ControlBlock} (at : ℕ) (b : ControlBlock) (m : Memory) (fits : at + max_answer ≤ length t) where
   pub runs-submitted : {s : Submitted} {part collect' : List ℕ} (x : TransferTrb) (lent : ℕ) (collect : List ℕ) → part ≡ take lent collect
       → Meets (submission (length log) (length part) b x (regions_of m)) 0 log s log' → collect' ≡ collect_after b x lent collect log m
       → Written (max_first + max_record_lines) t at (answer_text s.answer s.records log') next t' → Stated s.block collect' s.records t' next r t''
@@ -78,7 +83,7 @@ module _ {log log' t t' t'' : List ℕ} {next : ℕ} {r : ControlRan} (at : ℕ)
         memory = refl;
       })
 
-  pub runs-completed : {c : Completed} {m' : Memory} (x : ControlRequestProcessingResult) (bytes collect : List ℕ)
+  pub runs-completed : {c : Completed} {m' : Memory} (x : Option ControlRequestProcessingResult) (bytes collect : List ℕ)
       → Meets (completion (length log) b x (length bytes)) 0 log c log' → Answered c.answer c.records log' bytes m t at next t' m'
       → Stated c.block collect c.records t' next r t'' → Runs (complete_call b x bytes collect log m) t at r t'' log' m'
   unfolding complete_call
@@ -86,7 +91,7 @@ module _ {log log' t t' t'' : List ℕ} {next : ℕ} {r : ControlRan} (at : ℕ)
       runs-met (λ c l. completed c l collect bytes m) met
       (record { says = says-answered at (omega arith) (lit≤ tt) w.text st; log = refl; memory = w.after })
 
-module _ {t t' t'' : List ℕ} {next : ℕ} {r : ControlRan} (at : ℕ) (fits : at + max_answer ≤ length t) where
+module _ {t t' t'' : List ℕ} {next : ℕ} {r : EndpointRan ControlBlock} (at : ℕ) (fits : at + max_answer ≤ length t) where
   pub says-created : {c : Created} (e : EndpointId) (s : SlotId) (release : GuestRelease) (collect : List ℕ) → c ≡ creation e s release
       → Written (max_first + max_record_lines) t at (answer_text c.answer 0 []) next t' → Stated c.block collect 0 t' next r t''
       → Says (create_call e s release collect) t at r t''
@@ -95,10 +100,10 @@ module _ {t t' t'' : List ℕ} {next : ℕ} {r : ControlRan} (at : ℕ) (fits : 
       subst (λ (x : Created). Says (created x collect) t at r t'') made (says-answered at (omega arith) (lit≤ tt) w st)
 
   pub says-cancelled : {a : ControlBlock} (b : ControlBlock) (collect : List ℕ) → a ≡ b
-      → Written (max_first + max_record_lines) t at (answer_text Accepted 0 []) next t' → Stated a collect 0 t' next r t'' → Says (cancel_call b collect) t at r t''
+      → Written (max_first + max_record_lines) t at (answer_text (Ok tt) 0 []) next t' → Stated a collect 0 t' next r t'' → Says (cancel_call b collect) t at r t''
   unfolding cancel_call
   says-cancelled b collect made w st =
-      subst (λ (x : ControlBlock). Says (answered (answer_text Accepted 0 []) x collect 0) t at r t'') made (says-answered at (omega arith) (lit≤ tt) w st)
+      subst (λ (x : ControlBlock). Says (answered (answer_text (Ok tt) 0 []) x collect 0) t at r t'') made (says-answered at (omega arith) (lit≤ tt) w st)
 
 -- ---- Single calls
 
@@ -132,3 +137,49 @@ unfolding collect_after
 collected-behind {k = k} b t lent collect log m e h =
     let rest : drop k collect ≡ drop lent collect = rw e (drop_min lent collect) in
     rw (← take-least lent collect e, ← rest, h)
+
+-- ---- The calls that are none on a control endpoint
+
+module _ (b : ControlBlock) (lent : ℕ) (bytes collect log : List ℕ) (m : Memory) where
+  pub bad-call : (call : Call) → ((t : TransferTrb) → call ≡ Submit t → ⊥) → ((s : DeviceStatus) (n : ℕ) → call ≡ CompleteWithResult s n → ⊥) → ((n : ℕ) → call ≡ CompleteWithout n → ⊥) → (call ≡ Cancel → ⊥)
+      → ((t : TransferTrb) → call ≡ Hold t → ⊥) → ((phase : ControlTransferState) (state : ControlSubmissionState) (direction : Bool) (n : ℕ) → call ≡ MakeUpControl phase state direction n → ⊥) → control_call b call bytes lent collect log m ≡ called (bad_said b) log m
+  unfolding control_call
+  bad-call (Window a b c d) submit with_result without cancel hold make_up = refl
+  bad-call (Buffers l c) submit with_result without cancel hold make_up = refl
+  bad-call (CreateIn e s mode) submit with_result without cancel hold make_up = refl
+  bad-call (CreateControl e s release) submit with_result without cancel hold make_up = refl
+  bad-call (Submit t) submit with_result without cancel hold make_up = absurd (submit t refl)
+  bad-call (CompleteWithResult s n) submit with_result without cancel hold make_up = absurd (with_result s n refl)
+  bad-call (CompleteWithout n) submit with_result without cancel hold make_up = absurd (without n refl)
+  bad-call Cancel submit with_result without cancel hold make_up = absurd (cancel refl)
+  bad-call (Hold t) submit with_result without cancel hold make_up = absurd (hold t refl)
+  bad-call (MakeUpIn state) submit with_result without cancel hold make_up = refl
+  bad-call (MakeUpControl phase state direction n) submit with_result without cancel hold make_up = absurd (make_up phase state direction n refl)
+  bad-call (AppendTrb t) submit with_result without cancel hold make_up = refl
+  bad-call (AppendResult s n) submit with_result without cancel hold make_up = refl
+  bad-call (CompleteRow n) submit with_result without cancel hold make_up = refl
+  bad-call (Time seconds microseconds) submit with_result without cancel hold make_up = refl
+  bad-call (Captured bus address transfer_type) submit with_result without cancel hold make_up = refl
+  bad-call Bad submit with_result without cancel hold make_up = refl
+
+module _ (b : ControlBlock) (lent : ℕ) (collect log : List ℕ) (m : Memory) where
+  -- a call that submits nothing leaves the collect buffer
+  pub kept-collect : (call : Call) → ((t : TransferTrb) → call ≡ Submit t → ⊥) → collect_behind b call lent collect log m ≡ collect
+  unfolding collect_behind
+  kept-collect (Window a b c d) submit = refl
+  kept-collect (Buffers l c) submit = refl
+  kept-collect (CreateIn e s mode) submit = refl
+  kept-collect (CreateControl e s release) submit = refl
+  kept-collect (Submit t) submit = absurd (submit t refl)
+  kept-collect (CompleteWithResult s n) submit = refl
+  kept-collect (CompleteWithout n) submit = refl
+  kept-collect Cancel submit = refl
+  kept-collect (Hold t) submit = refl
+  kept-collect (MakeUpIn state) submit = refl
+  kept-collect (MakeUpControl phase state direction n) submit = refl
+  kept-collect (AppendTrb t) submit = refl
+  kept-collect (AppendResult s n) submit = refl
+  kept-collect (CompleteRow n) submit = refl
+  kept-collect (Time seconds microseconds) submit = refl
+  kept-collect (Captured bus address transfer_type) submit = refl
+  kept-collect Bad submit = refl

@@ -1,8 +1,7 @@
 -- The calls of a script on a control endpoint: each answer is what the endpoint answers, and behind it stands the line of the block's state. Assumes nothing.
-use Rattle.std.specs.Prelude.{ℕ, min, ◌≡◌, Bool, true, cond, List, [], ◌++◌, leb, length, take, drop}
+use Rattle.std.specs.Prelude.{ℕ, min, ◌≡◌, Bool, true, cond, List, [], ◌++◌, leb, length, take, drop, None, Ok, Option, Some}
 use Rattle.buffers.specs.Patch.{patch}
 use Rattle.trb.specs.Limits.{max_held, max_collected}
-use Rattle.trb.specs.declared.Answer.TheVariants.{Accepted}
 use Rattle.trb.specs.declared.ControlRequestProcessingResult.{ControlRequestProcessingResult}
 use Rattle.trb.specs.declared.ControlRequestProcessingResult.TheVariants as result
 use Rattle.trb.specs.declared.ControlSubmissionState.{ControlSubmissionState}
@@ -17,12 +16,12 @@ use Rattle.numerals.specs.Written.{Written}
 use Rattle.call_text.specs.Lines.{count_of}
 use Rattle.script_bytes.specs.Bytes.{weighted_sum}
 use Rattle.state_text.specs.Lines.{control_line}
-use Rattle.state_text.specs.Widths.{max_state, max_answer}
+use Rattle.state_text.specs.Widths.{max_state}
 use Rattle.state_text.specs.declared.ControlStanding.{ControlStanding}
 use Rattle.call_answer.specs.Answers.{answer_text, carried_out, completion_text, completion_memory}
-use Rattle.call_answer.specs.Called.{Said, bad_said, silent_said, answered_said, Called, called}
+use Rattle.call_answer.specs.Called.{Said, bad_said, silent_said, answered_said, Called, called, Runs}
 use Rattle.call_script.specs.declared.Call.{Call}
-use Rattle.call_script.specs.declared.Call.TheVariants.{Window, Buffers, CreateIn, CreateControl, Submit, CompleteWithResult, CompleteWithout, Cancel, Hold, MakeUpIn, MakeUpControl, AppendTrb, AppendResult, CompleteRow, Time, Captured, Bad}
+use Rattle.call_script.specs.declared.Call.TheVariants.{Submit, CompleteWithResult, CompleteWithout, Cancel, Hold, MakeUpControl}
 use Rattle.call_script.specs.declared.DeviceStatus.{DeviceStatus}
 use Rattle.call_script.specs.declared.DeviceStatus.TheVariants as device
 use Rattle.control_block.specs.Blocks.{stored, advanced}
@@ -31,10 +30,10 @@ use Rattle.control_block.specs.declared.GuestRelease.{GuestRelease}
 use Rattle.control_endpoint.specs.Creation.{creation}
 use Rattle.control_endpoint.specs.Submission.{submission, bytes_collected}
 use Rattle.control_endpoint.specs.Completion.{completion}
-use Rattle.control_endpoint.specs.declared.Created.{Created}
-use Rattle.control_endpoint.specs.declared.Submitted.{Submitted}
-use Rattle.control_endpoint.specs.declared.Completed.{Completed}
-use Rattle.control_calls.specs.declared.ControlRan.{ControlRan}
+use Rattle.control_endpoint.specs.Returned.{Created}
+use Rattle.control_endpoint.specs.Returned.{Submitted}
+use Rattle.control_endpoint.specs.Returned.{Completed}
+use Rattle.call_answer.specs.declared.EndpointRan.{EndpointRan}
 
 -- what was collected; a made-up block may say more than there is
 abbrev pub collected_bytes : ControlBlock → List ℕ → List ℕ
@@ -92,13 +91,13 @@ submit_call b t lent collect log m =
     submitted o.state (logged log 0 o.records) (collect_after b t lent collect log m) m
 
 -- `d` and `l`, with these bytes of the device's data
-unfoldable pub complete_call : ControlBlock → ControlRequestProcessingResult → List ℕ → List ℕ → List ℕ → Memory → Called ControlBlock
+unfoldable pub complete_call : ControlBlock → Option ControlRequestProcessingResult → List ℕ → List ℕ → List ℕ → Memory → Called ControlBlock
 complete_call b r bytes collect log m =
     let o = completion (length log) b r (length bytes) in completed o.state (logged log 0 o.records) collect bytes m
 
 -- `x`
 unfoldable pub cancel_call : ControlBlock → List ℕ → Said ControlBlock
-cancel_call b collect = answered (answer_text Accepted 0 []) b collect 0
+cancel_call b collect = answered (answer_text (Ok tt) 0 []) b collect 0
 
 -- ---- A made-up block
 
@@ -117,81 +116,39 @@ made_up b phase state direction n =
 -- ---- Any call
 
 -- the device result of a script as a control endpoint takes it
-abbrev pub result_of : DeviceStatus → ControlRequestProcessingResult
-result_of device.Success = result.SuccessfulControlIn
-result_of device.Stall = result.Stall
-result_of device.TransactionError = result.TransactionError
-result_of device.Disconnect = result.Disconnect
-result_of device.SuccessfulControlOut = result.SuccessfulControlOut
+abbrev pub result_of : DeviceStatus → Option ControlRequestProcessingResult
+result_of device.Success = Some result.SuccessfulControlIn
+result_of device.Stall = Some result.Stall
+result_of device.TransactionError = Some result.TransactionError
+result_of device.Disconnect = Some result.Disconnect
+result_of device.SuccessfulControlOut = Some result.SuccessfulControlOut
 
 -- a call on the endpoint, of whose device these bytes are, with so many bytes of the collect buffer lent. (Those that are none on an endpoint, or not on this
 -- one, are bad lines.)
 unfoldable pub control_call : ControlBlock → Call → List ℕ → ℕ → List ℕ → List ℕ → Memory → Called ControlBlock
-control_call b (Window low_base low_length high_base high_length) bytes lent collect log m = called (bad_said b) log m
-control_call b (Buffers l c) bytes lent collect log m = called (bad_said b) log m
-control_call b (CreateIn e s mode) bytes lent collect log m = called (bad_said b) log m
-control_call b (CreateControl e s release) bytes lent collect log m = called (bad_said b) log m
 control_call b (Submit t) bytes lent collect log m = submit_call b t lent collect log m
 control_call b (CompleteWithResult s n) bytes lent collect log m = complete_call b (result_of s) (take n bytes) collect log m
-control_call b (CompleteWithout n) bytes lent collect log m = complete_call b result.NoneGiven (take n bytes) collect log m
+control_call b (CompleteWithout n) bytes lent collect log m = complete_call b None (take n bytes) collect log m
 control_call b Cancel bytes lent collect log m = called (cancel_call b collect) log m
 control_call b (Hold t) bytes lent collect log m = called (hold_call b t) log m
-control_call b (MakeUpIn state) bytes lent collect log m = called (bad_said b) log m
 control_call b (MakeUpControl phase state direction n) bytes lent collect log m = called (silent_said (made_up b phase state direction n)) log m
-control_call b (AppendTrb t) bytes lent collect log m = called (bad_said b) log m
-control_call b (AppendResult s n) bytes lent collect log m = called (bad_said b) log m
-control_call b (CompleteRow n) bytes lent collect log m = called (bad_said b) log m
-control_call b (Time seconds microseconds) bytes lent collect log m = called (bad_said b) log m
-control_call b (Captured bus address transfer_type) bytes lent collect log m = called (bad_said b) log m
-control_call b Bad bytes lent collect log m = called (bad_said b) log m
+control_call b other bytes lent collect log m = called (bad_said b) log m
 
 -- the collect buffer afterwards: a submission alone changes it
 unfoldable pub collect_behind : ControlBlock → Call → ℕ → List ℕ → List ℕ → Memory → List ℕ
-collect_behind b (Window low_base low_length high_base high_length) lent collect log m = collect
-collect_behind b (Buffers l c) lent collect log m = collect
-collect_behind b (CreateIn e s mode) lent collect log m = collect
-collect_behind b (CreateControl e s release) lent collect log m = collect
 collect_behind b (Submit t) lent collect log m = collect_after b t lent collect log m
-collect_behind b (CompleteWithResult s n) lent collect log m = collect
-collect_behind b (CompleteWithout n) lent collect log m = collect
-collect_behind b Cancel lent collect log m = collect
-collect_behind b (Hold t) lent collect log m = collect
-collect_behind b (MakeUpIn state) lent collect log m = collect
-collect_behind b (MakeUpControl phase state direction n) lent collect log m = collect
-collect_behind b (AppendTrb t) lent collect log m = collect
-collect_behind b (AppendResult s n) lent collect log m = collect
-collect_behind b (CompleteRow n) lent collect log m = collect
-collect_behind b (Time seconds microseconds) lent collect log m = collect
-collect_behind b (Captured bus address transfer_type) lent collect log m = collect
-collect_behind b Bad lent collect log m = collect
+collect_behind b other lent collect log m = collect
 
 -- ---- Promises
 
 -- the state line of the block b was written into the text t at index at, behind an answer of so many records
-pub record Stated (b : ControlBlock) (collect : List ℕ) (n : ℕ) (t : List ℕ) (at : ℕ) (r : ControlRan) (t' : List ℕ) : Type 0 where
+pub record Stated (b : ControlBlock) (collect : List ℕ) (n : ℕ) (t : List ℕ) (at : ℕ) (r : EndpointRan ControlBlock) (t' : List ℕ) : Type 0 where
   pub block : r.block ≡ b
   pub records : r.records ≡ n
   pub good : r.good ≡ true
   pub text : Written max_state t at (state_line b collect) r.end t'
 
--- a call that prints nothing left this, the text's next index being at
-abbrev pub silent_ran : Said ControlBlock → ℕ → ControlRan
-silent_ran o at = record { block = o.block; end = at; records = o.records; good = o.good }
-
--- a call that was to say o, with the text t from index at on, returned r and left the text t'
-pub record Says (o : Said ControlBlock) (t : List ℕ) (at : ℕ) (r : ControlRan) (t' : List ℕ) : Type 0 where
-  pub block : r.block ≡ o.block
-  pub records : r.records ≡ o.records
-  pub good : r.good ≡ o.good
-  pub text : Written max_answer t at o.text r.end t'
-
--- a call that was to come to o left this log and this guest memory, too
-pub record Runs (o : Called ControlBlock) (t : List ℕ) (at : ℕ) (r : ControlRan) (t' log' : List ℕ) (m' : Memory) : Type 0 where
-  pub says : Says o.said t at r t'
-  pub log : log' ≡ o.log
-  pub memory : m' ≡ o.memory
-
 -- and this collect buffer
-pub record RunsWith (o : Called ControlBlock) (collect : List ℕ) (t : List ℕ) (at : ℕ) (r : ControlRan) (t' log' collect' : List ℕ) (m' : Memory) : Type 0 where
+pub record RunsWith (o : Called ControlBlock) (collect : List ℕ) (t : List ℕ) (at : ℕ) (r : EndpointRan ControlBlock) (t' log' collect' : List ℕ) (m' : Memory) : Type 0 where
   pub runs : Runs o t at r t' log' m'
   pub collected : collect' ≡ collect

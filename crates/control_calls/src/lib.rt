@@ -5,9 +5,10 @@ ghost use Rattle.std.specs.Prelude.{◌≡◌, ◌+◌, ◌≤◌, length};
 ghost use Rattle.trb.specs.Limits.{min_row_log};
 ghost use Rattle.state_text.specs.Widths.{max_state, max_answer};
 ghost use Rattle.guest_memory.specs.Places.{memory_of};
-ghost use Rattle.call_answer.specs.Called.{bad_said, silent_said};
-ghost use Rattle.control_calls.specs.Calls.{standing, create_call, collect_after, submit_call, complete_call, cancel_call, hold_call, made_up, result_of, control_call, collect_behind, Stated, silent_ran, Says, Runs, RunsWith};
+ghost use Rattle.call_answer.specs.Called.{bad_said, silent_said, silent_ran, Says, Runs};
+ghost use Rattle.control_calls.specs.Calls.{standing, create_call, collect_after, submit_call, complete_call, cancel_call, hold_call, made_up, result_of, control_call, collect_behind, Stated, RunsWith};
 
+use call_answer::EndpointRan;
 use call_script::{Call, DeviceStatus};
 use control_block::{ControlBlock, ControlTransfer, GuestRelease};
 use state_text::ControlStanding;
@@ -16,53 +17,17 @@ use trb::{
     EndpointId, SlotId, TransferTrb, UsbRequest,
 };
 
-// What a call leaves: the block, the index behind the answer, how many records it logged, and whether the line was good.
-#[derive(Clone, Copy)]
-pub struct ControlRan {
-    pub block: ControlBlock,
-    pub end: usize,
-    pub records: usize,
-    pub good: bool,
-}
-
-fn bad(block: ControlBlock, at: usize) -> ControlRan
-    ensures { result ≡ silent_ran (bad_said block) at }
-{
-    ControlRan {
-        block: block,
-        end: at,
-        records: 0,
-        good: false,
-    }
-}
-
-// A call that prints nothing.
-fn silent(block: ControlBlock, at: usize) -> ControlRan
-    ensures { result ≡ silent_ran (silent_said block) at }
-{
-    ControlRan {
-        block: block,
-        end: at,
-        records: 0,
-        good: true,
-    }
-}
-
 // What the block is at; `collect` is the whole collect buffer.
 fn standing(block: ControlBlock, collect: &[u8]) -> ControlStanding
     ensures { result ≡ standing block collect.now }
 {
-    let phase = block.phase;
-    let state = block.state;
-    let request = block.request;
-    let named = call_script::least(block.collected, trb::MAX_COLLECTED);
-    let collected = call_script::least(named, collect.len());
+    let collected = block.collected.min(trb::MAX_COLLECTED).min(collect.len());
     ControlStanding {
-        phase: phase,
-        state: state,
+        phase: block.phase,
+        state: block.state,
         held: call_text::count(block.held),
         direction: block.direction,
-        request: request,
+        request: block.request,
         collected: call_text::count(block.collected),
         sum: script_bytes::weighted_sum(&collect[..collected]),
     }
@@ -75,15 +40,15 @@ fn answered(
     block: ControlBlock,
     collect: &[u8],
     records: usize,
-) -> ControlRan
+) -> EndpointRan<ControlBlock>
     requires { at + max_state ≤ length text.old }
     ensures { Stated block collect.now records text.old at result text.new }
 {
     let end = state_text::put_control_line(text, at, standing(block, collect));
-    ControlRan {
-        block: block,
-        end: end,
-        records: records,
+    EndpointRan {
+        block,
+        end,
+        records,
         good: true,
     }
 }
@@ -96,15 +61,13 @@ pub fn create(
     slot_id: SlotId,
     release: GuestRelease,
     collect: &[u8],
-) -> ControlRan
+) -> EndpointRan<ControlBlock>
     requires { at + max_answer ≤ length text.old }
     ensures { Says (create_call endpoint_id slot_id release collect.now) text.old at result text.new }
 {
     let created = control_endpoint::create(endpoint_id, slot_id, release);
-    let answer = created.answer;
-    let block = created.block;
-    let next = call_answer::put_answer(text, at, answer, 0, &[]);
-    answered(text, next, block, collect, 0)
+    let next = call_answer::put_answer(text, at, created.answer, 0, &[]);
+    answered(text, next, created.block, collect, 0)
 }
 
 // Of the collect buffer, the first `lent` bytes are lent.
@@ -120,12 +83,12 @@ fn submit<'a>(
     low: &'a [u8],
     high_base: u64,
     high: &'a [u8],
-) -> ControlRan
+) -> EndpointRan<ControlBlock>
     requires max_answer_in_bounds { at + max_answer ≤ length text.old }
     requires log_len_bound { length log.old ≤ min_row_log }
     ensures { RunsWith (submit_call block t lent collect.old log.old (memory_of low_base low.now high_base high.now)) (collect_after block t lent collect.old log.old (memory_of low_base low.now high_base high.now)) text.old at result text.new log.new collect.new (memory_of low_base low.now high_base high.now) }
 {
-    let end = call_script::least(lent, collect.len());
+    let end = lent.min(collect.len());
     let submitted = control_submission::submit_trb(
         log,
         &mut collect[..end],
@@ -136,10 +99,8 @@ fn submit<'a>(
         high_base,
         high,
     );
-    let answer = submitted.answer;
-    let after = submitted.block;
-    let next = call_answer::put_answer(text, at, answer, submitted.records, log);
-    answered(text, next, after, collect, submitted.records)
+    let next = call_answer::put_answer(text, at, submitted.answer, submitted.records, log);
+    answered(text, next, submitted.block, collect, submitted.records)
 }
 
 fn complete(
@@ -148,24 +109,22 @@ fn complete(
     log: &mut [u8],
     collect: &[u8],
     block: ControlBlock,
-    res: ControlRequestProcessingResult,
+    res: Option<ControlRequestProcessingResult>,
     data: &[u8],
     low_base: u64,
     low: &mut [u8],
     high_base: u64,
     high: &mut [u8],
-) -> ControlRan
+) -> EndpointRan<ControlBlock>
     requires max_answer_in_bounds { at + max_answer ≤ length text.old }
     requires log_len_bound { length log.old ≤ min_row_log }
     ensures { Runs (complete_call block res «data».now collect.now log.old (memory_of low_base low.old high_base high.old)) text.old at result text.new log.new (memory_of low_base low.new high_base high.new) }
 {
     let completed = control_completion::next_completion(log, block, res, data);
-    let answer = completed.answer;
-    let after = completed.block;
     let next = call_answer::put_completion(
         text,
         at,
-        answer,
+        completed.answer,
         completed.records,
         log,
         data,
@@ -174,39 +133,44 @@ fn complete(
         high_base,
         high,
     );
-    answered(text, next, after, collect, completed.records)
+    answered(text, next, completed.block, collect, completed.records)
 }
 
 // A device result of a script as a control endpoint takes it.
-pub fn result_of(status: DeviceStatus) -> ControlRequestProcessingResult
+pub fn result_of(status: DeviceStatus) -> Option<ControlRequestProcessingResult>
     ensures { result ≡ result_of status }
 {
     match status {
-        DeviceStatus::Success => ControlRequestProcessingResult::SuccessfulControlIn,
-        DeviceStatus::Stall => ControlRequestProcessingResult::Stall,
-        DeviceStatus::TransactionError => ControlRequestProcessingResult::TransactionError,
-        DeviceStatus::Disconnect => ControlRequestProcessingResult::Disconnect,
-        DeviceStatus::SuccessfulControlOut => ControlRequestProcessingResult::SuccessfulControlOut,
+        DeviceStatus::Success => Some(ControlRequestProcessingResult::SuccessfulControlIn),
+        DeviceStatus::Stall => Some(ControlRequestProcessingResult::Stall),
+        DeviceStatus::TransactionError => Some(ControlRequestProcessingResult::TransactionError),
+        DeviceStatus::Disconnect => Some(ControlRequestProcessingResult::Disconnect),
+        DeviceStatus::SuccessfulControlOut => Some(
+            ControlRequestProcessingResult::SuccessfulControlOut,
+        ),
     }
 }
 
-fn cancel(text: &mut [u8], at: usize, block: ControlBlock, collect: &[u8]) -> ControlRan
+fn cancel(
+    text: &mut [u8],
+    at: usize,
+    block: ControlBlock,
+    collect: &[u8],
+) -> EndpointRan<ControlBlock>
     requires { at + max_answer ≤ length text.old }
     ensures { Says (cancel_call block collect.now) text.old at result text.new }
 {
-    let after = control_endpoint::cancel(block);
-    let next = call_answer::put_answer(text, at, Answer::Accepted, 0, &[]);
-    answered(text, next, after, collect, 0)
+    let next = call_answer::put_answer(text, at, Ok(()), 0, &[]);
+    answered(text, next, control_endpoint::cancel(block), collect, 0)
 }
 
-fn hold(at: usize, block: ControlBlock, t: TransferTrb) -> ControlRan
+fn hold(at: usize, block: ControlBlock, t: TransferTrb) -> EndpointRan<ControlBlock>
     ensures { result ≡ silent_ran (hold_call block t) at }
 {
     if trb::MAX_HELD <= block.held {
-        return bad(block, at);
+        return call_answer::bad(block, at);
     }
-    let after = control_block::store(block, t);
-    silent(after, at)
+    call_answer::silent(control_block::store(block, t), at)
 }
 
 // What the call does not name stays.
@@ -217,26 +181,19 @@ fn make_up(
     state: ControlSubmissionState,
     direction: bool,
     length: u32,
-) -> ControlRan
+) -> EndpointRan<ControlBlock>
     ensures { result ≡ silent_ran (silent_said (made_up block phase state direction length)) at }
 {
-    let named = block.request;
-    let request = UsbRequest {
-        address: named.address,
-        request_type: named.request_type,
-        request: named.request,
-        value: named.value,
-        index: named.index,
-        length: length,
-    };
     let transfer = ControlTransfer {
-        phase: phase,
-        direction: direction,
-        request: request,
+        phase,
+        direction,
+        request: UsbRequest {
+            length,
+            ..block.request
+        },
         collected: block.collected,
     };
-    let after = control_block::advance(block, transfer, state);
-    silent(after, at)
+    call_answer::silent(control_block::advance(block, transfer, state), at)
 }
 
 // Makes a call on the endpoint. `data` is the device's data, of which the call says how much is given.
@@ -253,21 +210,17 @@ pub fn run(
     low: &mut [u8],
     high_base: u64,
     high: &mut [u8],
-) -> ControlRan
+) -> EndpointRan<ControlBlock>
     requires max_answer_in_bounds { at + max_answer ≤ length text.old }
     requires log_len_bound { length log.old ≤ min_row_log }
     ensures { RunsWith (control_call block call «data».now lent collect.old log.old (memory_of low_base low.old high_base high.old)) (collect_behind block call lent collect.old log.old (memory_of low_base low.old high_base high.old)) text.old at result text.new log.new collect.new (memory_of low_base low.new high_base high.new) }
 {
     match call {
-        Call::Window(_, _, _, _) => bad(block, at),
-        Call::Buffers(_, _) => bad(block, at),
-        Call::CreateIn(_, _, _) => bad(block, at),
-        Call::CreateControl(_, _, _) => bad(block, at),
         Call::Submit(t) => submit(
             text, at, log, collect, lent, block, t, low_base, low, high_base, high,
         ),
         Call::CompleteWithResult(status, n) => {
-            let given = call_script::least(n, data.len());
+            let given = &data[..n.min(data.len())];
             complete(
                 text,
                 at,
@@ -275,7 +228,7 @@ pub fn run(
                 collect,
                 block,
                 result_of(status),
-                &data[..given],
+                given,
                 low_base,
                 low,
                 high_base,
@@ -283,32 +236,16 @@ pub fn run(
             )
         }
         Call::CompleteWithout(n) => {
-            let given = call_script::least(n, data.len());
+            let given = &data[..n.min(data.len())];
             complete(
-                text,
-                at,
-                log,
-                collect,
-                block,
-                ControlRequestProcessingResult::NoneGiven,
-                &data[..given],
-                low_base,
-                low,
-                high_base,
-                high,
+                text, at, log, collect, block, None, given, low_base, low, high_base, high,
             )
         }
         Call::Cancel => cancel(text, at, block, collect),
         Call::Hold(t) => hold(at, block, t),
-        Call::MakeUpIn(_) => bad(block, at),
         Call::MakeUpControl(phase, state, direction, length) => make_up(
             at, block, phase, state, direction, length,
         ),
-        Call::AppendTrb(_) => bad(block, at),
-        Call::AppendResult(_, _) => bad(block, at),
-        Call::CompleteRow(_) => bad(block, at),
-        Call::Time(_, _) => bad(block, at),
-        Call::Captured(_, _, _) => bad(block, at),
-        Call::Bad => bad(block, at),
+        _ => call_answer::bad(block, at),
     }
 }

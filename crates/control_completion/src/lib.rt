@@ -13,7 +13,7 @@ use trb::{Answer, CompletionAnswer, ControlRequestProcessingResult, ControlSubmi
 pub fn next_completion(
     log: &mut [u8],
     block: ControlBlock,
-    res: ControlRequestProcessingResult,
+    res: Option<ControlRequestProcessingResult>,
     data: &[u8],
 ) -> Completed
     ensures { Completes block res (length «data».now) log.old result log.new }
@@ -21,12 +21,12 @@ pub fn next_completion(
     let facts = control_block::facts_of(&block);
     let asked = control_questions::ask_completion(log.len(), facts, res, data.len());
     match asked {
-        Answer::Refused(refusal) => Completed {
-            answer: CompletionAnswer::Refused(refusal),
+        Err(refusal) => Completed {
+            answer: Err(refusal),
             records: 0,
             block,
         },
-        Answer::Accepted => {
+        Ok(()) => {
             let mut held = block.held;
             let mut trbs = block.trbs;
             let ending = control_block::ending_of(block.state, res, data.len() as u32);
@@ -34,13 +34,11 @@ pub fn next_completion(
             let blank = held::blank();
             let freed = control_block::places_freed(ending, held);
             let mut progress = td_part::at_start_of_td();
-            let mut j = 0;
             // An index: each place is read, walked and blanked where it lies, in one pass.
-            while j < freed {
+            for j in 0..freed {
                 let one = trbs[j];
                 progress = control_turn::next_trb(log, ending, info, progress, one);
                 trbs[j] = blank;
-                j += 1;
             }
             held -= freed;
             let error_address = control_block::error_address(&block);
@@ -54,7 +52,7 @@ pub fn next_completion(
             );
             let phase = control_block::phase_behind(block.state, block.phase);
             Completed {
-                answer: CompletionAnswer::Completed(control_block::result_of(ending)),
+                answer: Ok(control_block::result_of(ending)),
                 records,
                 block: ControlBlock {
                     phase,

@@ -1,5 +1,6 @@
 -- Laws of completion: what it comes to by the number of its answer, the places behind it, and that it logs at most 1,024 records.
 -- Assumes nothing.
+use Rattle.std.specs.Prelude.{Err, Ok, Option}
 use Prim.Native.Nat.{ℕ, zero, suc, ◌+◌, ◌-◌, ◌≤◌}
 use mathlib.Core.Path.{◌≡◌, refl, sym, ap, ◌∙◌}
 use mathlib.Core.Bool.{Bool, cond}
@@ -8,13 +9,11 @@ use native.Mathlib.Omega.{arith}
 use lib.Dec.{eqb, lit≤}
 use borrow.Author.Tests.{ne_eqb}
 use lib.ListN.{length, take, length-append, length-take}
-use Rattle.trb.specs.declared.Answer.TheVariants as asked
 use Rattle.trb.specs.Answers.{completion_number, said}
 use Rattle.trb.specs.Limits.{max_held, max_records}
 use Rattle.trb.specs.Questions.{first_no}
 use Rattle.trb.specs.Refusals.{refusal_number}
 use Rattle.trb.proofs.AnswerLaws.{refusal_of-number, answered-yes, answered-no}
-use Rattle.trb.specs.declared.CompletionAnswer.TheVariants as answer
 use Rattle.trb.specs.declared.ControlRequestProcessingResult.{ControlRequestProcessingResult}
 use Rattle.trb.specs.declared.ControlTransferState.{ControlTransferState}
 use Rattle.trb.specs.declared.ControlSubmissionState.TheVariants.{NoTrbSubmitted}
@@ -41,30 +40,30 @@ use Rattle.control_chain.proofs.EndingLaws.{walk-ending, length-ending}
 use Rattle.control_questions.specs.Completion.{completion_questions}
 use Rattle.control_questions.proofs.CompletionLaws.{passed}
 use Rattle.control_endpoint.specs.Completion.{held_behind, block_behind, refused, accepted, completion, Completes}
-use Rattle.control_endpoint.specs.declared.Completed.{Completed}
+use Rattle.control_endpoint.specs.Returned.{Completed}
 use Rattle.control_endpoint.proofs.FreeingLaws.{freed-none, freed-all}
 
 -- ---- What the call comes to
 
-module _ (b : ControlBlock) (d : ControlRequestProcessingResult) (n : ℕ) (l : List ℕ) where
+module _ (b : ControlBlock) (d : Option ControlRequestProcessingResult) (n : ℕ) (l : List ℕ) where
   abbrev questions : List (Bool × ℕ)
   questions = completion_questions (length l) (facts_of b) d n
 
   completes-by : (r : Completed) (l' : List ℕ) → completion_number r.answer ≡ first_no questions → Meets (completion (length l) b d n) 0 l r l' → Completes b d n l r l'
   completes-by r l' numbered m = record { number = numbered; met = m; result = ap (λ (x : Completed). said x.answer) m.state }
 
-  pub completes-refused : (q : Refusal) → refusal_number q ≡ first_no questions → Completes b d n l (record { answer = answer.Refused q; records = 0; block = b }) l
+  pub completes-refused : (q : Refusal) → refusal_number q ≡ first_no questions → Completes b d n l (record { answer = Err q; records = 0; block = b }) l
   unfolding completion
   completes-refused q numbered =
       completes-by _ l numbered
-      (meets (answered-no questions (refused b) (accepted (ending_of b.state d n) b) (asked.Refused q) numbered refl) (meets-silent 0 l (rw (refusal_of-number q))))
+      (meets (answered-no questions (refused b) (accepted (ending_of b.state d n) b) (Err q) numbered refl) (meets-silent 0 l (rw (refusal_of-number q))))
 
   pub completes-accepted : (x : Ending) → x ≡ ending_of b.state d n → first_no questions ≡ 0 → (r : Completed) (l' : List ℕ) → r ≡ (accepted x b).state
       → Put l 0 (ending_records x (error_address b) b.endpoint_id b.slot_id (held_of b)) l' → Completes b d n l r l'
   unfolding completion accepted
   completes-accepted x ends none r l' e p =
       completes-by r l' (ap (λ (y : Completed). completion_number y.answer) e ∙ sym none)
-      (meets (answered-yes questions (refused b) (accepted (ending_of b.state d n) b) asked.Accepted (sym none) refl ∙ ap (λ (y : Ending). accepted y b) (sym ends)) (record { state = e; log = p.log; fits = p.fits }))
+      (meets (answered-yes questions (refused b) (accepted (ending_of b.state d n) b) (Ok tt) (sym none) refl ∙ ap (λ (y : Ending). accepted y b) (sym ends)) (record { state = e; log = p.log; fits = p.fits }))
 
 -- ---- The places
 
@@ -79,13 +78,13 @@ module _ (b : ControlBlock) where
   pub completed-by : (x : Ending) (result : TrbProcessingResult) (n : ℕ) (phase : ControlTransferState) (freed : ℕ) (ts : List TransferTrb) → result ≡ result_of x
       → n ≡ length (ending_records x (error_address b) b.endpoint_id b.slot_id (held_of b)) → phase ≡ phase_behind b.state b.phase → freed ≡ places_freed x b.held
       → ts ≡ cleared freed b.trbs
-      → ◌≡◌ {A = Completed} (record { answer = answer.Completed result; records = n; block = block_of b.endpoint_id b.slot_id b.release (at_phase phase (transfer_of b)) NoTrbSubmitted (b.held - freed) ts })
+      → ◌≡◌ {A = Completed} (record { answer = Ok result; records = n; block = block_of b.endpoint_id b.slot_id b.release (at_phase phase (transfer_of b)) NoTrbSubmitted (b.held - freed) ts })
       (accepted x b).state
   unfolding accepted block_behind
   completed-by x result n phase freed ts end count at frees blank =
       rw (end, count, at, blank, frees)
       (ap (λ (y : ControlBlock). record {
-        answer = answer.Completed (result_of x);
+        answer = Ok (result_of x);
         records = length (ending_records x (error_address b) b.endpoint_id b.slot_id (held_of b));
         block = advanced y (at_phase (phase_behind b.state b.phase) (transfer_of b)) NoTrbSubmitted;
       }) (sym (freed-block x)))
@@ -111,7 +110,7 @@ module _ (b : ControlBlock) (x : Ending) (td : TdInfo) (d : ℕ) (own : td ≡ i
       )
 
 -- 01, The log: a call writes at most 1,024 records
-pub length-completion : (log : ℕ) (b : ControlBlock) (d : ControlRequestProcessingResult) (n : ℕ) → length (completion log b d n).records ≤ max_records
+pub length-completion : (log : ℕ) (b : ControlBlock) (d : Option ControlRequestProcessingResult) (n : ℕ) → length (completion log b d n).records ≤ max_records
 unfolding completion accepted
 length-completion log b d n = by (first_no (completion_questions log (facts_of b) d n)) refl
   where

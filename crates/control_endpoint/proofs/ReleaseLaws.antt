@@ -1,6 +1,7 @@
 -- 02, R-11: what a call is under either rule. A failed transfer has one event, with the code and the result of the device's answer,
 -- residual 0 and no write; only its address goes by the rule. Everything else is the same under both, and no call changes the rule.
 -- Assumes nothing.
+use Rattle.std.specs.Prelude.{Ok, Option}
 use Prim.Native.Nat.{ℕ}
 use mathlib.Core.Path.{◌≡◌, refl, sym, ap, ◌∙◌}
 use mathlib.Core.Bool.{Bool, true, false, cond, true≢false}
@@ -10,8 +11,6 @@ use lib.ListN.{length}
 use Rattle.trb.specs.Ids.{ids_in_range}
 use Rattle.trb.specs.Questions.{first_no}
 use Rattle.trb.proofs.AnswerLaws.{answered-yes}
-use Rattle.trb.specs.declared.Answer.TheVariants.{Accepted}
-use Rattle.trb.specs.declared.CompletionAnswer.TheVariants as answer
 use Rattle.trb.specs.declared.CompletionCode.{CompletionCode}
 use Rattle.trb.specs.declared.ControlRequestProcessingResult.{ControlRequestProcessingResult}
 use Rattle.trb.specs.declared.ControlSubmissionState.{ControlSubmissionState}
@@ -42,17 +41,17 @@ use Rattle.control_endpoint.specs.Creation.{not_created, creation}
 use Rattle.control_endpoint.specs.Releases.{under, without_address, submitted_under, completed_under, is_failure}
 use Rattle.control_endpoint.specs.Submission as submits
 use Rattle.control_endpoint.specs.Submission.{records_of, block_after, questions_of, submission}
-use Rattle.control_endpoint.specs.declared.Completed.{Completed}
+use Rattle.control_endpoint.specs.Returned.{Completed}
 
 -- ---- A transfer that fails
 
 -- under either rule: the code, the residual 0 and the result of the device's answer, and no write
-module _ (log : ℕ) (b : ControlBlock) (r : ControlRequestProcessingResult) (n : ℕ) (code : CompletionCode) (result : TrbProcessingResult) where
+module _ (log : ℕ) (b : ControlBlock) (r : Option ControlRequestProcessingResult) (n : ℕ) (code : CompletionCode) (result : TrbProcessingResult) where
   module _ (awaits : b.state ≡ AwaitingControlRequest) (fails : request_ending r n ≡ Fail code result) (none : first_no (completion_questions log (facts_of b) r n) ≡ 0) where
     fails-so : completion log b r n ≡ completes.accepted (Fail code result) b
     unfolding completion
     fails-so =
-        answered-yes (completion_questions log (facts_of b) r n) (completes.refused b) (completes.accepted (ending_of b.state r n) b) Accepted (sym none) refl
+        answered-yes (completion_questions log (facts_of b) r n) (completes.refused b) (completes.accepted (ending_of b.state r n) b) (Ok tt) (sym none) refl
         ∙ ap (λ (state : ControlSubmissionState). completes.accepted (ending_of state r n) b) awaits
         ∙ ap (λ (x : Ending). completes.accepted x b) fails
 
@@ -60,7 +59,7 @@ module _ (log : ℕ) (b : ControlBlock) (r : ControlRequestProcessingResult) (n 
     unfolding completes.accepted ending_records
     failed-event = ap (λ (o : Out Completed). o.records) fails-so
 
-    pub failed-result : (completion log b r n).state.answer ≡ answer.Completed result
+    pub failed-result : (completion log b r n).state.answer ≡ Ok result
     unfolding completes.accepted
     failed-result = ap (λ (o : Out Completed). o.state.answer) fails-so
 
@@ -104,14 +103,14 @@ module _ (one other : GuestRelease) (b : ControlBlock) where
       let s = b.slot_id in
       λ j. record {
         state = record {
-          answer = answer.Completed (result_of x);
+          answer = Ok (result_of x);
           records = count_same e s (held_of b) (error_address (under one b)) (error_address (under other b)) x j;
           block = behind-under x j;
         };
         records = records-besides e s (held_of b) (error_address (under one b)) (error_address (under other b)) x j;
       }
 
-  module _ (log : ℕ) (r : ControlRequestProcessingResult) (n : ℕ) where
+  module _ (log : ℕ) (r : Option ControlRequestProcessingResult) (n : ℕ) where
     abbrev asked : ℕ
     asked = first_no (completion_questions log (facts_of b) r n)
 
@@ -156,7 +155,7 @@ module _ (one other : GuestRelease) (b : ControlBlock) (t : TransferTrb) where
   taken-under o =
       ap (λ (x : ControlBlock). record {
         state = record {
-          answer = Accepted;
+          answer = Ok tt;
           records = length (records_of o b);
           block = under other (advanced x (transfer_after o t.variant t.addr (transfer_of b)) (state_after o t.addr));
         };
@@ -184,7 +183,7 @@ module _ (one other : GuestRelease) (b : ControlBlock) (t : TransferTrb) where
 pub creation-keeps : (e : EndpointId) (s : SlotId) (release : GuestRelease) → (creation e s release).block.release ≡ release
 creation-keeps e s release = by (eqb (first_no ((ids_in_range e s, 12) ∷ [])) 0)
   where
-    by : (yes : Bool) → (cond yes (record { answer = Accepted; block = fresh_block e s release }) (not_created release (first_no ((ids_in_range e s, 12) ∷ [])))).block.release ≡ release
+    by : (yes : Bool) → (cond yes (record { answer = Ok tt; block = fresh_block e s release }) (not_created release (first_no ((ids_in_range e s, 12) ∷ [])))).block.release ≡ release
     by true = refl
     by false = refl
 
@@ -209,7 +208,7 @@ module _ (b : ControlBlock) where
       by true = held_keeps t (restarts o) (holds o)
       by false = refl
 
-  pub completion-keeps : (log : ℕ) (r : ControlRequestProcessingResult) (n : ℕ) → (completion log b r n).state.block.release ≡ b.release
+  pub completion-keeps : (log : ℕ) (r : Option ControlRequestProcessingResult) (n : ℕ) → (completion log b r n).state.block.release ≡ b.release
   unfolding completion completes.accepted block_behind
   completion-keeps log r n = by (eqb asked 0) (ending_of b.state r n)
     where

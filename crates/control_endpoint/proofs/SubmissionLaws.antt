@@ -1,5 +1,6 @@
 -- Laws of submission: what it comes to by the number of its answer, the places after it, and that it logs at most 1,024 records.
 -- Assumes nothing.
+use Rattle.std.specs.Prelude.{Err, Ok}
 use Prim.Native.Nat.{ℕ, zero, suc, ◌+◌, ◌-◌, ◌<◌, ◌≤◌}
 use mathlib.Core.Path.{◌≡◌, refl, sym, ap, ◌∙◌}
 use mathlib.Core.Bool.{Bool, true, false, cond}
@@ -14,8 +15,7 @@ use Rattle.trb.specs.Answers.{number_of}
 use Rattle.trb.specs.Limits.{max_held, max_records}
 use Rattle.trb.specs.Questions.{first_no}
 use Rattle.trb.proofs.AnswerLaws.{refusal_of-number, answered-yes, answered-no}
-use Rattle.trb.specs.declared.Answer.{Answer}
-use Rattle.trb.specs.declared.Answer.TheVariants.{Accepted, Refused}
+use Rattle.trb.specs.Answers.{Answer}
 use Rattle.trb.specs.declared.ControlSubmissionState.{ControlSubmissionState}
 use Rattle.trb.specs.declared.Refusal.{Refusal}
 use Rattle.trb.specs.declared.TransferTrb.{TransferTrb}
@@ -44,7 +44,7 @@ use Rattle.control_transfer.specs.Transfers.{transfer_after, requests_of, bytes_
 use Rattle.control_questions.specs.Submission.{has_room}
 use Rattle.control_questions.proofs.SubmissionLaws.{room-held, passed}
 use Rattle.control_endpoint.specs.Submission.{dropped_before, held_after, block_after, records_of, places_dropped, refused, accepted, questions_of, submission, nothing_collected, bytes_collected, Submits}
-use Rattle.control_endpoint.specs.declared.Submitted.{Submitted}
+use Rattle.control_endpoint.specs.Returned.{Submitted}
 use Rattle.control_endpoint.proofs.FreeingLaws.{freed-none, freed-all}
 
 -- ---- What the call comes to
@@ -53,14 +53,14 @@ module _ (b : ControlBlock) (t : TransferTrb) (m : Memory) (l c : List ℕ) wher
   abbrev questions : List (Bool × ℕ)
   questions = questions_of (length l) (length c) b t (regions_of m)
 
-  pub submits-refused : (q : Refusal) (a : Answer) → a ≡ Refused q → number_of a ≡ first_no questions → Submits b t m l c (record { answer = a; records = 0; block = b }) l c
+  pub submits-refused : (q : Refusal) (a : Answer) → a ≡ Err q → number_of a ≡ first_no questions → Submits b t m l c (record { answer = a; records = 0; block = b }) l c
   unfolding submission bytes_collected
   submits-refused q a no-to numbered =
-      let first : number_of (Refused q) ≡ first_no questions = ap number_of (sym no-to) ∙ numbered in
+      let first : number_of (Err q) ≡ first_no questions = ap number_of (sym no-to) ∙ numbered in
       record {
         number = numbered;
-        met = meets (answered-no questions (refused b) (accepted (trb_outcome b.phase t.variant) b t) (Refused q) first refl) (meets-silent 0 l (rw (no-to, refusal_of-number q)));
-        collect = rw (answered-no questions nothing_collected (bytes_taken (trb_outcome b.phase t.variant) b.direction t.variant m) (Refused q) first refl) (sym (patch-none c b.collected));
+        met = meets (answered-no questions (refused b) (accepted (trb_outcome b.phase t.variant) b t) (Err q) first refl) (meets-silent 0 l (rw (no-to, refusal_of-number q)));
+        collect = rw (answered-no questions nothing_collected (bytes_taken (trb_outcome b.phase t.variant) b.direction t.variant m) (Err q) first refl) (sym (patch-none c b.collected));
       }
 
   pub submits-accepted : (o : Outcome) → o ≡ trb_outcome b.phase t.variant → first_no questions ≡ 0 → (r : Submitted) (l' c' : List ℕ) → r ≡ (accepted o b t).state
@@ -68,8 +68,8 @@ module _ (b : ControlBlock) (t : TransferTrb) (m : Memory) (l c : List ℕ) wher
   unfolding submission bytes_collected accepted
   submits-accepted o same none r l' c' e p collected = record {
     number = ap (λ (x : Submitted). number_of x.answer) e ∙ sym none;
-    met = meets (answered-yes questions (refused b) (accepted (trb_outcome b.phase t.variant) b t) Accepted (sym none) refl ∙ ap (λ (y : Outcome). accepted y b t) (sym same)) (record { state = e; log = p.log; fits = p.fits });
-    collect = rw (answered-yes questions nothing_collected (bytes_taken (trb_outcome b.phase t.variant) b.direction t.variant m) Accepted (sym none) refl)
+    met = meets (answered-yes questions (refused b) (accepted (trb_outcome b.phase t.variant) b t) (Ok tt) (sym none) refl ∙ ap (λ (y : Outcome). accepted y b t) (sym same)) (record { state = e; log = p.log; fits = p.fits });
+    collect = rw (answered-yes questions nothing_collected (bytes_taken (trb_outcome b.phase t.variant) b.direction t.variant m) (Ok tt) (sym none) refl)
         (collected ∙ ap (λ (y : Outcome). patch c b.collected (bytes_taken y b.direction t.variant m)) same);
   }
 
@@ -107,13 +107,13 @@ module _ (b : ControlBlock) (t : TransferTrb) (o : Outcome) where
   leaves_kept held us ts hold blank same kept = rw (hold, same, kept, blank) (sym (dropped-block b (restarts o)))
 
   -- the answer, the records and the block that a TRB leaves
-  pub submitted-by : (answer : Answer) (n : ℕ) (w : ControlTransfer) (state : ControlSubmissionState) (held : ℕ) (ts : List TransferTrb) → answer ≡ Accepted → n ≡ length (records_of o b)
+  pub submitted-by : (answer : Answer) (n : ℕ) (w : ControlTransfer) (state : ControlSubmissionState) (held : ℕ) (ts : List TransferTrb) → answer ≡ Ok tt → n ≡ length (records_of o b)
       → w ≡ transfer_after o t.variant t.addr (transfer_of b) → state ≡ state_after o t.addr → leaves held ts
       → ◌≡◌ {A = Submitted} (record { answer = answer; records = n; block = block_of b.endpoint_id b.slot_id b.release w state held ts }) (accepted o b t).state
   unfolding accepted block_after
   submitted-by answer n w state held ts accepts count at now places =
       rw (accepts, count, at, now)
-      (ap (λ (x : ControlBlock). record { answer = Accepted; records = length (records_of o b); block = advanced x (transfer_after o t.variant t.addr (transfer_of b)) (state_after o t.addr) }) places)
+      (ap (λ (x : ControlBlock). record { answer = Ok tt; records = length (records_of o b); block = advanced x (transfer_after o t.variant t.addr (transfer_of b)) (state_after o t.addr) }) places)
 
 -- ---- The records
 

@@ -1,8 +1,7 @@
 -- 01, Completion on a control endpoint: what one that no question refuses makes of block and log. Assumes nothing.
-use Rattle.std.specs.Prelude.{ℕ, ◌≡◌, List, length}
+use Rattle.std.specs.Prelude.{ℕ, ◌≡◌, List, length, Err, Ok, Option}
 use Rattle.trb.specs.Answers.{completion_number, refusal_of, said}
 use Rattle.trb.specs.Questions.{first_no, after_questions}
-use Rattle.trb.specs.declared.CompletionAnswer.TheVariants.{Completed, Refused}
 use Rattle.trb.specs.declared.ControlRequestProcessingResult.{ControlRequestProcessingResult}
 use Rattle.trb.specs.declared.ControlSubmissionState.TheVariants.{NoTrbSubmitted}
 use Rattle.call_log.specs.Calls.{Out, silent, Meets}
@@ -15,7 +14,7 @@ use Rattle.control_block.specs.Facts.{facts_of}
 use Rattle.control_block.specs.Stages.{error_address}
 use Rattle.control_chain.specs.Endings.{ending_records}
 use Rattle.control_questions.specs.Completion.{completion_questions}
-use Rattle.control_endpoint.specs.declared.Completed.{Completed as CompletedCall}
+use Rattle.control_endpoint.specs.Returned.{Completed as CompletedCall}
 
 -- ---- What the completion does
 
@@ -34,20 +33,20 @@ block_behind x b = advanced (held_behind x b) (at_phase (phase_behind b.state b.
 
 -- a no: zero records, block and log unchanged
 abbrev pub refused : ControlBlock → ℕ → Out CompletedCall
-refused b n = silent (record { answer = Refused (refusal_of n); records = 0; block = b })
+refused b n = silent (record { answer = Err (refusal_of n); records = 0; block = b })
 
 -- by what it does
 unfoldable pub accepted : Ending → ControlBlock → Out CompletedCall
 accepted x b =
     let rs = ending_records x (error_address b) b.endpoint_id b.slot_id (held_of b) in
-    record { state = record { answer = Completed (result_of x); records = length rs; block = block_behind x b }; records = rs }
+    record { state = record { answer = Ok (result_of x); records = length rs; block = block_behind x b }; records = rs }
 
 -- with a log of this length and n bytes of device data
-unfoldable pub completion : ℕ → ControlBlock → ControlRequestProcessingResult → ℕ → Out CompletedCall
+unfoldable pub completion : ℕ → ControlBlock → Option ControlRequestProcessingResult → ℕ → Out CompletedCall
 completion log b r n = after_questions (completion_questions log (facts_of b) r n) (refused b) (accepted (ending_of b.state r n) b)
 
 -- a completion of the block b, with the log l, returned r and left l'
-pub record Completes (b : ControlBlock) (d : ControlRequestProcessingResult) (n : ℕ) (l : List ℕ) (r : CompletedCall) (l' : List ℕ) : Type 0 where
+pub record Completes (b : ControlBlock) (d : Option ControlRequestProcessingResult) (n : ℕ) (l : List ℕ) (r : CompletedCall) (l' : List ℕ) : Type 0 where
   pub number : completion_number r.answer ≡ first_no (completion_questions (length l) (facts_of b) d n)
   pub met : Meets (completion (length l) b d n) 0 l r l'
   pub result : said r.answer ≡ said (completion (length l) b d n).state.answer

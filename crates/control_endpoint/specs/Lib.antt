@@ -1,3 +1,4 @@
+pub mod Returned
 pub mod Creation
 pub mod Submission
 pub mod Completion

@@ -7,8 +7,8 @@ use Rattle.control_block.specs.declared.Ending.{Ending}
 use Rattle.control_block.specs.declared.Ending.TheVariants.{KeepCollecting, ReportBadTrb, Fail, Realize}
 use Rattle.control_block.specs.declared.GuestRelease.{GuestRelease}
 use Rattle.control_block.specs.Blocks.{block_of, transfer_of}
-use Rattle.control_endpoint.specs.declared.Completed.{Completed}
-use Rattle.control_endpoint.specs.declared.Submitted.{Submitted}
+use Rattle.control_endpoint.specs.Returned.{Completed}
+use Rattle.control_endpoint.specs.Returned.{Submitted}
 
 -- the block b with this rule in place of its own
 abbrev pub under : GuestRelease → ControlBlock → ControlBlock

@@ -1,10 +1,9 @@
 -- 01, Submission on a control endpoint: what a TRB that no question refuses makes of block and log, and of the collect buffer.
 -- Assumes nothing.
-use Rattle.std.specs.Prelude.{ℕ, ◌≡◌, Bool, cond, List, [], ◌++◌, length}
+use Rattle.std.specs.Prelude.{ℕ, ◌≡◌, Bool, cond, List, [], ◌++◌, length, Err, Ok}
 use Rattle.buffers.specs.Patch.{patch}
 use Rattle.trb.specs.Answers.{number_of, refusal_of}
 use Rattle.trb.specs.Questions.{first_no, after_questions}
-use Rattle.trb.specs.declared.Answer.TheVariants.{Accepted, Refused}
 use Rattle.trb.specs.declared.TransferTrb.{TransferTrb}
 use Rattle.call_log.specs.declared.Record.{Record}
 use Rattle.call_log.specs.Calls.{Out, silent, Meets}
@@ -19,7 +18,7 @@ use Rattle.control_block.specs.Facts.{facts_of}
 use Rattle.control_chain.specs.Dropped.{successes}
 use Rattle.control_transfer.specs.Transfers.{transfer_after, requests_of, bytes_taken}
 use Rattle.control_questions.specs.Submission.{submission_questions}
-use Rattle.control_endpoint.specs.declared.Submitted.{Submitted}
+use Rattle.control_endpoint.specs.Returned.{Submitted}
 
 -- ---- What the TRB does
 
@@ -47,10 +46,10 @@ places_dropped restart held = cond restart held 0
 
 -- a no: zero records, block and log unchanged
 abbrev pub refused : ControlBlock → ℕ → Out Submitted
-refused b n = silent (record { answer = Refused (refusal_of n); records = 0; block = b })
+refused b n = silent (record { answer = Err (refusal_of n); records = 0; block = b })
 
 unfoldable pub accepted : Outcome → ControlBlock → TransferTrb → Out Submitted
-accepted o b t = record { state = record { answer = Accepted; records = length (records_of o b); block = block_after o b t }; records = records_of o b }
+accepted o b t = record { state = record { answer = Ok tt; records = length (records_of o b); block = block_after o b t }; records = records_of o b }
 
 abbrev pub questions_of : ℕ → ℕ → ControlBlock → TransferTrb → Regions → List (Bool × ℕ)
 questions_of log collect b t regions = submission_questions log collect (facts_of b) (trb_outcome b.phase t.variant) t regions

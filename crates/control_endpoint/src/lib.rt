@@ -5,27 +5,13 @@ ghost use Rattle.std.specs.Prelude.{◌≡◌};
 ghost use Rattle.control_endpoint.specs.Creation.{Creates};
 
 use control_block::{ControlBlock, GuestRelease};
-use trb::{Answer, CompletionAnswer, EndpointId, Refusal, SlotId};
+use trb::{EndpointId, Refusal, SlotId};
 
-#[derive(Clone, Copy)]
-pub struct Created {
-    pub answer: Answer,
-    pub block: ControlBlock,
-}
+pub type Created = trb::Created<ControlBlock>;
 
-#[derive(Clone, Copy)]
-pub struct Submitted {
-    pub answer: Answer,
-    pub records: usize,
-    pub block: ControlBlock,
-}
+pub type Submitted = trb::Submitted<ControlBlock>;
 
-#[derive(Clone, Copy)]
-pub struct Completed {
-    pub answer: CompletionAnswer,
-    pub records: usize,
-    pub block: ControlBlock,
-}
+pub type Completed = trb::Completed<ControlBlock>;
 
 // ---- Creation
 
@@ -36,12 +22,12 @@ pub fn create(endpoint_id: EndpointId, slot_id: SlotId, release: GuestRelease) -
 {
     if trb::ids_in_range(endpoint_id, slot_id) {
         Created {
-            answer: Answer::Accepted,
+            answer: Ok(()),
             block: control_block::fresh(endpoint_id, slot_id, release),
         }
     } else {
         Created {
-            answer: Answer::Refused(Refusal::IdOutOfRange),
+            answer: Err(Refusal::IdOutOfRange),
             block: control_block::fresh(EndpointId(0), SlotId(0), release),
         }
     }

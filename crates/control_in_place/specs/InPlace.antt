@@ -1,11 +1,11 @@
 -- What a call in place is: by the promises of the endpoint by value, of the block that the bytes are. Assumes nothing.
-use Rattle.std.specs.Prelude.{ℕ, ◌<◌, ◌≤◌, ◌≡◌, Bool, cond, List, [], ◌∷◌, leb, eqb, length, drop}
+use Rattle.std.specs.Prelude.{ℕ, ◌<◌, ◌≤◌, ◌≡◌, Bool, cond, List, [], ◌∷◌, leb, eqb, length, drop, None, Option, Some}
 use Rattle.buffers.specs.Patch.{patch}
-use Rattle.trb.specs.Answers.{number_of, completion_number}
+use Rattle.trb.specs.Answers.{number_of, completion_number, Answer, CompletionAnswer}
 use Rattle.trb.specs.Ids.{ids_in_range}
 use Rattle.trb.specs.Questions.{first_no}
 use Rattle.trb.specs.declared.ControlRequestProcessingResult.{ControlRequestProcessingResult}
-use Rattle.trb.specs.declared.ControlRequestProcessingResult.TheVariants.{NoneGiven, Disconnect, Stall, TransactionError, SuccessfulControlIn, SuccessfulControlOut}
+use Rattle.trb.specs.declared.ControlRequestProcessingResult.TheVariants.{Disconnect, Stall, TransactionError, SuccessfulControlIn, SuccessfulControlOut}
 use Rattle.trb.specs.declared.EndpointId.{EndpointId}
 use Rattle.trb.specs.declared.SlotId.{SlotId}
 use Rattle.trb.specs.declared.TransferTrb.{TransferTrb}
@@ -25,13 +25,12 @@ use Rattle.control_questions.specs.Completion.{completion_questions}
 use Rattle.control_endpoint.specs.Completion.{completion, Completes}
 use Rattle.control_endpoint.specs.Creation.{creation}
 use Rattle.control_endpoint.specs.Submission.{records_of, block_after, questions_of, submission, bytes_collected, Submits}
-use Rattle.control_endpoint.specs.declared.Completed.{Completed}
-use Rattle.control_endpoint.specs.declared.Submitted.{Submitted}
+use Rattle.control_endpoint.specs.Returned.{Completed}
+use Rattle.control_endpoint.specs.Returned.{Submitted}
 use Rattle.control_bytes.specs.Layout.{block_length, block_of}
 use Rattle.control_stores.specs.Becomes.{Becomes}
 use Rattle.control_in_place.specs.declared.AskedSubmission.{AskedSubmission}
-use Rattle.control_in_place.specs.declared.CompletedInPlace.{CompletedInPlace}
-use Rattle.control_in_place.specs.declared.SubmittedInPlace.{SubmittedInPlace}
+use Rattle.trb.specs.declared.Logged.{Logged}
 
 -- no byte behind the block changed
 pub record Beyond (b b' : List ℕ) : Type 0 where
@@ -58,14 +57,14 @@ pub record Accepts (l c b : List ℕ) (t : TransferTrb) (m : Memory) (o : Outcom
   pub becomes : Becomes b (block_after o (block_of b) t) b'
 
 -- the promise of the endpoint by value, of the block that the bytes are; a no leaves its bytes as they were
-pub record SubmitsAsByValue (b : List ℕ) (t : TransferTrb) (m : Memory) (l c : List ℕ) (r : SubmittedInPlace) (l' c' b' : List ℕ) : Type 0 where
+pub record SubmitsAsByValue (b : List ℕ) (t : TransferTrb) (m : Memory) (l c : List ℕ) (r : Logged Answer) (l' c' b' : List ℕ) : Type 0 where
   pub by_value : Submits (block_of b) t m l c (record { answer = r.answer; records = r.records; block = block_of b' }) l' c'
   pub beyond : Beyond b b'
   pub unchanged : 0 < number_of r.answer → b' ≡ b
 
 -- ---- Completion
 
-pub record CompletesAsByValue (b : List ℕ) (d : ControlRequestProcessingResult) (n : ℕ) (l : List ℕ) (r : CompletedInPlace) (l' b' : List ℕ) : Type 0 where
+pub record CompletesAsByValue (b : List ℕ) (d : Option ControlRequestProcessingResult) (n : ℕ) (l : List ℕ) (r : Logged CompletionAnswer) (l' b' : List ℕ) : Type 0 where
   pub by_value : Completes (block_of b) d n l (record { answer = r.answer; records = r.records; block = block_of b' }) l'
   pub beyond : Beyond b b'
   pub unchanged : 0 < completion_number r.answer → b' ≡ b
@@ -106,7 +105,7 @@ abbrev pub completed_numbers : Out Completed → Out CompletionAnswered
 completed_numbers o = record { state = completion_answered o.state.answer o.state.records; records = o.records }
 
 -- of a completion with the device result d and n bytes of data
-pub record CompletesInPlace (k : ℕ) (d : ControlRequestProcessingResult) (n : ℕ) (l b : List ℕ) (r : CompletionAnswered) (l' b' : List ℕ) : Type 0 where
+pub record CompletesInPlace (k : ℕ) (d : Option ControlRequestProcessingResult) (n : ℕ) (l b : List ℕ) (r : CompletionAnswered) (l' b' : List ℕ) : Type 0 where
   pub number : r.number ≡ first_no (completion_questions k (facts_of (block_of b)) d n)
   pub met : Meets (completed_numbers (completion k (block_of b) d n)) 0 l r l'
   pub becomes : Becomes b (completion k (block_of b) d n).state.block b'
@@ -114,7 +113,7 @@ pub record CompletesInPlace (k : ℕ) (d : ControlRequestProcessingResult) (n : 
 
 -- a device result by number: 0 SuccessfulControlIn, 1 Stall, 2 a transaction error, 3 a disconnect, 4 SuccessfulControlOut; any other number, none is
 -- given
-abbrev pub result_of : ℕ → ControlRequestProcessingResult
+abbrev pub result_of : ℕ → Option ControlRequestProcessingResult
 result_of n =
-    cond (eqb n 0) SuccessfulControlIn
-    (cond (eqb n 1) Stall (cond (eqb n 2) TransactionError (cond (eqb n 3) Disconnect (cond (eqb n 4) SuccessfulControlOut NoneGiven))))
+    cond (eqb n 0) (Some SuccessfulControlIn)
+    (cond (eqb n 1) (Some Stall) (cond (eqb n 2) (Some TransactionError) (cond (eqb n 3) (Some Disconnect) (cond (eqb n 4) (Some SuccessfulControlOut) None))))

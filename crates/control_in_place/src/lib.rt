@@ -20,7 +20,7 @@ use guest_memory::Regions;
 use held_bytes::TrbNumbers;
 use phase_table::Outcome;
 use trb::{
-    Answer, CompletionAnswer, ControlRequestProcessingResult, EndpointId, Refusal, SlotId,
+    Answer, CompletionAnswer, ControlRequestProcessingResult, EndpointId, Logged, Refusal, SlotId,
     TransferTrb,
 };
 
@@ -45,8 +45,7 @@ fn ask_submission(
     ensures { Asked log_length collect_length block.now (trb_of numbers) regions result }
 {
     let facts = control_bytes::facts(block);
-    let phase = facts.phase;
-    let outcome = control_numbers::outcome_of(phase, numbers.kind, numbers.flags);
+    let outcome = control_numbers::outcome_of(facts.phase, numbers.kind, numbers.flags);
     let answer = control_numbers::ask_submission(
         log_length,
         collect_length,
@@ -93,12 +92,6 @@ fn accept_trb<'a>(
     records
 }
 
-#[derive(Clone, Copy)]
-struct SubmittedInPlace {
-    answer: Answer,
-    records: usize,
-}
-
 // Of a row of bytes that is long enough for a block.
 fn submit<'a>(
     log: &mut [u8],
@@ -109,7 +102,7 @@ fn submit<'a>(
     low: &'a [u8],
     high_base: u64,
     high: &'a [u8],
-) -> SubmittedInPlace
+) -> Logged<Answer>
     requires { block_length ≤ length block.old }
     ensures { SubmitsAsByValue block.old (trb_of numbers) (memory_of low_base low.now high_base high.now) log.old collect.old result log.new collect.new block.new }
 {
@@ -121,19 +114,26 @@ fn submit<'a>(
     );
     let regions = guest_memory::guest_regions(low_base, low.len(), high_base, high.len());
     let asked = ask_submission(log.len(), collect.len(), block, numbers, data, regions);
-    let answer = asked.answer;
-    let outcome = asked.outcome;
-    match answer {
-        Answer::Refused(refusal) => SubmittedInPlace {
-            answer: Answer::Refused(refusal),
+    match asked.answer {
+        Err(refusal) => Logged {
+            answer: Err(refusal),
             records: 0,
         },
-        Answer::Accepted => {
+        Ok(()) => {
             let records = accept_trb(
-                log, collect, block, outcome, data, numbers, low_base, low, high_base, high,
+                log,
+                collect,
+                block,
+                asked.outcome,
+                data,
+                numbers,
+                low_base,
+                low,
+                high_base,
+                high,
             );
-            SubmittedInPlace {
-                answer: Answer::Accepted,
+            Logged {
+                answer: Ok(()),
                 records,
             }
         }
@@ -158,7 +158,7 @@ fn submit_numbers<'a>(
     ensures { SubmitsInPlace (lent_log log.old block.old) (trb_of (trb_numbers kind flags addr value transfer_length)) (memory_of low_base low.now high_base high.now) log.old collect.old block.old result log.new collect.new block.new }
 {
     if block.len() < control_bytes::BLOCK {
-        return answer_numbers::answered_as(Answer::Refused(Refusal::BufferTooShort), 0);
+        return answer_numbers::answered_as(Err(Refusal::BufferTooShort), 0);
     }
     let numbers = TrbNumbers {
         kind,
@@ -242,7 +242,7 @@ pub fn submit_raw<'a>(
 fn ask_completion(
     log_length: usize,
     block: &[u8],
-    res: ControlRequestProcessingResult,
+    res: Option<ControlRequestProcessingResult>,
     data_length: usize,
 ) -> Answer
     requires { block_length ≤ length block.now }
@@ -252,52 +252,46 @@ fn ask_completion(
     control_questions::ask_completion(log_length, facts, res, data_length)
 }
 
-#[derive(Clone, Copy)]
-struct CompletedInPlace {
-    answer: CompletionAnswer,
-    records: usize,
-}
-
 // Of a row of bytes that is long enough for a block.
 fn complete(
     log: &mut [u8],
     block: &mut [u8],
-    res: ControlRequestProcessingResult,
+    res: Option<ControlRequestProcessingResult>,
     data_length: usize,
-) -> CompletedInPlace
+) -> Logged<CompletionAnswer>
     requires { block_length ≤ length block.old }
     ensures { CompletesAsByValue block.old res data_length log.old result log.new block.new }
 {
     let asked = ask_completion(log.len(), block, res, data_length);
     match asked {
-        Answer::Refused(refusal) => CompletedInPlace {
-            answer: CompletionAnswer::Refused(refusal),
+        Err(refusal) => Logged {
+            answer: Err(refusal),
             records: 0,
         },
-        Answer::Accepted => {
+        Ok(()) => {
             let state = control_bytes::state(block);
             let ending = control_block::ending_of(state, res, data_length as u32);
             let records = control_places::log_completion(log, block, ending);
             control_stores::end_transfer(block, ending);
             let ended = control_block::result_of(ending);
-            CompletedInPlace {
-                answer: CompletionAnswer::Completed(ended),
+            Logged {
+                answer: Ok(ended),
                 records,
             }
         }
     }
 }
 
-fn result_of(status: u8) -> ControlRequestProcessingResult
+fn result_of(status: u8) -> Option<ControlRequestProcessingResult>
     ensures { result ≡ result_of status }
 {
     match status {
-        0 => ControlRequestProcessingResult::SuccessfulControlIn,
-        1 => ControlRequestProcessingResult::Stall,
-        2 => ControlRequestProcessingResult::TransactionError,
-        3 => ControlRequestProcessingResult::Disconnect,
-        4 => ControlRequestProcessingResult::SuccessfulControlOut,
-        _ => ControlRequestProcessingResult::NoneGiven,
+        0 => Some(ControlRequestProcessingResult::SuccessfulControlIn),
+        1 => Some(ControlRequestProcessingResult::Stall),
+        2 => Some(ControlRequestProcessingResult::TransactionError),
+        3 => Some(ControlRequestProcessingResult::Disconnect),
+        4 => Some(ControlRequestProcessingResult::SuccessfulControlOut),
+        _ => None,
     }
 }
 
@@ -312,7 +306,7 @@ pub fn next_completion(
     ensures { CompletesInPlace (lent_log log.old block.old) (result_of status) data_length log.old block.old result log.new block.new }
 {
     if block.len() < control_bytes::BLOCK {
-        return answer_numbers::completed_as(CompletionAnswer::Refused(Refusal::BufferTooShort), 0);
+        return answer_numbers::completed_as(Err(Refusal::BufferTooShort), 0);
     }
     let completed = complete(log, block, result_of(status), data_length);
     answer_numbers::completed_as(completed.answer, completed.records)

@@ -1,6 +1,5 @@
 -- What a TRB by numbers is asked about, by its kind. Assumes nothing.
 use Rattle.std.proofs.Common.{◌≡◌, ℕ, Bool, true, false, cond, eqb, refl}
-use Rattle.trb.specs.Trbs.{transfer_length}
 use Rattle.trb.specs.declared.ControlTransferState.{ControlTransferState}
 use Rattle.trb.specs.declared.TransferTrbVariant.{TransferTrbVariant}
 use Rattle.trb.specs.declared.TransferTrbVariant.TheVariants.{SetupStage, DataStage, StatusStage, Normal, EventData, NoOp, Isoch, Unrecognized}
@@ -48,14 +47,3 @@ module _ (kind flags value len : ℕ) where
   pub data-none : eqb kind normal_type ≡ false → eqb kind data_stage_type ≡ false → data_of (variant_of kind flags value len) ≡ no_data
   unfolding variant_of
   data-none normal stage = rw (normal, stage) (none_said (eqb kind setup_stage_type) (eqb kind status_stage_type) (eqb kind isoch_type) (eqb kind event_data_type) (eqb kind no_op_type))
-
--- the length of a TRB is its data's
-pub data-length : (v : TransferTrbVariant) → transfer_length v ≡ (data_of v).transfer_length
-data-length (SetupStage t) = refl
-data-length (DataStage t) = refl
-data-length (StatusStage t) = refl
-data-length (Normal t) = refl
-data-length (EventData t) = refl
-data-length (NoOp t) = refl
-data-length Isoch = refl
-data-length Unrecognized = refl

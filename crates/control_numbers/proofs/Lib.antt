@@ -1,3 +1,2 @@
 pub mod KindLaws
-pub mod QuestionLaws
 pub mod TransferLaws

@@ -95,42 +95,50 @@ fn is_few(input: bool, collected: usize, data: TrbData) -> bool
 }
 
 // Questions 21 and 5 to 7, of a TRB that is held and moves this data.
+#[tactic(auto, unfolding(trb::specs::Questions::first_no, control_questions::specs::Submission::has_room, control_questions::specs::Submission::reaches, control_transfer::specs::Transfers::collects))]
 fn ask_of_held(facts: BlockFacts, outcome: Outcome, data: TrbData, regions: Regions) -> Answer
     requires { (holds outcome ≡ true) × ((facts.held ≤ max_held) × (facts.collected ≤ max_collected)) }
     ensures { number_of result ≡ first_no (held_questions facts outcome «data» regions) }
 {
     let input = facts.direction;
-    if !is_from_memory(input, data.immediate_data) {
-        return Answer::Refused(Refusal::ImmediateInput);
-    }
-    if !has_place(phase_table::is_restart(outcome), facts.held) {
-        return Answer::Refused(Refusal::TooManyHeld);
-    }
-    if !control_transfer::is_in_reach(input, data, regions) {
-        return Answer::Refused(Refusal::OutsideGuestMemory);
-    }
-    if !is_few(input, facts.collected, data) {
-        return Answer::Refused(Refusal::TooMuchCollected);
-    }
-    Answer::Accepted
+    trb::ask(
+        is_from_memory(input, data.immediate_data),
+        Refusal::ImmediateInput,
+    )?;
+    trb::ask(
+        has_place(phase_table::is_restart(outcome), facts.held),
+        Refusal::TooManyHeld,
+    )?;
+    trb::ask(
+        control_transfer::is_in_reach(input, data, regions),
+        Refusal::OutsideGuestMemory,
+    )?;
+    trb::ask(
+        is_few(input, facts.collected, data),
+        Refusal::TooMuchCollected,
+    )
 }
 
 // Questions 4, 21 and 5 to 7, of a TRB that moves this data.
+#[tactic(auto, unfolding(trb::specs::Questions::first_no, control_questions::specs::Submission::has_room, control_questions::specs::Submission::reaches, control_transfer::specs::Transfers::collects))]
 fn ask_of_trb(facts: BlockFacts, outcome: Outcome, data: TrbData, regions: Regions) -> Answer
     requires { (facts.held ≤ max_held) × (facts.collected ≤ max_collected) }
     ensures { number_of result ≡ first_no (trb_questions facts outcome «data» regions) }
 {
-    if trb::MAX_TRANSFER_LENGTH < data.transfer_length {
-        return Answer::Refused(Refusal::TransferTooLong);
-    }
+    trb::ask(
+        data.transfer_length <= trb::MAX_TRANSFER_LENGTH,
+        Refusal::TransferTooLong,
+    )?;
     if phase_table::is_held(outcome) {
-        return ask_of_held(facts, outcome, data, regions);
+        ask_of_held(facts, outcome, data, regions)
+    } else {
+        Ok(())
     }
-    Answer::Accepted
 }
 
 // Questions 1, 13, 2 to 4, 21 and 5 to 7, of a log and a collect buffer of these lengths, guest memory in these regions, and a TRB that
 // becomes this and moves this data.
+#[tactic(auto, unfolding(trb::specs::Questions::first_no, control_questions::specs::Submission::submission_questions))]
 pub fn ask_submission(
     log_length: usize,
     collect_length: usize,
@@ -141,21 +149,19 @@ pub fn ask_submission(
 ) -> Answer
     ensures { (t : TransferTrb) → «data» ≡ data_of t.variant → number_of result ≡ first_no (submission_questions log_length collect_length facts outcome t regions) }
 {
-    if log_length < trb::MIN_LOG {
-        return Answer::Refused(Refusal::BufferTooShort);
-    }
-    if collect_length < trb::MAX_COLLECTED {
-        return Answer::Refused(Refusal::BufferTooShort);
-    }
-    if guest_memory::share_an_address(regions) {
-        return Answer::Refused(Refusal::RegionsOverlap);
-    }
-    if !control_block::is_sound(facts) {
-        return Answer::Refused(Refusal::UnsoundBlock);
-    }
-    if !control_block::submission_due(facts.state) {
-        return Answer::Refused(Refusal::OutOfTurn);
-    }
+    trb::ask(
+        trb::MIN_LOG <= log_length && trb::MAX_COLLECTED <= collect_length,
+        Refusal::BufferTooShort,
+    )?;
+    trb::ask(
+        !guest_memory::share_an_address(regions),
+        Refusal::RegionsOverlap,
+    )?;
+    trb::ask(control_block::is_sound(facts), Refusal::UnsoundBlock)?;
+    trb::ask(
+        control_block::submission_due(facts.state),
+        Refusal::OutOfTurn,
+    )?;
     ask_of_trb(facts, outcome, data, regions)
 }
 

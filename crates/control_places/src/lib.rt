@@ -107,10 +107,10 @@ fn error_address(block: &[u8]) -> u64
     ensures { result ≡ error_address (block_of block.now) }
 {
     let transfer = control_bytes::transfer(block);
-    let request = transfer.request;
+    let setup = transfer.request.address;
     match control_bytes::release(block) {
-        GuestRelease::Release4 => request.address,
-        GuestRelease::Release5 => stage_address(block, request.address),
+        GuestRelease::Release4 => setup,
+        GuestRelease::Release5 => stage_address(block, setup),
     }
 }
 

@@ -1,4 +1,5 @@
 -- What follows for a completion where no question is answered no. Assumes nothing.
+use Rattle.std.specs.Prelude.{Option}
 use Prim.Native.Nat.{ℕ, ◌≤◌}
 use mathlib.Core.Path.{◌≡◌}
 use mathlib.Core.Bool.{Bool, not}
@@ -21,7 +22,7 @@ pub record Passed (log : ℕ) (f : BlockFacts) (n : ℕ) : Type 0 where
   pub data-short : n ≤ max_data
 
 -- the questions from each on
-module _ (f : BlockFacts) (r : ControlRequestProcessingResult) (n : ℕ) where
+module _ (f : BlockFacts) (r : Option ControlRequestProcessingResult) (n : ℕ) where
   abbrev pub from-data : List (Bool × ℕ)
   from-data = (leb n max_data, 9) ∷ []
 

@@ -21,7 +21,7 @@ use trb::{Answer, ControlRequestProcessingResult, Refusal, TransferTrb};
 fn is_immediate_allowed(outcome: Outcome, input: bool, data: TrbData) -> bool
     ensures { result ≡ immediate_allowed outcome input «data» }
 {
-    !phase_table::is_held(outcome) || !input || !data.immediate_data
+    !(phase_table::is_held(outcome) && input && data.immediate_data)
 }
 
 // Question 5: if this TRB would be held, are then at most 512 held?
@@ -30,7 +30,7 @@ fn is_room(outcome: Outcome, held: usize) -> bool
     requires { held ≤ max_held }
     ensures { result ≡ has_room outcome held }
 {
-    !phase_table::is_held(outcome) || phase_table::is_restart(outcome) || held + 1 <= trb::MAX_HELD
+    !phase_table::is_held(outcome) || phase_table::is_restart(outcome) || held < trb::MAX_HELD
 }
 
 // Question 6: if it would be held, does its data lie in guest memory?
@@ -46,8 +46,11 @@ fn is_collectable(outcome: Outcome, input: bool, collected: usize, data: TrbData
     requires { collected ≤ max_collected }
     ensures { result ≡ collectable outcome input collected «data» }
 {
-    !control_transfer::is_collected(outcome, input)
-        || collected + control_transfer::size_of(data) as usize <= trb::MAX_COLLECTED
+    if !control_transfer::is_collected(outcome, input) {
+        return true;
+    }
+    let size = control_transfer::size_of(data) as usize;
+    collected + size <= trb::MAX_COLLECTED
 }
 
 // Questions 1, 13, 2 to 4, 21 and 5 to 7, of a log and a collect buffer of these lengths, guest memory in these regions, and a TRB that
@@ -64,72 +67,59 @@ pub fn ask_submission(
     ensures { number_of result ≡ first_no (submission_questions log_length collect_length facts outcome t regions) }
 {
     let data = control_transfer::data_of(t.variant);
-    if log_length < trb::MIN_LOG {
-        return Answer::Refused(Refusal::BufferTooShort);
-    }
-    if collect_length < trb::MAX_COLLECTED {
-        return Answer::Refused(Refusal::BufferTooShort);
-    }
-    if guest_memory::share_an_address(regions) {
-        return Answer::Refused(Refusal::RegionsOverlap);
-    }
-    if !control_block::is_sound(facts) {
-        return Answer::Refused(Refusal::UnsoundBlock);
-    }
-    if !control_block::submission_due(facts.state) {
-        return Answer::Refused(Refusal::OutOfTurn);
-    }
-    if trb::MAX_TRANSFER_LENGTH < trb::transfer_length(t.variant) {
-        return Answer::Refused(Refusal::TransferTooLong);
-    }
-    if !is_immediate_allowed(outcome, facts.direction, data) {
-        return Answer::Refused(Refusal::ImmediateInput);
-    }
-    if !is_room(outcome, facts.held) {
-        return Answer::Refused(Refusal::TooManyHeld);
-    }
-    if !is_reached(outcome, facts.direction, data, regions) {
-        return Answer::Refused(Refusal::OutsideGuestMemory);
-    }
-    if !is_collectable(outcome, facts.direction, facts.collected, data) {
-        return Answer::Refused(Refusal::TooMuchCollected);
-    }
-    Answer::Accepted
+    trb::ask(
+        trb::MIN_LOG <= log_length && trb::MAX_COLLECTED <= collect_length,
+        Refusal::BufferTooShort,
+    )?;
+    trb::ask(
+        !guest_memory::share_an_address(regions),
+        Refusal::RegionsOverlap,
+    )?;
+    trb::ask(control_block::is_sound(facts), Refusal::UnsoundBlock)?;
+    trb::ask(
+        control_block::submission_due(facts.state),
+        Refusal::OutOfTurn,
+    )?;
+    trb::ask(
+        trb::transfer_length(t.variant) <= trb::MAX_TRANSFER_LENGTH,
+        Refusal::TransferTooLong,
+    )?;
+    trb::ask(
+        is_immediate_allowed(outcome, facts.direction, data),
+        Refusal::ImmediateInput,
+    )?;
+    trb::ask(is_room(outcome, facts.held), Refusal::TooManyHeld)?;
+    trb::ask(
+        is_reached(outcome, facts.direction, data, regions),
+        Refusal::OutsideGuestMemory,
+    )?;
+    trb::ask(
+        is_collectable(outcome, facts.direction, facts.collected, data),
+        Refusal::TooMuchCollected,
+    )
 }
 
 // ---- Completion
-
-// Is a device result given?
-fn is_given(res: ControlRequestProcessingResult) -> bool
-    ensures { result ≡ is_given res }
-{
-    !matches!(res, ControlRequestProcessingResult::NoneGiven)
-}
 
 // Questions 1, 2, 3, 8 and 9, of a log and device data of these lengths.
 #[tactic(auto, unfolding(trb::specs::Questions::first_no, crate::specs::Completion::completion_questions))]
 pub fn ask_completion(
     log_length: usize,
     facts: BlockFacts,
-    res: ControlRequestProcessingResult,
+    res: Option<ControlRequestProcessingResult>,
     data_length: usize,
 ) -> Answer
     ensures { number_of result ≡ first_no (completion_questions log_length facts res data_length) }
 {
-    if log_length < trb::MIN_LOG {
-        return Answer::Refused(Refusal::BufferTooShort);
-    }
-    if !control_block::is_sound(facts) {
-        return Answer::Refused(Refusal::UnsoundBlock);
-    }
-    if control_block::submission_due(facts.state) {
-        return Answer::Refused(Refusal::OutOfTurn);
-    }
-    if is_given(res) != control_block::awaits_device(facts.state) {
-        return Answer::Refused(Refusal::DeviceResultMismatch);
-    }
-    if trb::MAX_DATA < data_length {
-        return Answer::Refused(Refusal::DataTooLong);
-    }
-    Answer::Accepted
+    trb::ask(trb::MIN_LOG <= log_length, Refusal::BufferTooShort)?;
+    trb::ask(control_block::is_sound(facts), Refusal::UnsoundBlock)?;
+    trb::ask(
+        !control_block::submission_due(facts.state),
+        Refusal::OutOfTurn,
+    )?;
+    trb::ask(
+        res.is_some() == control_block::awaits_device(facts.state),
+        Refusal::DeviceResultMismatch,
+    )?;
+    trb::ask(data_length <= trb::MAX_DATA, Refusal::DataTooLong)
 }

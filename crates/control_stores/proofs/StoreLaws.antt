@@ -1,4 +1,5 @@
 -- The block that the bytes become, by what is stored. Assumes nothing.
+use Rattle.std.specs.Prelude.{Ok}
 use Prim.Native.Nat.{ℕ, ◌+◌, ◌*◌, ◌-◌, ◌≤◌}
 use mathlib.Core.Path.{◌≡◌, refl, sym, ap, ◌∙◌, subst}
 use mathlib.Core.Bool.{Bool, true, false, cond}
@@ -7,7 +8,6 @@ use native.Mathlib.Omega.{arith}
 use lib.ListN.{drop, set}
 use lib.Seq.{drop-drop}
 use Rattle.trb.specs.Limits.{max_held}
-use Rattle.trb.specs.declared.Answer.TheVariants.{Accepted}
 use Rattle.trb.specs.declared.ControlSubmissionState.{ControlSubmissionState}
 use Rattle.trb.specs.declared.ControlSubmissionState.TheVariants.{NoTrbSubmitted}
 use Rattle.trb.specs.declared.ControlTransferState.{ControlTransferState}
@@ -33,8 +33,8 @@ use Rattle.control_endpoint.specs.Completion as completes
 use Rattle.control_endpoint.specs.Completion.{block_behind}
 use Rattle.control_endpoint.specs.Submission as submits
 use Rattle.control_endpoint.specs.Submission.{dropped_before, held_after, places_dropped, block_after}
-use Rattle.control_endpoint.specs.declared.Completed.{Completed}
-use Rattle.control_endpoint.specs.declared.Submitted.{Submitted}
+use Rattle.control_endpoint.specs.Returned.{Completed}
+use Rattle.control_endpoint.specs.Returned.{Submitted}
 use Rattle.control_endpoint.proofs.CompletionLaws.{completed-by}
 use Rattle.control_endpoint.proofs.SubmissionLaws.{leaves-stored, leaves_kept, submitted-by}
 use Rattle.control_stores.specs.Becomes.{Held, Becomes}
@@ -147,7 +147,7 @@ module _ (b b' : List ℕ) (o : Outcome) (t : TransferTrb) (n r : ℕ) (count : 
       let rule = h.rule in
       record {
         block = p.block ∙ (λ j. blocks.block_of (endpoint j) (slot j) (rule j) w state r (places_in r (drop head_length b')))
-            ∙ ap (λ (x : Submitted). x.block) (submitted-by old t o Accepted _ w state r (places_in r (drop head_length b')) refl refl at now (left_by (holds o) refl h.held h.places));
+            ∙ ap (λ (x : Submitted). x.block) (submitted-by old t o (Ok tt) _ w state r (places_in r (drop head_length b')) refl refl at now (left_by (holds o) refl h.held h.places));
         behind = behind-block b' b'' p.behind ∙ h.behind;
         long = p.long ∙ h.long;
       }

@@ -47,7 +47,6 @@ fn advance(
     ensures { Headed block.old (transfer_after outcome (trb_of numbers).variant numbers.addr transfer) (state_after outcome numbers.addr) held block.new }
 {
     let before = transfer.phase;
-    let request = transfer.request;
     let phase = phase_table::phase_after(before, outcome);
     let state = phase_table::state_after(outcome, numbers.addr);
     if control_numbers::begins(outcome, numbers.kind) {
@@ -57,7 +56,7 @@ fn advance(
     }
     let input = transfer.direction;
     let size = control_numbers::size_taken(outcome, data);
-    let request_length = control_numbers::length_after(input, request.length, size);
+    let request_length = control_numbers::length_after(input, transfer.request.length, size);
     let collected = control_numbers::collected_after(input, transfer.collected, size);
     control_bytes::put_turn(block, phase, state, input);
     control_bytes::put_counts(block, collected, request_length, held);
@@ -83,7 +82,6 @@ pub fn end_transfer(block: &mut [u8], ending: Ending)
 {
     let transfer = control_bytes::transfer(block);
     let before = transfer.phase;
-    let request = transfer.request;
     let state = control_bytes::state(block);
     let held = control_bytes::held(block);
     let freed = control_block::places_freed(ending, held);
@@ -94,5 +92,10 @@ pub fn end_transfer(block: &mut [u8], ending: Ending)
         ControlSubmissionState::NoTrbSubmitted,
         transfer.direction,
     );
-    control_bytes::put_counts(block, transfer.collected, request.length, held - freed);
+    control_bytes::put_counts(
+        block,
+        transfer.collected,
+        transfer.request.length,
+        held - freed,
+    );
 }

@@ -43,12 +43,12 @@ pub fn submit_trb<'a>(
         regions,
     );
     match answer {
-        Answer::Refused(_) => Submitted {
+        Err(_) => Submitted {
             answer,
             records: 0,
             block,
         },
-        Answer::Accepted => {
+        Ok(()) => {
             let mut held = block.held;
             let mut trbs = block.trbs;
             let info = TdInfo {
@@ -59,13 +59,11 @@ pub fn submit_trb<'a>(
             let blank = held::blank();
             let dropped = places_dropped(phase_table::is_restart(outcome), held);
             let mut progress = td_part::at_start_of_td();
-            let mut j = 0;
             // An index: each place is read, reported and blanked where it lies, in one pass.
-            while j < dropped {
+            for j in 0..dropped {
                 let one = trbs[j];
                 progress = control_dropped::report_dropped(log, info, progress, one);
                 trbs[j] = blank;
-                j += 1;
             }
             held -= dropped;
             let records = control_transfer::log_request(

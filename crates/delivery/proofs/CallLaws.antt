@@ -1,5 +1,6 @@
 -- The promise of `complete_and_carry_out`: a no leaves everything as it was; behind a yes to every question the log is the completion's, carry-out accepts it, and
 -- the frame is delivered whole. Assumes nothing.
+use Rattle.std.specs.Prelude.{Ok, Option}
 use Prim.Native.Nat.{ℕ, ◌*◌, ◌≤◌}
 use mathlib.Core.Bool.{Bool, true, false, true≢false}
 use mathlib.Core.Path.{◌≡◌, sym, ap, ◌∙◌, subst}
@@ -9,9 +10,8 @@ use Rattle.trb.specs.Answers.{number_of, said}
 use Rattle.trb.specs.Answers as asked
 use Rattle.trb.specs.Limits.{record_length}
 use Rattle.trb.specs.Questions.{first_no}
-use Rattle.trb.specs.declared.Answer.{Answer}
-use Rattle.trb.specs.declared.Answer.TheVariants.{Accepted}
-use Rattle.trb.specs.declared.InTrbProcessingResult.{InTrbProcessingResult}
+use Rattle.trb.specs.Answers.{Answer}
+use Rattle.trb.specs.declared.InTrbProcessingStatus.{InTrbProcessingStatus}
 use Rattle.trb.specs.declared.TrbProcessingResult.{TrbProcessingResult}
 use Rattle.trb.proofs.AnswerLaws.{answered-no}
 use Rattle.call_log.specs.Calls.{Out, Meets}
@@ -25,13 +25,13 @@ use Rattle.carry_out.proofs.CarryOutLaws.{answer_of-encode_all, memory_after-enc
 use Rattle.in_block.specs.Outcomes.{ending_of}
 use Rattle.in_block.specs.declared.InBlock.{InBlock}
 use Rattle.in_endpoint.specs.Completion.{refused, completion_answer, is_accepted, Completes}
-use Rattle.in_endpoint.specs.declared.Completed.{Completed}
+use Rattle.in_endpoint.specs.Returned.{Completed}
 use Rattle.in_endpoint.proofs.CompletionLaws.{completion_answer-number, completion_answer-refused}
 use Rattle.delivery.specs.Completing.{completed, delivery_questions, delivery, DeliveredWhole, Delivers}
 use Rattle.delivery.proofs.CompletionLaws.{kinds-ended, done-meets, done-fits, done-bytes, delivered-done}
 use Rattle.delivery.proofs.QuestionLaws.{PassedDelivery, passed-delivery}
 
-module _ (b : InBlock) (s : InTrbProcessingResult) (bytes l : List ℕ) (m : Memory) where
+module _ (b : InBlock) (s : Option InTrbProcessingStatus) (bytes l : List ℕ) (m : Memory) where
   abbrev questions : List (Bool × ℕ)
   questions = delivery_questions (length l) b s (length bytes) (regions_of m)
 
@@ -82,14 +82,14 @@ module _ (b : InBlock) (s : InTrbProcessingResult) (bytes l : List ℕ) (m : Mem
     carried-done a m' carried =
         let stored : take (record_length * r.records) l' ≡ encode_all done.records = done-bytes b s (length bytes) l r l' h passed.completes in
         let fits = (done-meets b s (length bytes) l r l' h passed.completes).fits in
-        let yes : a ≡ Accepted =
+        let yes : a ≡ (Ok tt) =
         carried.answer
         ∙ ap (λ (log : List ℕ). answer_of log (length bytes) (regions_of m)) stored
         ∙ answer_of-encode_all done.records fits (length bytes) (regions_of m) passed.apart (kinds-ended b (ending_of b.state s (length bytes)))
         ∙ rw passed.writes in
         carried.after
         ∙ ap (λ (x : Answer). memory_after x (take (record_length * r.records) l') bytes m) yes
-        ∙ ap (λ (log : List ℕ). memory_after Accepted log bytes m) stored
+        ∙ ap (λ (log : List ℕ). memory_after (Ok tt) log bytes m) stored
         ∙ memory_after-encode_all done.records fits bytes m
 
     pub delivers-yes : (a : Answer) (m' : Memory) → Carried (take (record_length * r.records) l') bytes m a m' → Delivers b s bytes l m r l' m'

@@ -1,5 +1,6 @@
 -- No torn frame, of a completion: what it logs is a TD's log, an event or nothing, so carry-out knows every kind, and question 11 can be told by the TRBs held.
 -- Where the regions share no address and every Normal's range lies in one of them, an accepted completion delivers the frame whole. Assumes nothing.
+use Rattle.std.specs.Prelude.{None, Option, Some}
 use Prim.Native.Nat.{ℕ, ◌*◌, ◌≤◌}
 use mathlib.Core.Bool.{true, false, cond, true≢false}
 use mathlib.Core.Path.{◌≡◌, refl, sym, ap, ◌∙◌, subst}
@@ -8,8 +9,7 @@ use native.Mathlib.Omega.{arith}
 use lib.ListN.{length, take, length-take}
 use Rattle.trb.specs.Limits.{record_length}
 use Rattle.trb.specs.Questions.{first_no, agree}
-use Rattle.trb.specs.declared.InTrbProcessingResult.{InTrbProcessingResult}
-use Rattle.trb.specs.declared.InTrbProcessingResult.TheVariants.{NoneGiven, Given}
+use Rattle.trb.specs.declared.InTrbProcessingStatus.{InTrbProcessingStatus}
 use Rattle.trb.specs.declared.InTrbProcessingStatus.TheVariants.{Success}
 use Rattle.trb.specs.declared.TdBasedNormalSubmissionState.{TdBasedNormalSubmissionState}
 use Rattle.trb.specs.declared.TdBasedNormalSubmissionState.TheVariants.{SubmissionDue, CollectingTd, AwaitingRealTransfer, AwaitingLocalCompletion, UnsupportedTrb}
@@ -33,7 +33,7 @@ use Rattle.in_block.specs.declared.InBlock.{InBlock}
 use Rattle.in_questions.specs.Questions.{is_given, completion_questions}
 use Rattle.in_questions.proofs.PassedLaws.{passed-completion}
 use Rattle.in_endpoint.specs.Completion.{transferred, completed_as, completion, is_accepted, Completes}
-use Rattle.in_endpoint.specs.declared.Completed.{Completed}
+use Rattle.in_endpoint.specs.Returned.{Completed}
 use Rattle.in_endpoint.proofs.CompletionLaws.{accepted-none, completed_as-counts}
 use Rattle.carry_out.proofs.CarryOutLaws.{take-logged}
 use Rattle.delivery_laws.specs.Ranges.{InRegions, writes_inside}
@@ -54,12 +54,12 @@ module _ (b : InBlock) where
   kinds-ended (ReportUnsupported a) = refl
 
   -- question 11, told by the TRBs held: of a TD the device's n bytes are written; no other completion writes any
-  pub inside-ended : (n : ℕ) (regions : Regions) (x : TdBasedNormalSubmissionState) (r : InTrbProcessingResult) → agree (is_given r) (awaits_device x) ≡ true
+  pub inside-ended : (n : ℕ) (regions : Regions) (x : TdBasedNormalSubmissionState) (r : Option InTrbProcessingStatus) → agree (is_given r) (awaits_device x) ≡ true
       → writes_in_range n regions (completed_as (ending_of x r n) b).records ≡ writes_inside regions (cond (awaits_device x) n 0) (held_of b)
   unfolding transferred write_in_range moves_bytes
-  inside-ended n regions AwaitingRealTransfer (Given st) e =
+  inside-ended n regions AwaitingRealTransfer (Some st) e =
       writes_in_range-process_td b.endpoint_id b.slot_id b.mode st n n regions (held_of b) (omega arith)
-  inside-ended n regions AwaitingRealTransfer NoneGiven e = absurd (true≢false (sym e))
+  inside-ended n regions AwaitingRealTransfer None e = absurd (true≢false (sym e))
   inside-ended n regions AwaitingLocalCompletion r e =
       writes_in_range-process_td b.endpoint_id b.slot_id b.mode Success 0 n regions (held_of b) (omega arith)
   inside-ended n regions SubmissionDue r e = sym (writes_inside-none regions (held_of b))
@@ -68,7 +68,7 @@ module _ (b : InBlock) where
 
 -- ---- An accepted completion
 
-module _ (b : InBlock) (s : InTrbProcessingResult) (n : ℕ) (l : List ℕ) (r : Completed) (l' : List ℕ) (h : Completes b s n l r l')
+module _ (b : InBlock) (s : Option InTrbProcessingStatus) (n : ℕ) (l : List ℕ) (r : Completed) (l' : List ℕ) (h : Completes b s n l r l')
     (none : first_no (completion_questions (length l) (facts_of b) s n) ≡ 0) where
   abbrev records : List Record
   records = (completed b s n).records
@@ -95,7 +95,7 @@ module _ (b : InBlock) (s : InTrbProcessingResult) (n : ℕ) (l : List ℕ) (r :
   done-account : Account n (held_of b) (records_in r.records l') → Account n (held_of b) records
   done-account = subst (Account n (held_of b)) (rw (done-count, done-meets.log) (records_in-logged l 0 records (omega arith) done-meets.fits))
 
-module _ (bytes : List ℕ) (m : Memory) (b : InBlock) (s : InTrbProcessingResult) (l : List ℕ) (r : Completed) (l' : List ℕ) (h : Completes b s (length bytes) l r l')
+module _ (bytes : List ℕ) (m : Memory) (b : InBlock) (s : Option InTrbProcessingStatus) (l : List ℕ) (r : Completed) (l' : List ℕ) (h : Completes b s (length bytes) l r l')
     (apart : share_an_address (regions_of m) ≡ false) where
   -- the writes of an accepted completion lie in range: carried out, they deliver the frame whole
   pub delivered-done : (none : first_no (completion_questions (length l) (facts_of b) s (length bytes)) ≡ 0)

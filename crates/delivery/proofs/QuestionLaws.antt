@@ -1,5 +1,6 @@
 -- The questions of a completion that is carried out at once, behind 1 and 13: those of a completion, and where each was answered with yes, question 11.
 -- Assumes nothing.
+use Rattle.std.specs.Prelude.{Err, Ok, Option}
 use Prim.Native.Nat.{ℕ, zero, suc}
 use mathlib.Core.Bool.{Bool, true, false, not, cond}
 use mathlib.Core.Path.{◌≡◌, refl, sym, ap, ◌∙◌}
@@ -10,8 +11,9 @@ use borrow.Author.Tests.{ne_eqb, not-true}
 use Rattle.trb.specs.Answers.{number_of, is_accepted}
 use Rattle.trb.specs.Limits.{min_log, max_data}
 use Rattle.trb.specs.Questions.{first_no, after_questions, agree}
-use Rattle.trb.specs.declared.Answer.{Answer}
-use Rattle.trb.specs.declared.InTrbProcessingResult.{InTrbProcessingResult}
+use Rattle.trb.specs.Answers.{Answer}
+use Rattle.trb.specs.declared.InTrbProcessingStatus.{InTrbProcessingStatus}
+use Rattle.trb.specs.declared.Refusal.TheVariants.{WriteOutOfRange}
 use Rattle.trb.proofs.AnswerLaws.{answered-yes, answered-no, answered-all}
 use Rattle.trb.proofs.QuestionLaws.{yes-first, yes-behind}
 use Rattle.guest_memory.specs.declared.Regions.{Regions}
@@ -26,7 +28,11 @@ use Rattle.delivery_laws.specs.Ranges.{writes_inside}
 use Rattle.delivery.specs.Completing.{completed, delivery_questions}
 use Rattle.delivery.proofs.CompletionLaws.{inside-ended}
 
-module _ (l : ℕ) (b : InBlock) (r : InTrbProcessingResult) (n : ℕ) (regions : Regions) where
+asked-number : (t : Bool) → number_of (cond t (Ok tt) (Err WriteOutOfRange)) ≡ cond t 0 11
+asked-number true = refl
+asked-number false = refl
+
+module _ (l : ℕ) (b : InBlock) (r : Option InTrbProcessingStatus) (n : ℕ) (regions : Regions) where
   abbrev inside : Bool
   inside = writes_in_range n regions (completed b r n).records
 
@@ -56,13 +62,14 @@ module _ (l : ℕ) (b : InBlock) (r : InTrbProcessingResult) (n : ℕ) (regions 
         known = passed-completion l (facts_of b) r n (answered-all a (completion_questions l (facts_of b) r n) asked passed)
 
         -- only question 11 is left, which the TRBs held tell
-        pub number-yes : (t : Bool) → t ≡ writes_inside regions (cond (awaits_device b.state) n 0) (held_of b) → cond t 0 11 ≡ first_no (delivery_questions l b r n regions)
+        pub number-yes : (t : Bool) → t ≡ writes_inside regions (cond (awaits_device b.state) n 0) (held_of b) → number_of (cond t (Ok tt) (Err WriteOutOfRange)) ≡ first_no (delivery_questions l b r n regions)
         number-yes t e =
-            ap (λ (u : Bool). cond u 0 11) (e ∙ sym (inside-ended b n regions b.state r known.agreed))
+            asked-number t
+            ∙ ap (λ (u : Bool). cond u 0 11) (e ∙ sym (inside-ended b n regions b.state r known.agreed))
             ∙ sym (delivery-number ∙ answered-yes (completion_questions l (facts_of b) r n) (λ k. k) (cond inside 0 11) a asked passed)
 
 -- what is known once every question was answered with yes
-pub record PassedDelivery (l : ℕ) (b : InBlock) (r : InTrbProcessingResult) (n : ℕ) (regions : Regions) : Type 0 where
+pub record PassedDelivery (l : ℕ) (b : InBlock) (r : Option InTrbProcessingStatus) (n : ℕ) (regions : Regions) : Type 0 where
   pub apart : share_an_address regions ≡ false
   pub completes : first_no (completion_questions l (facts_of b) r n) ≡ 0
   pub writes : writes_in_range n regions (completed b r n).records ≡ true
@@ -73,7 +80,7 @@ both-passed zero true e = (refl, refl)
 both-passed zero false e = absurd (omega arith)
 both-passed (suc k) inside e = absurd (omega (arith, rw (ne_eqb (suc k) 0 (λ q. omega arith)) at e))
 
-pub passed-delivery : (l : ℕ) (b : InBlock) (r : InTrbProcessingResult) (n : ℕ) (regions : Regions) → first_no (delivery_questions l b r n regions) ≡ 0
+pub passed-delivery : (l : ℕ) (b : InBlock) (r : Option InTrbProcessingStatus) (n : ℕ) (regions : Regions) → first_no (delivery_questions l b r n regions) ≡ 0
     → PassedDelivery l b r n regions
 unfolding delivery_questions
 passed-delivery l b r n regions none =

@@ -16,7 +16,7 @@ use guest_memory::Regions;
 use in_block::InBlock;
 use in_endpoint::Completed;
 use trb::{
-    Answer, InTrbProcessingResult, Refusal, TdBasedNormalSubmissionState, TransferTrb,
+    Answer, InTrbProcessingStatus, Refusal, TdBasedNormalSubmissionState, TransferTrb,
     TransferTrbVariant, TrbProcessingResult,
 };
 
@@ -75,35 +75,27 @@ pub fn bytes_given(state: TdBasedNormalSubmissionState, data_length: u32) -> u32
 }
 
 // Questions 1, 13, 2, 3, 8, 9 and 11, of a log and device data of these lengths and guest memory in these regions.
+#[tactic(auto, unfolding(trb::specs::Questions::first_no, crate::specs::Completing::delivery_questions))]
 fn ask(
     log_length: usize,
     block: &InBlock,
-    res: InTrbProcessingResult,
+    res: Option<InTrbProcessingStatus>,
     data_length: usize,
     regions: Regions,
 ) -> Answer
     ensures { number_of result ≡ first_no (delivery_questions log_length block.now res data_length regions) }
 {
-    if log_length < trb::MIN_LOG {
-        return Answer::Refused(Refusal::BufferTooShort);
-    }
-    if guest_memory::share_an_address(regions) {
-        return Answer::Refused(Refusal::RegionsOverlap);
-    }
-    let completion = in_questions::ask_completion(
-        log_length,
-        in_block::facts_of(block),
-        res,
-        data_length,
-    );
-    if !trb::is_accepted(completion) {
-        return completion;
-    }
+    trb::ask(trb::MIN_LOG <= log_length, Refusal::BufferTooShort)?;
+    trb::ask(
+        !guest_memory::share_an_address(regions),
+        Refusal::RegionsOverlap,
+    )?;
+    in_questions::ask_completion(log_length, in_block::facts_of(block), res, data_length)?;
     let given = bytes_given(block.state, data_length as u32);
-    if !writes_inside(in_block::held_of(block), given, regions) {
-        return Answer::Refused(Refusal::WriteOutOfRange);
-    }
-    Answer::Accepted
+    trb::ask(
+        writes_inside(in_block::held_of(block), given, regions),
+        Refusal::WriteOutOfRange,
+    )
 }
 
 // ---- The call
@@ -130,7 +122,7 @@ pub fn carry_out_first(
 pub fn complete_and_carry_out(
     log: &mut [u8],
     block: InBlock,
-    res: InTrbProcessingResult,
+    res: Option<InTrbProcessingStatus>,
     data: &[u8],
     low_base: u64,
     low: &mut [u8],
@@ -141,7 +133,7 @@ pub fn complete_and_carry_out(
 {
     let regions = guest_memory::guest_regions(low_base, low.len(), high_base, high.len());
     let asked = ask(log.len(), &block, res, data.len(), regions);
-    if !trb::is_accepted(asked) {
+    if asked.is_err() {
         return Completed {
             answer: in_endpoint::completion_answer(asked, TrbProcessingResult::Ok),
             records: 0,
@@ -149,6 +141,7 @@ pub fn complete_and_carry_out(
         };
     }
     let done = in_completion::next_completion(log, block, res, data);
-    carry_out_first(log, done.records, data, low_base, low, high_base, high);
+    // What is asked of a log was asked above: it is carried out.
+    let _ = carry_out_first(log, done.records, data, low_base, low, high_base, high);
     done
 }

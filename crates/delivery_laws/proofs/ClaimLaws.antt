@@ -1,10 +1,10 @@
 -- The test of specs/Claims.antt is true of every log that delivers its frame whole; so the torn ones do not. Assumes nothing.
+use Rattle.std.specs.Prelude.{Ok}
 use Prim.Native.Nat.{ℕ}
 use mathlib.Core.Path.{◌≡◌, refl, sym, ◌∙◌}
 use mathlib.Core.Bool.{true, false, false≢true}
 use mathlib.Core.List.{List, [], ◌∷◌}
 use borrow.Author.Tests.{eq-eqb}
-use Rattle.trb.specs.declared.Answer.TheVariants.{Accepted}
 use Rattle.trb.specs.declared.TransferTrb.{TransferTrb}
 use Rattle.guest_memory.specs.Places.{Memory}
 use Rattle.carry_out.specs.CarryOut.{memory_after}
@@ -20,8 +20,8 @@ module _ (bytes : List ℕ) (m : Memory) (ts : List TransferTrb) (log : List ℕ
   pub whole-Delivered : Delivered bytes m ts log m' → is_whole bytes m ts log ≡ true
   unfolding is_whole
   whole-Delivered d =
-      let at_event : memory_after Accepted (up_to_event log) bytes m ≡ frame_of bytes m ts = sym d.at_event.after ∙ d.frame in
-      let at_end : memory_after Accepted log bytes m ≡ frame_of bytes m ts = sym d.at_end.after ∙ d.frame in
+      let at_event : memory_after (Ok tt) (up_to_event log) bytes m ≡ frame_of bytes m ts = sym d.at_event.after ∙ d.frame in
+      let at_end : memory_after (Ok tt) log bytes m ≡ frame_of bytes m ts = sym d.at_end.after ∙ d.frame in
       rw (at_event, at_end, same_bytes-refl (frame_of bytes m ts).low, same_bytes-refl (frame_of bytes m ts).high)
 
   pub torn-not-Delivered : is_whole bytes m ts log ≡ false → Delivered bytes m ts log m' → ⊥

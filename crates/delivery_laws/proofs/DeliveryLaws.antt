@@ -1,5 +1,6 @@
 -- No torn frame. The account says which bytes the writes before the event stand for, and that none comes later; the heart says that the writes, carried out,
 -- lay these bytes. So guest memory at the event is the frame, and stays so to the end of the log. Assumes nothing.
+use Rattle.std.specs.Prelude.{Ok}
 use Prim.Native.Nat.{ℕ, zero, suc, ◌+◌, ◌*◌, ◌<◌, min}
 use mathlib.Core.Bool.{true, false}
 use mathlib.Core.Path.{◌≡◌, refl, sym, ap, ◌∙◌, subst}
@@ -10,7 +11,6 @@ use lib.ListN.{length, take, get_or, take-append-drop}
 use lib.Seq.{get_or-take, length-take-le, take_all, take-append-add}
 use Rattle.trb.specs.Limits.{record_length}
 use Rattle.trb.specs.Questions.{first_no}
-use Rattle.trb.specs.declared.Answer.TheVariants.{Accepted}
 use Rattle.trb.specs.declared.TransferTrb.{TransferTrb}
 use Rattle.trb.proofs.TestLaws.{and_left, and_right, or-false-left, or-false-right}
 use Rattle.call_log.specs.Logs.{encode_all, AllFit}
@@ -76,7 +76,7 @@ module _ (bytes : List ℕ) where
   -- ---- Carry-out accepts
 
   carried-encode_all : (m : Memory) (rs : List Record) → AllFit rs → kinds_known rs ≡ true → share_an_address (regions_of m) ≡ false
-      → writes_in_range (length bytes) (regions_of m) rs ≡ true → Carried (encode_all rs) bytes m Accepted (written bytes m rs)
+      → writes_in_range (length bytes) (regions_of m) rs ≡ true → Carried (encode_all rs) bytes m (Ok tt) (written bytes m rs)
   unfolding first_no
   carried-encode_all m rs fits known apart inside = record {
     number = rw (apart, well_formed-encode_all rs fits, known, records_of-encode_all rs fits, inside);
@@ -94,7 +94,7 @@ module _ (bytes : List ℕ) where
         rw both.0 (inside_take k rs both.1)
 
     pub carried_first : (k : ℕ) (rs : List Record) → AllFit rs → kinds_known rs ≡ true → writes_in_range (length bytes) (regions_of m) rs ≡ true
-        → Carried (take (record_length * k) (encode_all rs)) bytes m Accepted (written bytes m (take k rs))
+        → Carried (take (record_length * k) (encode_all rs)) bytes m (Ok tt) (written bytes m (take k rs))
     carried_first k rs fits known inside =
         rw (take-encode_all k rs) (carried-encode_all m (take k rs) (fit-take k rs fits) (kinds-take k rs known) apart (inside_take k rs inside))
 
@@ -126,7 +126,7 @@ module _ (bytes : List ℕ) where
     pub delivered : AllFit rs → kinds_known rs ≡ true → Delivered bytes m ts (encode_all rs) (written bytes m rs)
     delivered fits known = record {
       at_event = rw (records_of-encode_all rs fits)
-          (subst (Carried (take (record_length * count_before rs) (encode_all rs)) bytes m Accepted) (written-before m rs h.none_later)
+          (subst (Carried (take (record_length * count_before rs) (encode_all rs)) bytes m (Ok tt)) (written-before m rs h.none_later)
           (carried_first m apart (count_before rs) rs fits known inside));
       at_end = carried-encode_all m rs fits known apart inside;
       frame = frame;

@@ -1,7 +1,6 @@
 -- No torn frame, as a test that computes: guest memory at the event, and at the end of the log, beside the frame that the device sent. Run on the logs of a TD
 -- over both regions, in either mode, under every status, and on logs of engines that would tear its frame. Assumes nothing.
-use Rattle.std.specs.Prelude.{ℕ, ◌≡◌, refl, Bool, true, false, ◌&&◌, List, [], ◌∷◌, ◌++◌, map, eqb, length, replicate}
-use Rattle.trb.specs.declared.Answer.TheVariants.{Accepted}
+use Rattle.std.specs.Prelude.{ℕ, ◌≡◌, refl, Bool, true, false, ◌&&◌, List, [], ◌∷◌, ◌++◌, map, eqb, length, replicate, Ok}
 use Rattle.trb.specs.declared.CompletionCode.TheVariants.{ShortPacket}
 use Rattle.trb.specs.declared.EndpointId.{EndpointId}
 use Rattle.trb.specs.declared.InTrbProcessingStatus.{InTrbProcessingStatus}
@@ -43,7 +42,7 @@ frame_of bytes m ts = laid bytes m (numbered 0 (first_places (length bytes) ts))
 -- guest memory is the frame at the event, and at the end of the log
 unfoldable pub is_whole : List ℕ → Memory → List TransferTrb → List ℕ → Bool
 is_whole bytes m ts log =
-    same_memory (memory_after Accepted (up_to_event log) bytes m) (frame_of bytes m ts) && same_memory (memory_after Accepted log bytes m) (frame_of bytes m ts)
+    same_memory (memory_after (Ok tt) (up_to_event log) bytes m) (frame_of bytes m ts) && same_memory (memory_after (Ok tt) log bytes m) (frame_of bytes m ts)
 
 -- ---- A TD over both regions
 

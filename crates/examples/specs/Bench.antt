@@ -1,14 +1,10 @@
 -- 01, Examples from the bench: those marked †, as one computed test on a list that holds them all; with them those of 02, R-4. Assumes nothing.
-use Rattle.std.specs.Prelude.{ℕ, true, false, List, [], ◌∷◌, map, ◌≡◌, refl, drop}
+use Rattle.std.specs.Prelude.{ℕ, true, false, List, [], ◌∷◌, map, ◌≡◌, refl, drop, None, Ok, Some}
 use Rattle.trb.specs.Ids.{ids_in_range}
-use Rattle.trb.specs.declared.CompletionAnswer.TheVariants.{Completed}
 use Rattle.trb.specs.declared.CompletionCode.{CompletionCode}
 use Rattle.trb.specs.declared.CompletionCode.TheVariants as code
-use Rattle.trb.specs.declared.ControlRequestProcessingResult.TheVariants as control
 use Rattle.trb.specs.declared.ControlRequestProcessingResult.TheVariants.{SuccessfulControlIn, SuccessfulControlOut}
-use Rattle.trb.specs.declared.InTrbProcessingResult.TheVariants.{NoneGiven, Given}
 use Rattle.trb.specs.declared.InTrbProcessingStatus.TheVariants as device
-use Rattle.trb.specs.declared.TransferTrb.{TransferTrb}
 use Rattle.trb.specs.declared.TrbProcessingResult.{TrbProcessingResult}
 use Rattle.trb.specs.declared.TrbProcessingResult.TheVariants as result
 use Rattle.call_log.specs.Logs.{encode_all}
@@ -74,7 +70,7 @@ collects : List ℕ → Seen → Seen
 collects bytes s = record { records = s.records; answer = s.answer; collected = bytes }
 
 ends : TrbProcessingResult → List Record → Seen
-ends r rs = record { records = rs; answer = Completed r; collected = [] }
+ends r rs = record { records = rs; answer = Ok r; collected = [] }
 
 -- what calls logged and answered, or what the log printer prints
 data Shown : Type 0 where
@@ -93,7 +89,7 @@ examples : List Example
 examples =
     -- T, Success, 600 bytes. The log printer, given this completion's log on standard input, prints exactly this
     record {
-      found = printed (log_text (encode_all (completion_log (on_in tdT (Given device.Success) 600))));
+      found = printed (log_text (encode_all (completion_log (on_in tdT (Some device.Success) 600))));
       expected = printed
           (lines (
           "1 0 0 3 2 8000 512 0 0000000000000000"
@@ -105,7 +101,7 @@ examples =
     }
     -- its records
     ∷ record {
-      found = seen (on_in tdT (Given device.Success) 600);
+      found = seen (on_in tdT (Some device.Success) 600);
       expected = seen (ends result.Ok
           (requested 0x1000 1536
           ∷ wrote 0x8000 512 0
@@ -116,13 +112,13 @@ examples =
     }
     -- T, Stall, 600: two writes, event at 0x1010, code 6, residual 424; result Stall with 0x1010
     ∷ record {
-      found = seen (on_in tdT (Given device.Stall) 600);
+      found = seen (on_in tdT (Some device.Stall) 600);
       expected = seen (ends (result.StallAt 0x1010 true)
           (requested 0x1000 1536 ∷ wrote 0x8000 512 0 ∷ wrote 0x8200 88 512 ∷ event code.StallError 0x1010 424 ∷ []));
     }
     -- T, Stall, 1,536: three writes, Success at 0x1020, result Ok
     ∷ record {
-      found = seen (on_in tdT (Given device.Stall) 1536);
+      found = seen (on_in tdT (Some device.Stall) 1536);
       expected = seen (ends result.Ok
           (requested 0x1000 1536
           ∷ wrote 0x8000 512 0
@@ -133,20 +129,20 @@ examples =
     }
     -- T, Success, 0: one write of 0; residual 512 at 0x1000 and at 0x1020
     ∷ record {
-      found = seen (on_in tdT (Given device.Success) 0);
+      found = seen (on_in tdT (Some device.Success) 0);
       expected = seen (ends result.Ok
           (requested 0x1000 1536 ∷ wrote 0x8000 0 0 ∷ event code.ShortPacket 0x1000 512 ∷ event code.ShortPacket 0x1020 512 ∷ []));
     }
     -- unchained NoOp alone with IOC: no request, Success, Ok
-    ∷ record { found = seen (on_in (no_op 0x1000 true false ∷ []) NoneGiven 0); expected = seen (ends result.Ok (event code.Success 0x1000 0 ∷ [])) }
+    ∷ record { found = seen (on_in (no_op 0x1000 true false ∷ []) None 0); expected = seen (ends result.Ok (event code.Success 0x1000 0 ∷ [])) }
     -- chained Normal 512 without IOC and ISP, then unchained EventData 0xABCD with IOC; Success, 100 bytes
     ∷ record {
-      found = seen (on_in (normal 0x1000 0x8000 512 false false true ∷ event_data 0x1010 0xABCD true false ∷ []) (Given device.Success) 100);
+      found = seen (on_in (normal 0x1000 0x8000 512 false false true ∷ event_data 0x1010 0xABCD true false ∷ []) (Some device.Success) 100);
       expected = seen (ends result.Ok (requested 0x1000 512 ∷ wrote 0x8000 100 0 ∷ event_data_of code.ShortPacket 0xABCD 100 ∷ []));
     }
     -- 02, R-4: T, Stall, 1,536 in strict mode: code 6 at 0x1020, result Stall with 0x1020
     ∷ record {
-      found = seen (on_strict tdT (Given device.Stall) 1536);
+      found = seen (on_strict tdT (Some device.Stall) 1536);
       expected = seen (ends (result.StallAt 0x1020 true)
           (requested 0x1000 1536
           ∷ wrote 0x8000 512 0
@@ -157,38 +153,38 @@ examples =
     }
     -- T, TransactionError, 600: as ported
     ∷ record {
-      found = seen (on_strict tdT (Given device.TransactionError) 600);
+      found = seen (on_strict tdT (Some device.TransactionError) 600);
       expected = seen (ends (result.TransactionErrorAt 0x1010 true)
           (requested 0x1000 1536 ∷ wrote 0x8000 512 0 ∷ wrote 0x8200 88 512 ∷ event code.UsbTransactionError 0x1010 424 ∷ []));
     }
     -- a stall on a read of 0 bytes, with no flag on: code 6
     ∷ record {
-      found = seen (on_strict (normal 0x1000 0x8000 0 false false false ∷ []) (Given device.Stall) 0);
+      found = seen (on_strict (normal 0x1000 0x8000 0 false false false ∷ []) (Some device.Stall) 0);
       expected = seen (ends (result.StallAt 0x1000 true) (requested 0x1000 0 ∷ wrote 0x8000 0 0 ∷ event code.StallError 0x1000 0 ∷ []));
     }
     -- Normals of 8 and 0 with IOC, then EventData and NoOp with IOC; Disconnect, 9 bytes: nothing behind the last Normal
     ∷ record {
       found = seen (on_strict
           (normal 0x1000 0x8000 8 false true true ∷ normal 0x1010 0x8008 0 false true true ∷ event_data 0x1020 0xABCD true true ∷ no_op 0x1030 true false ∷ [])
-          (Given device.Disconnect) 9);
+          (Some device.Disconnect) 9);
       expected = seen (ends result.Disconnect
           (requested 0x1000 8 ∷ wrote 0x8000 8 0 ∷ event code.Success 0x1000 0 ∷ wrote 0x8008 0 8 ∷ event code.UsbTransactionError 0x1010 0 ∷ []));
     }
     -- a local completion is Success
-    ∷ record { found = seen (on_strict (no_op 0x1000 true false ∷ []) NoneGiven 0); expected = seen (ends result.Ok (event code.Success 0x1000 0 ∷ [])) }
+    ∷ record { found = seen (on_strict (no_op 0x1000 true false ∷ []) None 0); expected = seen (ends result.Ok (event code.Success 0x1000 0 ∷ [])) }
     -- Setup 80 06, value 0x0100, wLength 64; Data IN 18; Status: request of 18
     ∷ record {
-      found = seen (on_control (setup 0x1000 0x80 6 0x0100 0 64 false ∷ data_stage 0x1010 0x8000 18 false true ∷ status 0x1020 false ∷ []) SuccessfulControlIn 18);
+      found = seen (on_control (setup 0x1000 0x80 6 0x0100 0 64 false ∷ data_stage 0x1010 0x8000 18 false true ∷ status 0x1020 false ∷ []) (Some SuccessfulControlIn) 18);
       expected = seen (ends result.Ok (asked 0x1000 0x80 6 0x0100 0 18 ∷ wrote 0x8000 18 0 ∷ []));
     }
     -- Control OUT, immediate, pointer 0x1122334455667788, length 12: collects 88 77 66 55 44 33 22 11; request length 0
     ∷ record {
-      found = seen (on_control (setup 0x1000 0 9 1 0 12 false ∷ data_stage 0x1010 0x1122334455667788 12 true false ∷ status 0x1020 true ∷ []) SuccessfulControlOut 0);
+      found = seen (on_control (setup 0x1000 0 9 1 0 12 false ∷ data_stage 0x1010 0x1122334455667788 12 true false ∷ status 0x1020 true ∷ []) (Some SuccessfulControlOut) 0);
       expected = seen (collects (0x88 ∷ 0x77 ∷ 0x66 ∷ 0x55 ∷ 0x44 ∷ 0x33 ∷ 0x22 ∷ 0x11 ∷ []) (ends result.Ok (asked 0x1000 0 9 1 0 0 ∷ [])));
     }
     -- Setup with IOC, then NoOp: Success for Setup, then code 5
     ∷ record {
-      found = seen (on_control (setup 0x1000 0x80 6 0x0100 0 64 true ∷ no_op 0x1010 false false ∷ []) control.NoneGiven 0);
+      found = seen (on_control (setup 0x1000 0x80 6 0x0100 0 64 true ∷ no_op 0x1010 false false ∷ []) None 0);
       expected = seen (ends result.TrbError (event code.Success 0x1000 0 ∷ event code.TrbError 0x1010 0 ∷ []));
     }
     ∷ []

@@ -1,10 +1,9 @@
 -- 02, R-11: where the event of a failed control transfer goes, as a computed test on a list that holds each case, under both rules. Endpoint
 -- 3, slot 2. Assumes nothing.
-use Rattle.std.specs.Prelude.{ℕ, true, false, List, [], ◌∷◌, ◌++◌, map, ◌≡◌, refl}
+use Rattle.std.specs.Prelude.{ℕ, true, false, List, [], ◌∷◌, ◌++◌, map, ◌≡◌, refl, Ok, Option, Some}
 use Rattle.trb.specs.Ids.{ids_in_range}
 use Rattle.trb.specs.Limits.{min_log}
 use Rattle.trb.specs.Questions.{first_no}
-use Rattle.trb.specs.declared.CompletionAnswer.TheVariants.{Completed}
 use Rattle.trb.specs.declared.CompletionCode.{CompletionCode}
 use Rattle.trb.specs.declared.CompletionCode.TheVariants as code
 use Rattle.trb.specs.declared.ControlRequestProcessingResult.{ControlRequestProcessingResult}
@@ -68,7 +67,7 @@ asked n =
 -- a chain whose request fails: what is logged before, and the event with its code; where it goes under each rule
 record Failure : Type 0 where
   chain : List TransferTrb
-  answer : ControlRequestProcessingResult
+  answer : Option ControlRequestProcessingResult
   result : TrbProcessingResult
   before : List Record
   code : CompletionCode
@@ -80,7 +79,7 @@ failures =
     -- the first held Data Stage TRB
     record {
       chain = get_descriptor ∷ data_stage 0x1010 0x8000 18 false true ∷ status 0x1020 false ∷ [];
-      answer = device.Stall;
+      answer = Some device.Stall;
       result = result.Stall;
       before = asked 18 ∷ [];
       code = code.StallError;
@@ -90,7 +89,7 @@ failures =
     -- failing that, the first held Status Stage TRB
     ∷ record {
       chain = get_descriptor ∷ status 0x1010 false ∷ [];
-      answer = device.TransactionError;
+      answer = Some device.TransactionError;
       result = result.TransactionError;
       before = asked 0 ∷ [];
       code = code.UsbTransactionError;
@@ -100,7 +99,7 @@ failures =
     -- the Data Stage TRB is held no more after an Unrecognized TRB
     ∷ record {
       chain = get_descriptor ∷ data_stage 0x1010 0x8000 18 false true ∷ unrecognized 0x1020 ∷ status 0x1030 false ∷ [];
-      answer = device.Disconnect;
+      answer = Some device.Disconnect;
       result = result.Disconnect;
       before = event code.TrbError 0x1020 ∷ asked 18 ∷ [];
       code = code.UsbTransactionError;
@@ -110,7 +109,7 @@ failures =
     -- failing that, the Setup address, after an Unrecognized TRB inside a chain
     ∷ record {
       chain = get_descriptor ∷ chained_status 0x1010 ∷ unrecognized 0x1020 ∷ event_data 0x1030 0xABCD true false ∷ [];
-      answer = device.Stall;
+      answer = Some device.Stall;
       result = result.Stall;
       before = event code.TrbError 0x1020 ∷ asked 0 ∷ [];
       code = code.StallError;
@@ -125,7 +124,7 @@ found release f = on_control_for release f.chain f.answer 0
 
 -- its event at this address
 expected : Failure → ℕ → Seen
-expected f a = record { records = f.before ++ (event f.code a ∷ []); answer = Completed f.result; collected = [] }
+expected f a = record { records = f.before ++ (event f.code a ∷ []); answer = Ok f.result; collected = [] }
 
 -- the definitions say of every case, under either rule, what document 02 says
 failed-there :
@@ -137,6 +136,6 @@ failed-there = refl
 data-behind-status :
     (completes.completion min_log
     (block_of (record { 0 = 3 }) (record { 0 = 2 }) Release5 no_transfer AwaitingControlRequest 2 (status 0x1010 false ∷ data_stage 0x1020 0x8000 18 false true ∷ []))
-    device.Stall 0).records ≡ event code.StallError 0x1020 ∷ []
+    (Some device.Stall) 0).records ≡ event code.StallError 0x1020 ∷ []
 unfolding event data_stage status completes.completion completes.accepted completes.block_behind completion_questions ending_records error_address first_at first_no ids_in_range sound_block sound_trb all cleared walk
 data-behind-status = refl

@@ -1,13 +1,13 @@
 -- Laws of bytes laid over a buffer: the parts before and behind them. Assumes nothing.
-use Prim.Native.Nat.{ℕ, zero, suc, ◌+◌, ◌-◌, ◌<◌, ◌≤◌}
+use Prim.Native.Nat.{ℕ, zero, suc, ◌+◌, ◌-◌, ◌≤◌}
 use mathlib.Core.Path.{◌≡◌, refl, sym, ap, ◌∙◌}
 use mathlib.Core.List.{List, [], ◌∷◌, ◌++◌, append_assoc}
 use native.Mathlib.Nat.{not-suc-le-zero}
 use native.Mathlib.Omega.{arith}
-use lib.ListN.{length, take, drop, set, length-drop, replicate, length-replicate, replicate-append-replicate}
+use lib.ListN.{length, take, drop, length-drop}
 use lib.Seq.{take-take, drop-drop, length-take-le, take-append-le, drop-append-le, drop-append-add}
 use Rattle.buffers.specs.Patch.{patch}
-use Rattle.buffers.proofs.PatchLaws.{length-patch, drop-patch, patch-append, set-patch}
+use Rattle.buffers.proofs.PatchLaws.{drop-patch}
 
 pub take-drop-take : (n k m : ℕ) (l : List ℕ) → k + n ≤ m → take n (drop k (take m l)) ≡ take n (drop k l)
 take-drop-take n zero m l h = take-take n m l (omega arith)

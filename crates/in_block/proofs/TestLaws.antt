@@ -1,6 +1,6 @@
 -- What is found of the TRBs held: of one more, and of as many as fit a block. Assumes nothing.
 use Prim.Native.Nat.{◌+◌, ◌≤◌, min}
-use mathlib.Core.Path.{◌≡◌, refl, ap}
+use mathlib.Core.Path.{◌≡◌, refl}
 use mathlib.Core.Bool.{Bool, true, false, ◌&&◌, cond}
 use mathlib.Core.List.{List, [], ◌∷◌, ◌++◌}
 use native.Mathlib.Omega.{arith}
@@ -12,11 +12,8 @@ use Rattle.held.specs.declared.EndpointKind.TheVariants.{In}
 use Rattle.walks.specs.All.{all}
 use Rattle.walks.proofs.AllLaws.{all-more}
 use Rattle.in_td.specs.Td.{is_normal, normal_count, normals}
-use Rattle.in_block.specs.Blocks.{held_of}
-use Rattle.in_block.specs.Facts.{trb_test, held_test, facts_of}
-use Rattle.in_block.specs.declared.BlockFacts.{BlockFacts}
+use Rattle.in_block.specs.Facts.{trb_test, held_test}
 use Rattle.in_block.specs.declared.HeldTest.{HeldTest}
-use Rattle.in_block.specs.declared.InBlock.{InBlock}
 
 -- ---- One TRB more
 

@@ -1,8 +1,7 @@
 -- 01, IN endpoint: what becomes of a TRB that is submitted, and what a completion does. Assumes nothing.
-use Rattle.std.specs.Prelude.{ℕ, cond, eqb}
+use Rattle.std.specs.Prelude.{ℕ, cond, eqb, None, Option, Some}
 use Rattle.trb.specs.Trbs.{chain_of}
-use Rattle.trb.specs.declared.InTrbProcessingResult.{InTrbProcessingResult}
-use Rattle.trb.specs.declared.InTrbProcessingResult.TheVariants.{NoneGiven, Given}
+use Rattle.trb.specs.declared.InTrbProcessingStatus.{InTrbProcessingStatus}
 use Rattle.trb.specs.declared.InTrbProcessingStatus.TheVariants.{Success}
 use Rattle.trb.specs.declared.TdBasedNormalSubmissionState.{TdBasedNormalSubmissionState}
 use Rattle.trb.specs.declared.TdBasedNormalSubmissionState.TheVariants.{SubmissionDue, CollectingTd, AwaitingRealTransfer, AwaitingLocalCompletion, UnsupportedTrb}
@@ -33,10 +32,10 @@ state_after Request a = AwaitingRealTransfer
 
 -- what the device returned is walked; without a Normal the completion is local, as Success with no data. (A submission that is due is
 -- refused by question 3, a result that is missing by question 8.)
-abbrev pub ending_of : TdBasedNormalSubmissionState → InTrbProcessingResult → ℕ → Ending
+abbrev pub ending_of : TdBasedNormalSubmissionState → Option InTrbProcessingStatus → ℕ → Ending
 ending_of SubmissionDue r n = KeepCollecting
 ending_of CollectingTd r n = KeepCollecting
-ending_of AwaitingRealTransfer NoneGiven n = KeepCollecting
-ending_of AwaitingRealTransfer (Given st) n = Transfer st n
+ending_of AwaitingRealTransfer None n = KeepCollecting
+ending_of AwaitingRealTransfer (Some st) n = Transfer st n
 ending_of AwaitingLocalCompletion r n = Transfer Success 0
 ending_of (UnsupportedTrb a) r n = ReportUnsupported a

@@ -12,8 +12,8 @@ ghost use Rattle.in_block.specs.Outcomes.{outcome_of, state_after, ending_of};
 use held::EndpointKind;
 use in_td::InMode;
 use trb::{
-    EndpointId, InTrbProcessingResult, InTrbProcessingStatus, SlotId, TdBasedNormalSubmissionState,
-    TransferTrb, TransferTrbVariant,
+    EndpointId, InTrbProcessingStatus, SlotId, TdBasedNormalSubmissionState, TransferTrb,
+    TransferTrbVariant,
 };
 
 #[derive(Clone, Copy)]
@@ -226,7 +226,7 @@ pub enum Ending {
 // Of a block in this state, with this device result and so many bytes of data.
 pub fn ending_of(
     state: TdBasedNormalSubmissionState,
-    res: InTrbProcessingResult,
+    res: Option<InTrbProcessingStatus>,
     data_length: u32,
 ) -> Ending
     ensures { result ≡ ending_of state res data_length }
@@ -235,8 +235,8 @@ pub fn ending_of(
         TdBasedNormalSubmissionState::SubmissionDue | TdBasedNormalSubmissionState::CollectingTd =>
             { Ending::KeepCollecting }
         TdBasedNormalSubmissionState::AwaitingRealTransfer => match res {
-            InTrbProcessingResult::NoneGiven => Ending::KeepCollecting,
-            InTrbProcessingResult::Given(status) => Ending::Transfer(status, data_length),
+            None => Ending::KeepCollecting,
+            Some(status) => Ending::Transfer(status, data_length),
         },
         TdBasedNormalSubmissionState::AwaitingLocalCompletion => Ending::Transfer(
             InTrbProcessingStatus::Success,

@@ -1,4 +1,5 @@
 -- Laws of a script's calls on an IN endpoint. Assumes nothing.
+use Rattle.std.specs.Prelude.{None, Ok, Option, Some}
 use Prim.Native.Nat.{ℕ, ◌+◌, ◌≤◌, min}
 use mathlib.Core.Path.{◌≡◌, refl, sym, subst}
 use mathlib.Core.Bool.{Bool, true, false, cond}
@@ -7,14 +8,15 @@ use native.Mathlib.Omega.{arith}
 use lib.Dec.{leb, lit≤}
 use lib.ListN.{length, take}
 use Rattle.trb.specs.Limits.{max_held}
-use Rattle.trb.specs.declared.Answer.TheVariants.{Accepted}
 use Rattle.trb.specs.declared.EndpointId.{EndpointId}
 use Rattle.trb.specs.declared.SlotId.{SlotId}
-use Rattle.trb.specs.declared.InTrbProcessingResult.{InTrbProcessingResult}
-use Rattle.trb.specs.declared.InTrbProcessingResult.TheVariants.{NoneGiven, Given}
 use Rattle.trb.specs.declared.InTrbProcessingStatus.{InTrbProcessingStatus}
+use Rattle.trb.specs.declared.TdBasedNormalSubmissionState.{TdBasedNormalSubmissionState}
 use Rattle.trb.specs.declared.TransferTrb.{TransferTrb}
 use Rattle.call_log.specs.Calls.{Out, Meets}
+use Rattle.call_script.specs.declared.Call.{Call}
+use Rattle.call_script.specs.declared.Call.TheVariants.{Window, Buffers, CreateIn, CreateControl, Submit, CompleteWithResult, CompleteWithout, Cancel, Hold, MakeUpIn, MakeUpControl, AppendTrb, AppendResult, CompleteRow, Time, Captured, Bad}
+use Rattle.call_script.specs.declared.DeviceStatus.{DeviceStatus}
 use Rattle.call_log.specs.Logs.{logged}
 use Rattle.numerals.specs.Written.{Written}
 use Rattle.numerals.proofs.WrittenLaws.{written-append, written-within}
@@ -27,21 +29,21 @@ use Rattle.in_td.specs.declared.InMode.{InMode}
 use Rattle.in_endpoint.specs.Creation.{creation, cancelled}
 use Rattle.in_endpoint.specs.Submission.{submission}
 use Rattle.in_endpoint.specs.Completion.{completion}
-use Rattle.in_endpoint.specs.declared.Created.{Created}
-use Rattle.in_endpoint.specs.declared.Submitted.{Submitted}
-use Rattle.in_endpoint.specs.declared.Completed.{Completed}
+use Rattle.in_endpoint.specs.Returned.{Created}
+use Rattle.in_endpoint.specs.Returned.{Submitted}
+use Rattle.in_endpoint.specs.Returned.{Completed}
 use Rattle.row_walk.specs.declared.TdResult.{TdResult}
 use Rattle.in_row.specs.Completion.{row_completion}
 use Rattle.in_row.specs.declared.TdsCompleted.{TdsCompleted}
 use Rattle.state_text.specs.Widths.{max_state, max_answer}
-use Rattle.call_answer.specs.Called.{Said, bad_said, silent_said, Called, called}
+use Rattle.call_answer.specs.Called.{Said, bad_said, silent_said, Called, called, Runs, Says, silent_ran}
 use Rattle.in_block.specs.Blocks.{stored}
 use Rattle.in_block.specs.declared.InBlock.{InBlock}
-use Rattle.in_calls.specs.declared.InRan.{InRan}
-use Rattle.in_calls.specs.Calls.{answered, created, submitted, completed, row_completed, create_call, submit_call, complete_call, row_call, cancel_call, hold_call, result_call, Stated, silent_ran, Says, Runs}
+use Rattle.call_answer.specs.declared.EndpointRan.{EndpointRan}
+use Rattle.in_calls.specs.Calls.{answered, created, submitted, completed, row_completed, create_call, submit_call, complete_call, row_call, cancel_call, hold_call, result_call, in_call, Stated}
 
 -- a call that prints nothing
-pub says-silent : (o : Said InBlock) (t : List ℕ) (at : ℕ) (r : InRan) → o.text ≡ [] → r ≡ silent_ran o at → Says o t at r t
+pub says-silent : (o : Said InBlock) (t : List ℕ) (at : ℕ) (r : EndpointRan InBlock) → o.text ≡ [] → r ≡ silent_ran o at → Says o t at r t
 says-silent o t at r none e = rw e (record {
   block = refl;
   records = refl;
@@ -50,7 +52,7 @@ says-silent o t at r none e = rw e (record {
 })
 
 -- a state line behind an answer of at most so many characters
-says-answered : {a next n : ℕ} {t t' t'' text : List ℕ} {b : InBlock} {r : InRan} (at : ℕ) → at + a ≤ length t → a + max_state ≤ max_answer
+says-answered : {a next n : ℕ} {t t' t'' text : List ℕ} {b : InBlock} {r : EndpointRan InBlock} (at : ℕ) → at + a ≤ length t → a + max_state ≤ max_answer
     → Written a t at text next t' → Stated b n t' next r t'' → Says (answered text b n) t at r t''
 says-answered at fits most w s = record {
   block = s.block;
@@ -60,13 +62,13 @@ says-answered at fits most w s = record {
 }
 
 -- what a call with this state and this log comes to is what the call that was met comes to
-runs-met : {S : Type 0} {o : Out S} {l l' : List ℕ} {s : S} {r : InRan} {t t' : List ℕ} {at : ℕ} {m' : Memory} (run : S → List ℕ → Called InBlock)
+runs-met : {S : Type 0} {o : Out S} {l l' : List ℕ} {s : S} {r : EndpointRan InBlock} {t t' : List ℕ} {at : ℕ} {m' : Memory} (run : S → List ℕ → Called InBlock)
     → Meets o 0 l s l' → Runs (run s l') t at r t' l' m' → Runs (run o.state (logged l 0 o.records)) t at r t' l' m'
 runs-met {o = o} {l = l} {l' = l'} {s = s} {r = r} {t = t} {t' = t'} {at = at} {m' = m'} run met p =
     subst (λ (x : List ℕ). Runs (run o.state x) t at r t' l' m') met.log (subst (λ x. Runs (run x l') t at r t' l' m') met.state p)
 
 -- with room for the longest answer
-module _ {log log' t t' t'' : List ℕ} {next : ℕ} {r : InRan} (at : ℕ) (b : InBlock) (m : Memory) (fits : at + max_answer ≤ length t) where
+module _ {log log' t t' t'' : List ℕ} {next : ℕ} {r : EndpointRan InBlock} (at : ℕ) (b : InBlock) (m : Memory) (fits : at + max_answer ≤ length t) where
   pub runs-submitted : {s : Submitted} (x : TransferTrb) → Meets (submission (length log) b x (regions_of m)) 0 log s log'
       → Written (max_first + max_record_lines) t at (answer_text s.answer s.records log') next t' → Stated s.block s.records t' next r t''
       → Runs (submit_call b x log m) t at r t'' log' m
@@ -74,7 +76,7 @@ module _ {log log' t t' t'' : List ℕ} {next : ℕ} {r : InRan} (at : ℕ) (b :
   runs-submitted x met w st =
       runs-met (λ s l. submitted s l m) met (record { says = says-answered at (omega arith) (lit≤ tt) w st; log = refl; memory = refl })
 
-  pub runs-completed : {c : Completed} {m' : Memory} (x : InTrbProcessingResult) (bytes : List ℕ)
+  pub runs-completed : {c : Completed} {m' : Memory} (x : Option InTrbProcessingStatus) (bytes : List ℕ)
       → Meets (completion (length log) b x (length bytes)) 0 log c log' → Answered c.answer c.records log' bytes m t at next t' m'
       → Stated c.block c.records t' next r t'' → Runs (complete_call b x bytes log m) t at r t'' log' m'
   unfolding complete_call
@@ -89,17 +91,17 @@ module _ {log log' t t' t'' : List ℕ} {next : ℕ} {r : InRan} (at : ℕ) (b :
   runs-row ts k rs n bytes met w st =
       runs-met (λ c l. row_completed c l bytes m) met (record { says = says-answered at (omega arith) (lit≤ tt) w.text st; log = refl; memory = w.after })
 
-module _ {t t' t'' : List ℕ} {next : ℕ} {r : InRan} (at : ℕ) (fits : at + max_answer ≤ length t) where
+module _ {t t' t'' : List ℕ} {next : ℕ} {r : EndpointRan InBlock} (at : ℕ) (fits : at + max_answer ≤ length t) where
   pub says-created : {c : Created} (e : EndpointId) (s : SlotId) (mode : InMode) → c ≡ creation e s mode
       → Written (max_first + max_record_lines) t at (answer_text c.answer 0 []) next t' → Stated c.block 0 t' next r t'' → Says (create_call e s mode) t at r t''
   unfolding create_call
   says-created {c = c} e s mode made w st = subst (λ (x : Created). Says (created x) t at r t'') made (says-answered at (omega arith) (lit≤ tt) w st)
 
-  pub says-cancelled : {a : InBlock} (b : InBlock) → a ≡ cancelled b → Written (max_first + max_record_lines) t at (answer_text Accepted 0 []) next t'
+  pub says-cancelled : {a : InBlock} (b : InBlock) → a ≡ cancelled b → Written (max_first + max_record_lines) t at (answer_text (Ok tt) 0 []) next t'
       → Stated a 0 t' next r t'' → Says (cancel_call b) t at r t''
   unfolding cancel_call
   says-cancelled b made w st =
-      subst (λ (x : InBlock). Says (answered (answer_text Accepted 0 []) x 0) t at r t'') made (says-answered at (omega arith) (lit≤ tt) w st)
+      subst (λ (x : InBlock). Says (answered (answer_text (Ok tt) 0 []) x 0) t at r t'') made (says-answered at (omega arith) (lit≤ tt) w st)
 
 -- ---- Single calls
 
@@ -112,16 +114,40 @@ pub text-hold_call : (b : InBlock) (t : TransferTrb) → (hold_call b t).text �
 unfolding hold_call
 text-hold_call b t = no_text (leb max_held b.held) (bad_said b) (silent_said (stored b t)) refl refl
 
-module _ (b : InBlock) (x : InTrbProcessingResult) (bytes log : List ℕ) (m : Memory) where
+module _ (b : InBlock) (x : Option InTrbProcessingStatus) (bytes log : List ℕ) (m : Memory) where
   -- a device result that an IN endpoint does not take
-  pub result_call-none : x ≡ NoneGiven → result_call b x bytes log m ≡ called (bad_said b) log m
+  pub result_call-none : x ≡ None → result_call b x bytes log m ≡ called (bad_said b) log m
   unfolding result_call
   result_call-none e = rw e
 
-  pub result_call-given : (s : InTrbProcessingStatus) → x ≡ Given s → result_call b x bytes log m ≡ complete_call b x bytes log m
+  pub result_call-given : (s : InTrbProcessingStatus) → x ≡ Some s → result_call b x bytes log m ≡ complete_call b x bytes log m
   unfolding result_call
   result_call-given s e = rw e
 
 -- of the device's data as much as there is
 pub take-least : {k : ℕ} (n : ℕ) (l : List ℕ) → k ≡ min n (length l) → take k l ≡ take n l
 take-least n l e = rw e (take_min n l)
+
+-- ---- The calls that are none on an IN endpoint
+
+module _ (b : InBlock) (bytes log : List ℕ) (m : Memory) where
+  pub bad-call : (call : Call) → ((t : TransferTrb) → call ≡ Submit t → ⊥) → ((s : DeviceStatus) (n : ℕ) → call ≡ CompleteWithResult s n → ⊥) → ((n : ℕ) → call ≡ CompleteWithout n → ⊥) → (call ≡ Cancel → ⊥)
+      → ((t : TransferTrb) → call ≡ Hold t → ⊥) → ((state : TdBasedNormalSubmissionState) → call ≡ MakeUpIn state → ⊥) → in_call b call bytes log m ≡ called (bad_said b) log m
+  unfolding in_call
+  bad-call (Window a b c d) submit with_result without cancel hold make_up = refl
+  bad-call (Buffers l c) submit with_result without cancel hold make_up = refl
+  bad-call (CreateIn e s mode) submit with_result without cancel hold make_up = refl
+  bad-call (CreateControl e s release) submit with_result without cancel hold make_up = refl
+  bad-call (Submit t) submit with_result without cancel hold make_up = absurd (submit t refl)
+  bad-call (CompleteWithResult s n) submit with_result without cancel hold make_up = absurd (with_result s n refl)
+  bad-call (CompleteWithout n) submit with_result without cancel hold make_up = absurd (without n refl)
+  bad-call Cancel submit with_result without cancel hold make_up = absurd (cancel refl)
+  bad-call (Hold t) submit with_result without cancel hold make_up = absurd (hold t refl)
+  bad-call (MakeUpIn state) submit with_result without cancel hold make_up = absurd (make_up state refl)
+  bad-call (MakeUpControl phase state direction n) submit with_result without cancel hold make_up = refl
+  bad-call (AppendTrb t) submit with_result without cancel hold make_up = refl
+  bad-call (AppendResult s n) submit with_result without cancel hold make_up = refl
+  bad-call (CompleteRow n) submit with_result without cancel hold make_up = refl
+  bad-call (Time seconds microseconds) submit with_result without cancel hold make_up = refl
+  bad-call (Captured bus address transfer_type) submit with_result without cancel hold make_up = refl
+  bad-call Bad submit with_result without cancel hold make_up = refl

@@ -1,10 +1,8 @@
 -- The calls of a script on an IN endpoint: each answer is what the endpoint answers, and behind it stands the line of the block's state. Assumes nothing.
-use Rattle.std.specs.Prelude.{ℕ, ◌≡◌, true, cond, List, [], ◌++◌, leb, length, take}
+use Rattle.std.specs.Prelude.{ℕ, ◌≡◌, true, cond, List, [], ◌++◌, leb, length, take, None, Ok, Option, Some}
 use Rattle.trb.specs.Limits.{max_held}
-use Rattle.trb.specs.declared.Answer.TheVariants.{Accepted}
 use Rattle.trb.specs.declared.EndpointId.{EndpointId}
-use Rattle.trb.specs.declared.InTrbProcessingResult.{InTrbProcessingResult}
-use Rattle.trb.specs.declared.InTrbProcessingResult.TheVariants.{NoneGiven, Given}
+use Rattle.trb.specs.declared.InTrbProcessingStatus.{InTrbProcessingStatus}
 use Rattle.trb.specs.declared.InTrbProcessingStatus.TheVariants as status
 use Rattle.trb.specs.declared.SlotId.{SlotId}
 use Rattle.trb.specs.declared.TransferTrb.{TransferTrb}
@@ -13,11 +11,11 @@ use Rattle.guest_memory.specs.Places.{Memory, regions_of}
 use Rattle.numerals.specs.Written.{Written}
 use Rattle.call_text.specs.Lines.{count_of}
 use Rattle.state_text.specs.Lines.{in_line}
-use Rattle.state_text.specs.Widths.{max_state, max_answer}
+use Rattle.state_text.specs.Widths.{max_state}
 use Rattle.call_answer.specs.Answers.{answer_text, carried_out, completion_text, row_text, completion_memory}
 use Rattle.call_answer.specs.Called.{Said, bad_said, silent_said, answered_said, Called, called}
 use Rattle.call_script.specs.declared.Call.{Call}
-use Rattle.call_script.specs.declared.Call.TheVariants.{Window, Buffers, CreateIn, CreateControl, Submit, CompleteWithResult, CompleteWithout, Cancel, Hold, MakeUpIn, MakeUpControl, AppendTrb, AppendResult, CompleteRow, Time, Captured, Bad}
+use Rattle.call_script.specs.declared.Call.TheVariants.{Submit, CompleteWithResult, CompleteWithout, Cancel, Hold, MakeUpIn}
 use Rattle.call_script.specs.declared.DeviceStatus.{DeviceStatus}
 use Rattle.call_script.specs.declared.DeviceStatus.TheVariants as device
 use Rattle.in_td.specs.declared.InMode.{InMode}
@@ -26,13 +24,13 @@ use Rattle.in_block.specs.declared.InBlock.{InBlock}
 use Rattle.in_endpoint.specs.Creation.{creation, cancelled}
 use Rattle.in_endpoint.specs.Submission.{submission}
 use Rattle.in_endpoint.specs.Completion.{completion}
-use Rattle.in_endpoint.specs.declared.Created.{Created}
-use Rattle.in_endpoint.specs.declared.Submitted.{Submitted}
-use Rattle.in_endpoint.specs.declared.Completed.{Completed}
+use Rattle.in_endpoint.specs.Returned.{Created}
+use Rattle.in_endpoint.specs.Returned.{Submitted}
+use Rattle.in_endpoint.specs.Returned.{Completed}
 use Rattle.row_walk.specs.declared.TdResult.{TdResult}
 use Rattle.in_row.specs.Completion.{row_completion}
 use Rattle.in_row.specs.declared.TdsCompleted.{TdsCompleted}
-use Rattle.in_calls.specs.declared.InRan.{InRan}
+use Rattle.call_answer.specs.declared.EndpointRan.{EndpointRan}
 
 -- `st in STATE HELD`
 abbrev pub state_line : InBlock → List ℕ
@@ -73,7 +71,7 @@ unfoldable pub submit_call : InBlock → TransferTrb → List ℕ → Memory →
 submit_call b t log m = let o = submission (length log) b t (regions_of m) in submitted o.state (logged log 0 o.records) m
 
 -- `d` and `l`, with these bytes of the device's data
-unfoldable pub complete_call : InBlock → InTrbProcessingResult → List ℕ → List ℕ → Memory → Called InBlock
+unfoldable pub complete_call : InBlock → Option InTrbProcessingStatus → List ℕ → List ℕ → Memory → Called InBlock
 complete_call b r bytes log m = let o = completion (length log) b r (length bytes) in completed o.state (logged log 0 o.records) bytes m
 
 -- `r`: of the first k TRBs of ts, with the first n results of rs and these bytes
@@ -84,7 +82,7 @@ row_call b ts k rs n bytes log m =
 
 -- `x`
 unfoldable pub cancel_call : InBlock → Said InBlock
-cancel_call b = answered (answer_text Accepted 0 []) (cancelled b) 0
+cancel_call b = answered (answer_text (Ok tt) 0 []) (cancelled b) 0
 
 -- `h`: no place left is a bad line
 unfoldable pub hold_call : InBlock → TransferTrb → Said InBlock
@@ -93,60 +91,33 @@ hold_call b t = cond (leb max_held b.held) (bad_said b) (silent_said (stored b t
 -- ---- Any call
 
 -- the device result of a script as an IN endpoint takes it; SuccessfulControlOut is none
-abbrev pub result_of : DeviceStatus → InTrbProcessingResult
-result_of device.Success = Given status.Success
-result_of device.Stall = Given status.Stall
-result_of device.TransactionError = Given status.TransactionError
-result_of device.Disconnect = Given status.Disconnect
-result_of device.SuccessfulControlOut = NoneGiven
+abbrev pub result_of : DeviceStatus → Option InTrbProcessingStatus
+result_of device.Success = Some status.Success
+result_of device.Stall = Some status.Stall
+result_of device.TransactionError = Some status.TransactionError
+result_of device.Disconnect = Some status.Disconnect
+result_of device.SuccessfulControlOut = None
 
 -- `d 4` on IN is a bad line
-unfoldable pub result_call : InBlock → InTrbProcessingResult → List ℕ → List ℕ → Memory → Called InBlock
-result_call b NoneGiven bytes log m = called (bad_said b) log m
-result_call b (Given s) bytes log m = complete_call b (Given s) bytes log m
+unfoldable pub result_call : InBlock → Option InTrbProcessingStatus → List ℕ → List ℕ → Memory → Called InBlock
+result_call b None bytes log m = called (bad_said b) log m
+result_call b (Some s) bytes log m = complete_call b (Some s) bytes log m
 
 -- a call on the endpoint, of whose device these bytes are. (Those that are none on an endpoint, or not on this one, are bad lines.)
 unfoldable pub in_call : InBlock → Call → List ℕ → List ℕ → Memory → Called InBlock
-in_call b (Window low_base low_length high_base high_length) bytes log m = called (bad_said b) log m
-in_call b (Buffers l c) bytes log m = called (bad_said b) log m
-in_call b (CreateIn e s mode) bytes log m = called (bad_said b) log m
-in_call b (CreateControl e s release) bytes log m = called (bad_said b) log m
 in_call b (Submit t) bytes log m = submit_call b t log m
 in_call b (CompleteWithResult s n) bytes log m = result_call b (result_of s) (take n bytes) log m
-in_call b (CompleteWithout n) bytes log m = complete_call b NoneGiven (take n bytes) log m
+in_call b (CompleteWithout n) bytes log m = complete_call b None (take n bytes) log m
 in_call b Cancel bytes log m = called (cancel_call b) log m
 in_call b (Hold t) bytes log m = called (hold_call b t) log m
 in_call b (MakeUpIn state) bytes log m = called (silent_said (with_state b state)) log m
-in_call b (MakeUpControl phase state direction n) bytes log m = called (bad_said b) log m
-in_call b (AppendTrb t) bytes log m = called (bad_said b) log m
-in_call b (AppendResult s n) bytes log m = called (bad_said b) log m
-in_call b (CompleteRow n) bytes log m = called (bad_said b) log m
-in_call b (Time seconds microseconds) bytes log m = called (bad_said b) log m
-in_call b (Captured bus address transfer_type) bytes log m = called (bad_said b) log m
-in_call b Bad bytes log m = called (bad_said b) log m
+in_call b other bytes log m = called (bad_said b) log m
 
 -- ---- Promises
 
 -- the state line of the block b was written into the text t at index at, behind an answer of so many records
-pub record Stated (b : InBlock) (n : ℕ) (t : List ℕ) (at : ℕ) (r : InRan) (t' : List ℕ) : Type 0 where
+pub record Stated (b : InBlock) (n : ℕ) (t : List ℕ) (at : ℕ) (r : EndpointRan InBlock) (t' : List ℕ) : Type 0 where
   pub block : r.block ≡ b
   pub records : r.records ≡ n
   pub good : r.good ≡ true
   pub text : Written max_state t at (state_line b) r.end t'
-
--- a call that prints nothing left this, the text's next index being at
-abbrev pub silent_ran : Said InBlock → ℕ → InRan
-silent_ran o at = record { block = o.block; end = at; records = o.records; good = o.good }
-
--- a call that was to say o, with the text t from index at on, returned r and left the text t'
-pub record Says (o : Said InBlock) (t : List ℕ) (at : ℕ) (r : InRan) (t' : List ℕ) : Type 0 where
-  pub block : r.block ≡ o.block
-  pub records : r.records ≡ o.records
-  pub good : r.good ≡ o.good
-  pub text : Written max_answer t at o.text r.end t'
-
--- a call that was to come to o left this log and this guest memory, too
-pub record Runs (o : Called InBlock) (t : List ℕ) (at : ℕ) (r : InRan) (t' log' : List ℕ) (m' : Memory) : Type 0 where
-  pub says : Says o.said t at r t'
-  pub log : log' ≡ o.log
-  pub memory : m' ≡ o.memory

@@ -6,61 +6,28 @@ ghost use Rattle.trb.specs.Limits.{min_row_log};
 ghost use Rattle.state_text.specs.Widths.{max_state, max_answer};
 ghost use Rattle.guest_memory.specs.Places.{memory_of};
 ghost use Rattle.in_block.specs.Blocks.{with_state};
-ghost use Rattle.call_answer.specs.Called.{bad_said, silent_said};
-ghost use Rattle.in_calls.specs.Calls.{create_call, submit_call, complete_call, row_call, cancel_call, hold_call, result_of, result_call, in_call, Stated, silent_ran, Says, Runs};
+ghost use Rattle.call_answer.specs.Called.{bad_said, silent_said, silent_ran, Says, Runs};
+ghost use Rattle.in_calls.specs.Calls.{create_call, submit_call, complete_call, row_call, cancel_call, hold_call, result_of, result_call, in_call, Stated};
 
+use call_answer::EndpointRan;
 use call_script::{Call, DeviceStatus};
 use in_block::InBlock;
 use in_td::InMode;
 use row_walk::TdResult;
 use trb::{
-    Answer, EndpointId, InTrbProcessingResult, InTrbProcessingStatus, SlotId,
-    TdBasedNormalSubmissionState, TransferTrb,
+    Answer, EndpointId, InTrbProcessingStatus, SlotId, TdBasedNormalSubmissionState, TransferTrb,
 };
 
-// What a call leaves: the block, the index behind the answer, how many records it logged, and whether the line was good.
-#[derive(Clone, Copy)]
-pub struct InRan {
-    pub block: InBlock,
-    pub end: usize,
-    pub records: usize,
-    pub good: bool,
-}
-
-fn bad(block: InBlock, at: usize) -> InRan
-    ensures { result ≡ silent_ran (bad_said block) at }
-{
-    InRan {
-        block: block,
-        end: at,
-        records: 0,
-        good: false,
-    }
-}
-
-// A call that prints nothing.
-fn silent(block: InBlock, at: usize) -> InRan
-    ensures { result ≡ silent_ran (silent_said block) at }
-{
-    InRan {
-        block: block,
-        end: at,
-        records: 0,
-        good: true,
-    }
-}
-
 // Writes the state line, behind the answer of a call that logged so many records.
-fn answered(text: &mut [u8], at: usize, block: InBlock, records: usize) -> InRan
+fn answered(text: &mut [u8], at: usize, block: InBlock, records: usize) -> EndpointRan<InBlock>
     requires { at + max_state ≤ length text.old }
     ensures { Stated block records text.old at result text.new }
 {
-    let state = block.state;
-    let end = state_text::put_in_line(text, at, state, call_text::count(block.held));
-    InRan {
-        block: block,
-        end: end,
-        records: records,
+    let end = state_text::put_in_line(text, at, block.state, call_text::count(block.held));
+    EndpointRan {
+        block,
+        end,
+        records,
         good: true,
     }
 }
@@ -72,15 +39,13 @@ pub fn create(
     endpoint_id: EndpointId,
     slot_id: SlotId,
     mode: InMode,
-) -> InRan
+) -> EndpointRan<InBlock>
     requires { at + max_answer ≤ length text.old }
     ensures { Says (create_call endpoint_id slot_id mode) text.old at result text.new }
 {
     let created = in_endpoint::create(endpoint_id, slot_id, mode);
-    let answer = created.answer;
-    let block = created.block;
-    let next = call_answer::put_answer(text, at, answer, 0, &[]);
-    answered(text, next, block, 0)
+    let next = call_answer::put_answer(text, at, created.answer, 0, &[]);
+    answered(text, next, created.block, 0)
 }
 
 fn submit(
@@ -93,16 +58,14 @@ fn submit(
     low: &[u8],
     high_base: u64,
     high: &[u8],
-) -> InRan
+) -> EndpointRan<InBlock>
     requires max_answer_in_bounds { at + max_answer ≤ length text.old }
     requires log_len_bound { length log.old ≤ min_row_log }
     ensures { Runs (submit_call block t log.old (memory_of low_base low.now high_base high.now)) text.old at result text.new log.new (memory_of low_base low.now high_base high.now) }
 {
     let submitted = in_submission::submit_trb(log, block, t, low_base, low, high_base, high);
-    let answer = submitted.answer;
-    let after = submitted.block;
-    let next = call_answer::put_answer(text, at, answer, submitted.records, log);
-    answered(text, next, after, submitted.records)
+    let next = call_answer::put_answer(text, at, submitted.answer, submitted.records, log);
+    answered(text, next, submitted.block, submitted.records)
 }
 
 fn complete(
@@ -110,24 +73,22 @@ fn complete(
     at: usize,
     log: &mut [u8],
     block: InBlock,
-    res: InTrbProcessingResult,
+    res: Option<InTrbProcessingStatus>,
     data: &[u8],
     low_base: u64,
     low: &mut [u8],
     high_base: u64,
     high: &mut [u8],
-) -> InRan
+) -> EndpointRan<InBlock>
     requires max_answer_in_bounds { at + max_answer ≤ length text.old }
     requires log_len_bound { length log.old ≤ min_row_log }
     ensures { Runs (complete_call block res «data».now log.old (memory_of low_base low.old high_base high.old)) text.old at result text.new log.new (memory_of low_base low.new high_base high.new) }
 {
     let completed = in_completion::next_completion(log, block, res, data);
-    let answer = completed.answer;
-    let after = completed.block;
     let next = call_answer::put_completion(
         text,
         at,
-        answer,
+        completed.answer,
         completed.records,
         log,
         data,
@@ -136,21 +97,19 @@ fn complete(
         high_base,
         high,
     );
-    answered(text, next, after, completed.records)
+    answered(text, next, completed.block, completed.records)
 }
 
 // A device result of a script as an IN endpoint takes it; SuccessfulControlOut is none.
-pub fn result_of(status: DeviceStatus) -> InTrbProcessingResult
+pub fn result_of(status: DeviceStatus) -> Option<InTrbProcessingStatus>
     ensures { result ≡ result_of status }
 {
     match status {
-        DeviceStatus::Success => InTrbProcessingResult::Given(InTrbProcessingStatus::Success),
-        DeviceStatus::Stall => InTrbProcessingResult::Given(InTrbProcessingStatus::Stall),
-        DeviceStatus::TransactionError => InTrbProcessingResult::Given(
-            InTrbProcessingStatus::TransactionError,
-        ),
-        DeviceStatus::Disconnect => InTrbProcessingResult::Given(InTrbProcessingStatus::Disconnect),
-        DeviceStatus::SuccessfulControlOut => InTrbProcessingResult::NoneGiven,
+        DeviceStatus::Success => Some(InTrbProcessingStatus::Success),
+        DeviceStatus::Stall => Some(InTrbProcessingStatus::Stall),
+        DeviceStatus::TransactionError => Some(InTrbProcessingStatus::TransactionError),
+        DeviceStatus::Disconnect => Some(InTrbProcessingStatus::Disconnect),
+        DeviceStatus::SuccessfulControlOut => None,
     }
 }
 
@@ -165,44 +124,41 @@ fn complete_with_result(
     low: &mut [u8],
     high_base: u64,
     high: &mut [u8],
-) -> InRan
+) -> EndpointRan<InBlock>
     requires max_answer_in_bounds { at + max_answer ≤ length text.old }
     requires log_len_bound { length log.old ≤ min_row_log }
     ensures { Runs (result_call block (result_of status) «data».now log.old (memory_of low_base low.old high_base high.old)) text.old at result text.new log.new (memory_of low_base low.new high_base high.new) }
 {
     let result = result_of(status);
     match result {
-        InTrbProcessingResult::NoneGiven => bad(block, at),
-        InTrbProcessingResult::Given(_) => complete(
+        None => call_answer::bad(block, at),
+        Some(_) => complete(
             text, at, log, block, result, data, low_base, low, high_base, high,
         ),
     }
 }
 
-fn cancel(text: &mut [u8], at: usize, block: InBlock) -> InRan
+fn cancel(text: &mut [u8], at: usize, block: InBlock) -> EndpointRan<InBlock>
     requires { at + max_answer ≤ length text.old }
     ensures { Says (cancel_call block) text.old at result text.new }
 {
-    let after = in_endpoint::cancel(block);
-    let next = call_answer::put_answer(text, at, Answer::Accepted, 0, &[]);
-    answered(text, next, after, 0)
+    let next = call_answer::put_answer(text, at, Ok(()), 0, &[]);
+    answered(text, next, in_endpoint::cancel(block), 0)
 }
 
-fn hold(at: usize, block: InBlock, t: TransferTrb) -> InRan
+fn hold(at: usize, block: InBlock, t: TransferTrb) -> EndpointRan<InBlock>
     ensures { result ≡ silent_ran (hold_call block t) at }
 {
     if trb::MAX_HELD <= block.held {
-        return bad(block, at);
+        return call_answer::bad(block, at);
     }
-    let after = in_block::store(block, t);
-    silent(after, at)
+    call_answer::silent(in_block::store(block, t), at)
 }
 
-fn make_up(at: usize, block: InBlock, state: TdBasedNormalSubmissionState) -> InRan
+fn make_up(at: usize, block: InBlock, state: TdBasedNormalSubmissionState) -> EndpointRan<InBlock>
     ensures { result ≡ silent_ran (silent_said (with_state block state)) at }
 {
-    let after = in_block::with_state(block, state);
-    silent(after, at)
+    call_answer::silent(in_block::with_state(block, state), at)
 }
 
 // A row of so many TRBs, with so many results; of the device's data so many bytes are given, if there are as many.
@@ -220,7 +176,7 @@ pub fn complete_row(
     low: &mut [u8],
     high_base: u64,
     high: &mut [u8],
-) -> InRan
+) -> EndpointRan<InBlock>
     requires max_answer_in_bounds { at + max_answer ≤ length text.old }
     requires log_len_bound { length log.old ≤ min_row_log }
     ensures { Runs (row_call block row count results tds «data».now log.old (memory_of low_base low.old high_base high.old)) text.old at result text.new log.new (memory_of low_base low.new high_base high.new) }
@@ -228,12 +184,10 @@ pub fn complete_row(
     let completed = in_row::complete_tds(
         log, block, row, count, results, tds, low_base, low, high_base, high, data,
     );
-    let answer = completed.answer;
-    let after = completed.block;
     let next = call_answer::put_row(
         text,
         at,
-        answer,
+        completed.answer,
         completed.finished,
         completed.records,
         log,
@@ -243,7 +197,7 @@ pub fn complete_row(
         high_base,
         high,
     );
-    answered(text, next, after, completed.records)
+    answered(text, next, completed.block, completed.records)
 }
 
 // Makes a call on the endpoint. `data` is the device's data, of which the call says how much is given.
@@ -258,56 +212,28 @@ pub fn run(
     low: &mut [u8],
     high_base: u64,
     high: &mut [u8],
-) -> InRan
+) -> EndpointRan<InBlock>
     requires max_answer_in_bounds { at + max_answer ≤ length text.old }
     requires log_len_bound { length log.old ≤ min_row_log }
     ensures { Runs (in_call block call «data».now log.old (memory_of low_base low.old high_base high.old)) text.old at result text.new log.new (memory_of low_base low.new high_base high.new) }
 {
     match call {
-        Call::Window(_, _, _, _) => bad(block, at),
-        Call::Buffers(_, _) => bad(block, at),
-        Call::CreateIn(_, _, _) => bad(block, at),
-        Call::CreateControl(_, _, _) => bad(block, at),
         Call::Submit(t) => submit(text, at, log, block, t, low_base, low, high_base, high),
         Call::CompleteWithResult(status, n) => {
-            let given = call_script::least(n, data.len());
+            let given = &data[..n.min(data.len())];
             complete_with_result(
-                text,
-                at,
-                log,
-                block,
-                status,
-                &data[..given],
-                low_base,
-                low,
-                high_base,
-                high,
+                text, at, log, block, status, given, low_base, low, high_base, high,
             )
         }
         Call::CompleteWithout(n) => {
-            let given = call_script::least(n, data.len());
+            let given = &data[..n.min(data.len())];
             complete(
-                text,
-                at,
-                log,
-                block,
-                InTrbProcessingResult::NoneGiven,
-                &data[..given],
-                low_base,
-                low,
-                high_base,
-                high,
+                text, at, log, block, None, given, low_base, low, high_base, high,
             )
         }
         Call::Cancel => cancel(text, at, block),
         Call::Hold(t) => hold(at, block, t),
         Call::MakeUpIn(state) => make_up(at, block, state),
-        Call::MakeUpControl(_, _, _, _) => bad(block, at),
-        Call::AppendTrb(_) => bad(block, at),
-        Call::AppendResult(_, _) => bad(block, at),
-        Call::CompleteRow(_) => bad(block, at),
-        Call::Time(_, _) => bad(block, at),
-        Call::Captured(_, _, _) => bad(block, at),
-        Call::Bad => bad(block, at),
+        _ => call_answer::bad(block, at),
     }
 }

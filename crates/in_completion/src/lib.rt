@@ -6,21 +6,21 @@ ghost use Rattle.in_endpoint.specs.Completion.{Completes};
 
 use in_block::{Ending, InBlock};
 use in_endpoint::Completed;
-use trb::{InTrbProcessingResult, TdBasedNormalSubmissionState, TrbProcessingResult};
+use trb::{InTrbProcessingStatus, TdBasedNormalSubmissionState, TrbProcessingResult};
 
 // Completes what was submitted last; ports `next_completion`. Of the device's data only the length is read. The block is changed where it lies:
 // copies of it are most of what a call costs.
 pub fn next_completion(
     log: &mut [u8],
     mut block: InBlock,
-    res: InTrbProcessingResult,
+    res: Option<InTrbProcessingStatus>,
     data: &[u8],
 ) -> Completed
     ensures { Completes block res (length «data».now) log.old result log.new }
 {
     let facts = in_block::facts_of(&block);
     let asked = in_questions::ask_completion(log.len(), facts, res, data.len());
-    if !trb::is_accepted(asked) {
+    if asked.is_err() {
         return Completed {
             answer: in_endpoint::completion_answer(asked, TrbProcessingResult::Ok),
             records: 0,

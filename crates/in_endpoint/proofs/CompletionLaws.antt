@@ -1,4 +1,5 @@
 -- Laws of completion: demand 3 of what the guest reads off the log. Assumes nothing.
+use Rattle.std.specs.Prelude.{Err, None, Ok, Option, Some}
 use Prim.Native.Nat.{ℕ}
 use mathlib.Core.Path.{◌≡◌, refl, sym, ap, ◌∙◌}
 use mathlib.Core.Bool.{Bool, true, false, not, cond, true≢false}
@@ -11,11 +12,7 @@ use lib.ListN.{length}
 use Rattle.trb.specs.Answers.{number_of, completion_number, refusal_of, is_accepted as passed, said}
 use Rattle.trb.specs.Limits.{min_log, max_data}
 use Rattle.trb.specs.Questions.{first_no, agree}
-use Rattle.trb.specs.declared.Answer.{Answer}
-use Rattle.trb.specs.declared.Answer.TheVariants.{Accepted, Refused}
-use Rattle.trb.specs.declared.CompletionAnswer.TheVariants.{Completed, Refused as RefusedCompletion}
-use Rattle.trb.specs.declared.InTrbProcessingResult.{InTrbProcessingResult}
-use Rattle.trb.specs.declared.InTrbProcessingResult.TheVariants.{NoneGiven, Given}
+use Rattle.trb.specs.Answers.{Answer}
 use Rattle.trb.specs.declared.InTrbProcessingStatus.{InTrbProcessingStatus}
 use Rattle.trb.specs.declared.TdBasedNormalSubmissionState.{TdBasedNormalSubmissionState}
 use Rattle.trb.specs.declared.TdBasedNormalSubmissionState.TheVariants.{SubmissionDue, CollectingTd, AwaitingRealTransfer, AwaitingLocalCompletion, UnsupportedTrb}
@@ -40,7 +37,7 @@ use Rattle.in_block.specs.declared.InBlock.{InBlock}
 use Rattle.in_questions.specs.Questions.{is_given, completion_questions}
 use Rattle.in_questions.proofs.PassedLaws.{PassedCompletion, passed-completion}
 use Rattle.in_endpoint.specs.Completion.{refused, completion_answer, transferred, completed_as, completion, is_accepted, Accounted, Completes}
-use Rattle.in_endpoint.specs.declared.Completed as call
+use Rattle.in_endpoint.specs.Returned as call
 
 -- a walk counts its records
 pub process_td-counts : (td : InTd) (ts : List TransferTrb) → (process_td td ts).state.progress.records ≡ length (process_td td ts).records
@@ -56,13 +53,13 @@ module _ (a : Answer) (r : TrbProcessingResult) where
   completion_answer-number = by_answer a
     where
       by_answer : (a : Answer) → completion_number (completion_answer a r) ≡ number_of a
-      by_answer Accepted = refl
-      by_answer (Refused q) = refl
+      by_answer (Ok tt) = refl
+      by_answer (Err q) = refl
 
-  pub completion_answer-accepted : passed a ≡ true → completion_answer a r ≡ Completed r
+  pub completion_answer-accepted : passed a ≡ true → completion_answer a r ≡ Ok r
   completion_answer-accepted e = ap (λ (x : Answer). completion_answer x r) (accepted-is a e)
 
-  pub completion_answer-refused : passed a ≡ false → completion_answer a r ≡ RefusedCompletion (refusal_of (number_of a))
+  pub completion_answer-refused : passed a ≡ false → completion_answer a r ≡ Err (refusal_of (number_of a))
   completion_answer-refused e = ap (λ (x : Answer). completion_answer x r) (sym (refused-is a e))
 
 completed_as-number : (x : Ending) (b : InBlock) → completion_number (completed_as x b).state.answer ≡ 0
@@ -79,7 +76,7 @@ completed_as-counts (Transfer st n) b = refl
 completed_as-counts (ReportUnsupported a) b = refl
 
 -- the number of a completion's answer is that of the first no
-module _ (l : ℕ) (b : InBlock) (r : InTrbProcessingResult) (n : ℕ) where
+module _ (l : ℕ) (b : InBlock) (r : Option InTrbProcessingStatus) (n : ℕ) where
   abbrev number_by : (long sound due agreed short : Bool) → ℕ
   number_by long sound due agreed short = first_no ((long, 1) ∷ (sound, 2) ∷ (due, 3) ∷ (agreed, 8) ∷ (short, 9) ∷ [])
 
@@ -114,20 +111,20 @@ accepted-all b n o e = by_number (eqb n 0) refl e
     by_number true k p = eqb-true n 0 k
     by_number false k p = absurd (true≢false (sym p))
 
-pub accepted-none : (l : ℕ) (b : InBlock) (r : InTrbProcessingResult) (n : ℕ) → Passed (completion l b r n) ≡ true → first_no (completion_questions l (facts_of b) r n) ≡ 0
+pub accepted-none : (l : ℕ) (b : InBlock) (r : Option InTrbProcessingStatus) (n : ℕ) → Passed (completion l b r n) ≡ true → first_no (completion_questions l (facts_of b) r n) ≡ 0
 unfolding completion
 accepted-none l b r n e = accepted-all b (first_no (completion_questions l (facts_of b) r n)) (completed_as (ending_of b.state r n) b) e
 
 -- an accepted completion is what is done once every question was answered with yes
-pub accepted-completion : (l : ℕ) (b : InBlock) (r : InTrbProcessingResult) (n : ℕ) → Passed (completion l b r n) ≡ true → completion l b r n ≡ completed_as (ending_of b.state r n) b
+pub accepted-completion : (l : ℕ) (b : InBlock) (r : Option InTrbProcessingStatus) (n : ℕ) → Passed (completion l b r n) ≡ true → completion l b r n ≡ completed_as (ending_of b.state r n) b
 unfolding completion
 accepted-completion l b r n e = rw (accepted-none l b r n e)
 
 -- a block that awaits the device has walked its TRBs
-real-walk : (b : InBlock) (x : TdBasedNormalSubmissionState) (r : InTrbProcessingResult) (n : ℕ) → awaits_device x ≡ true → agree (is_given r) (awaits_device x) ≡ true
+real-walk : (b : InBlock) (x : TdBasedNormalSubmissionState) (r : Option InTrbProcessingStatus) (n : ℕ) → awaits_device x ≡ true → agree (is_given r) (awaits_device x) ≡ true
     → (P : Out call.Completed → Type 0) → ((st : InTrbProcessingStatus) → P (transferred b st n)) → P (completed_as (ending_of x r n) b)
-real-walk b AwaitingRealTransfer (Given st) n d e P p = p st
-real-walk b AwaitingRealTransfer NoneGiven n d e P p = absurd (true≢false (sym e))
+real-walk b AwaitingRealTransfer (Some st) n d e P p = p st
+real-walk b AwaitingRealTransfer None n d e P p = absurd (true≢false (sym e))
 real-walk b SubmissionDue r n d e P p = absurd (true≢false (sym d))
 real-walk b CollectingTd r n d e P p = absurd (true≢false (sym d))
 real-walk b AwaitingLocalCompletion r n d e P p = absurd (true≢false (sym d))
@@ -138,7 +135,7 @@ abbrev CountedAndAccounted : InBlock → ℕ → Out call.Completed → Type 0
 CountedAndAccounted b n o = (o.state.records ≡ length o.records) × Account n (held_of b) o.records
 
 -- what the guest reads off the log of an accepted completion is the account of what the device did
-pub accounted-completion : (l l' : List ℕ) (b : InBlock) (res : InTrbProcessingResult) (n : ℕ) (r : call.Completed) → Meets (completion (length l) b res n) 0 l r l'
+pub accounted-completion : (l l' : List ℕ) (b : InBlock) (res : Option InTrbProcessingStatus) (n : ℕ) (r : call.Completed) → Meets (completion (length l) b res n) 0 l r l'
     → Accounted b n r.answer (records_in r.records l')
 unfolding completion transferred
 accounted-completion l l' b res n r m waits accepts distinct isp last =
@@ -153,6 +150,6 @@ accounted-completion l l' b res n r m waits accepts distinct isp last =
     rw (m.state, m.log, told.0, records_in-logged l 0 o.records (omega arith) m.fits) told.1
 
 -- the promise of a completion, by its number and what it came to
-pub completes : (l l' : List ℕ) (b : InBlock) (res : InTrbProcessingResult) (n : ℕ) (r : call.Completed) → completion_number r.answer ≡ first_no (completion_questions (length l) (facts_of b) res n)
+pub completes : (l l' : List ℕ) (b : InBlock) (res : Option InTrbProcessingStatus) (n : ℕ) (r : call.Completed) → completion_number r.answer ≡ first_no (completion_questions (length l) (facts_of b) res n)
     → Meets (completion (length l) b res n) 0 l r l' → Completes b res n l r l'
 completes l l' b res n r e m = record { number = e; met = m; result = ap (λ (x : call.Completed). said x.answer) m.state; account = accounted-completion l l' b res n r m }

@@ -1,11 +1,12 @@
 -- 02, R-4: the mode is chosen at creation, and every call keeps it. Assumes nothing.
+use Rattle.std.specs.Prelude.{Option}
 use Prim.Native.Nat.{ℕ}
 use mathlib.Core.Path.{◌≡◌, refl}
 use mathlib.Core.Bool.{Bool, true, false, cond}
 use lib.Dec.{eqb}
 use Rattle.trb.specs.Questions.{first_no}
 use Rattle.trb.specs.declared.EndpointId.{EndpointId}
-use Rattle.trb.specs.declared.InTrbProcessingResult.{InTrbProcessingResult}
+use Rattle.trb.specs.declared.InTrbProcessingStatus.{InTrbProcessingStatus}
 use Rattle.trb.specs.declared.SlotId.{SlotId}
 use Rattle.trb.specs.declared.TransferTrb.{TransferTrb}
 use Rattle.call_log.specs.Calls.{Out}
@@ -30,9 +31,9 @@ use Rattle.in_questions.specs.Questions.{submission_questions, completion_questi
 use Rattle.in_endpoint.specs.Completion.{transferred, completed_as, completion}
 use Rattle.in_endpoint.specs.Creation.{creation_questions, creation, cancelled}
 use Rattle.in_endpoint.specs.Submission.{submitted_as, submission}
-use Rattle.in_endpoint.specs.declared.Completed.{Completed}
-use Rattle.in_endpoint.specs.declared.Created.{Created}
-use Rattle.in_endpoint.specs.declared.Submitted.{Submitted}
+use Rattle.in_endpoint.specs.Returned.{Completed}
+use Rattle.in_endpoint.specs.Returned.{Created}
+use Rattle.in_endpoint.specs.Returned.{Submitted}
 
 -- whether every question was answered with yes or not
 either : {A : Type 0} (mode_of : A → InMode) (mode : InMode) (b : Bool) (x y : A) → mode_of x ≡ mode → mode_of y ≡ mode → mode_of (cond b x y) ≡ mode
@@ -62,7 +63,7 @@ completed-keeps KeepCollecting b = refl
 completed-keeps (Transfer st n) b = refl
 completed-keeps (ReportUnsupported a) b = refl
 
-pub completion-keeps : (l : ℕ) (b : InBlock) (r : InTrbProcessingResult) (n : ℕ) → (completion l b r n).state.block.mode ≡ b.mode
+pub completion-keeps : (l : ℕ) (b : InBlock) (r : Option InTrbProcessingStatus) (n : ℕ) → (completion l b r n).state.block.mode ≡ b.mode
 unfolding completion
 completion-keeps l b r n =
     either (λ (o : Out Completed). o.state.block.mode) b.mode (eqb (first_no (completion_questions l (facts_of b) r n)) 0) _ _

@@ -1,15 +1,11 @@
 -- 01, Completion on an IN endpoint: what is done once every question was answered with yes; demand 3; and the promise of a call.
 -- Assumes nothing.
-use Rattle.std.specs.Prelude.{ℕ, ◌≡◌, Bool, true, false, List, [], ◌∷◌, length}
+use Rattle.std.specs.Prelude.{ℕ, ◌≡◌, Bool, true, false, List, [], ◌∷◌, length, Err, Ok, Option}
 use Rattle.trb.specs.Answers.{completion_number, refusal_of, said}
 use Rattle.trb.specs.Questions.{first_no, after_questions}
-use Rattle.trb.specs.declared.Answer.{Answer}
-use Rattle.trb.specs.declared.Answer.TheVariants as asked
-use Rattle.trb.specs.declared.CompletionAnswer.{CompletionAnswer}
-use Rattle.trb.specs.declared.CompletionAnswer.TheVariants as answer
+use Rattle.trb.specs.Answers.{Answer, CompletionAnswer}
 use Rattle.trb.specs.declared.CompletionCode.TheVariants as code
 use Rattle.trb.specs.declared.EndpointId.{EndpointId}
-use Rattle.trb.specs.declared.InTrbProcessingResult.{InTrbProcessingResult}
 use Rattle.trb.specs.declared.InTrbProcessingStatus.{InTrbProcessingStatus}
 use Rattle.trb.specs.declared.SlotId.{SlotId}
 use Rattle.trb.specs.declared.TdBasedNormalSubmissionState.TheVariants.{SubmissionDue}
@@ -29,20 +25,20 @@ use Rattle.in_block.specs.declared.Ending.{Ending}
 use Rattle.in_block.specs.declared.Ending.TheVariants.{KeepCollecting, Transfer, ReportUnsupported}
 use Rattle.in_block.specs.declared.InBlock.{InBlock}
 use Rattle.in_questions.specs.Questions.{completion_questions}
-use Rattle.in_endpoint.specs.declared.Completed.{Completed}
+use Rattle.in_endpoint.specs.Returned.{Completed}
 
 -- a no ends the call with its number, zero records, and block and log unchanged
 abbrev pub refused : InBlock → ℕ → Out Completed
-refused b n = silent (record { answer = answer.Refused (refusal_of n); records = 0; block = b })
+refused b n = silent (record { answer = Err (refusal_of n); records = 0; block = b })
 
 -- what a completion answers to the questions, where its result is r
 abbrev pub completion_answer : Answer → TrbProcessingResult → CompletionAnswer
-completion_answer asked.Accepted r = answer.Completed r
-completion_answer (asked.Refused q) r = answer.Refused q
+completion_answer (Ok tt) r = Ok r
+completion_answer (Err q) r = Err q
 
 -- with this result and so many records, nothing is held any more, and a submission is due
 abbrev pub completed : TrbProcessingResult → ℕ → InBlock → Completed
-completed r n b = record { answer = answer.Completed r; records = n; block = emptied b SubmissionDue }
+completed r n b = record { answer = Ok r; records = n; block = emptied b SubmissionDue }
 
 abbrev pub processed : Out TdProcessed → InBlock → Out Completed
 processed o b = record { state = completed o.state.result (length o.records) b; records = o.records }
@@ -63,7 +59,7 @@ unsupported b a = record {
 
 -- a completion while TRBs are still being collected logs nothing, keeps them, and its result is Ok
 abbrev pub collecting : InBlock → Out Completed
-collecting b = silent (record { answer = answer.Completed result.Ok; records = 0; block = with_state b SubmissionDue })
+collecting b = silent (record { answer = Ok result.Ok; records = 0; block = with_state b SubmissionDue })
 
 abbrev pub completed_as : Ending → InBlock → Out Completed
 completed_as KeepCollecting b = collecting b
@@ -71,12 +67,12 @@ completed_as (Transfer st n) b = transferred b st n
 completed_as (ReportUnsupported a) b = unsupported b a
 
 -- with a log of l bytes and n bytes of data
-unfoldable pub completion : ℕ → InBlock → InTrbProcessingResult → ℕ → Out Completed
+unfoldable pub completion : ℕ → InBlock → Option InTrbProcessingStatus → ℕ → Out Completed
 completion l b r n = after_questions (completion_questions l (facts_of b) r n) (refused b) (completed_as (ending_of b.state r n) b)
 
 abbrev pub is_accepted : CompletionAnswer → Bool
-is_accepted (answer.Completed r) = true
-is_accepted (answer.Refused r) = false
+is_accepted (Ok r) = true
+is_accepted (Err r) = false
 
 -- 00, demand 3: for every list of held TRBs at distinct addresses, with interrupt-on-short on every Normal TRB and a last TRB that is
 -- Normal with interrupt-on-completion, and whatever status and whichever n bytes the device returns, an accepted completion of an IN
@@ -87,7 +83,7 @@ Accounted b n a rs =
     → Account n (held_of b) rs
 
 -- of a completion with the device result s, n bytes of data and the log l, which returned r and left the log l'
-pub record Completes (b : InBlock) (s : InTrbProcessingResult) (n : ℕ) (l : List ℕ) (r : Completed) (l' : List ℕ) : Type 0 where
+pub record Completes (b : InBlock) (s : Option InTrbProcessingStatus) (n : ℕ) (l : List ℕ) (r : Completed) (l' : List ℕ) : Type 0 where
   pub number : completion_number r.answer ≡ first_no (completion_questions (length l) (facts_of b) s n)
   pub met : Meets (completion (length l) b s n) 0 l r l'
   pub result : said r.answer ≡ said (completion (length l) b s n).state.answer

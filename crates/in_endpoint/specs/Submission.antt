@@ -1,8 +1,7 @@
 -- 01, Submission on an IN endpoint: what is done once every question was answered with yes, and the promise of a call. Assumes nothing.
-use Rattle.std.specs.Prelude.{ℕ, ◌≡◌, List, [], ◌∷◌, length}
+use Rattle.std.specs.Prelude.{ℕ, ◌≡◌, List, [], ◌∷◌, length, Err, Ok}
 use Rattle.trb.specs.Answers.{number_of, refusal_of}
 use Rattle.trb.specs.Questions.{first_no, after_questions}
-use Rattle.trb.specs.declared.Answer.TheVariants.{Accepted, Refused}
 use Rattle.trb.specs.declared.EndpointId.{EndpointId}
 use Rattle.trb.specs.declared.SlotId.{SlotId}
 use Rattle.trb.specs.declared.TransferTrb.{TransferTrb}
@@ -18,14 +17,14 @@ use Rattle.in_block.specs.declared.InBlock.{InBlock}
 use Rattle.in_block.specs.declared.Outcome.{Outcome}
 use Rattle.in_block.specs.declared.Outcome.TheVariants.{Drop, Collect, CompleteLocally, Request}
 use Rattle.in_questions.specs.Questions.{submission_questions}
-use Rattle.in_endpoint.specs.declared.Submitted.{Submitted}
+use Rattle.in_endpoint.specs.Returned.{Submitted}
 
 -- a no ends the call with its number, zero records, and block and log unchanged
 abbrev pub refused : InBlock → ℕ → Out Submitted
-refused b n = silent (record { answer = Refused (refusal_of n); records = 0; block = b })
+refused b n = silent (record { answer = Err (refusal_of n); records = 0; block = b })
 
 abbrev pub accepted : ℕ → InBlock → Submitted
-accepted n b = record { answer = Accepted; records = n; block = b }
+accepted n b = record { answer = Ok tt; records = n; block = b }
 
 -- the TD's first TRB address
 abbrev pub first_address : List TransferTrb → ℕ

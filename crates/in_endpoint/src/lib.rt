@@ -14,25 +14,11 @@ use trb::{
     TdBasedNormalSubmissionState, TrbProcessingResult,
 };
 
-#[derive(Clone, Copy)]
-pub struct Created {
-    pub answer: Answer,
-    pub block: InBlock,
-}
+pub type Created = trb::Created<InBlock>;
 
-#[derive(Clone, Copy)]
-pub struct Submitted {
-    pub answer: Answer,
-    pub records: usize,
-    pub block: InBlock,
-}
+pub type Submitted = trb::Submitted<InBlock>;
 
-#[derive(Clone, Copy)]
-pub struct Completed {
-    pub answer: CompletionAnswer,
-    pub records: usize,
-    pub block: InBlock,
-}
+pub type Completed = trb::Completed<InBlock>;
 
 // ---- Creation
 
@@ -43,12 +29,12 @@ pub fn create(endpoint_id: EndpointId, slot_id: SlotId, mode: InMode) -> Created
 {
     if trb::ids_in_range(endpoint_id, slot_id) {
         Created {
-            answer: Answer::Accepted,
+            answer: Ok(()),
             block: in_block::fresh(endpoint_id, slot_id, mode),
         }
     } else {
         Created {
-            answer: Answer::Refused(Refusal::IdOutOfRange),
+            answer: Err(Refusal::IdOutOfRange),
             block: in_block::fresh(EndpointId(0), SlotId(0), mode),
         }
     }
@@ -77,8 +63,8 @@ pub fn completion_answer(asked: Answer, res: TrbProcessingResult) -> CompletionA
     ensures { result ≡ completion_answer asked res }
 {
     match asked {
-        Answer::Accepted => CompletionAnswer::Completed(res),
-        Answer::Refused(refusal) => CompletionAnswer::Refused(refusal),
+        Ok(()) => Ok(res),
+        Err(refusal) => Err(refusal),
     }
 }
 

@@ -30,19 +30,16 @@ pub fn ask_of_normal(
     requires { held ≤ max_held }
     ensures { number_of result ≡ first_no (trb_questions held (Normal (normal_of flags value transfer_length)) regions) }
 {
-    if trb::MAX_TRANSFER_LENGTH < transfer_length {
-        return Answer::Refused(Refusal::TransferTooLong);
-    }
-    if held_bytes::bit(flags, 16) {
-        return Answer::Refused(Refusal::ImmediateInput);
-    }
-    if trb::MAX_HELD < held + 1 {
-        return Answer::Refused(Refusal::TooManyHeld);
-    }
-    if !guest_memory::range_inside(regions, value, transfer_length) {
-        return Answer::Refused(Refusal::OutsideGuestMemory);
-    }
-    Answer::Accepted
+    trb::ask(
+        transfer_length <= trb::MAX_TRANSFER_LENGTH,
+        Refusal::TransferTooLong,
+    )?;
+    trb::ask(!held_bytes::bit(flags, 16), Refusal::ImmediateInput)?;
+    trb::ask(held < trb::MAX_HELD, Refusal::TooManyHeld)?;
+    trb::ask(
+        guest_memory::range_inside(regions, value, transfer_length),
+        Refusal::OutsideGuestMemory,
+    )
 }
 
 // Questions 4, 21, 5 and 6, of a TRB behind `held` others. Of any other than a Normal or Data Stage there is no length to ask about.
@@ -60,23 +57,19 @@ fn ask_of_trb(
 {
     match kind {
         raw_trb::NORMAL => ask_of_normal(held, flags, value, transfer_length, regions),
-        raw_trb::DATA_STAGE => {
-            if trb::MAX_TRANSFER_LENGTH < transfer_length {
-                return Answer::Refused(Refusal::TransferTooLong);
-            }
-            Answer::Accepted
-        }
+        raw_trb::DATA_STAGE => trb::ask(
+            transfer_length <= trb::MAX_TRANSFER_LENGTH,
+            Refusal::TransferTooLong,
+        ),
         raw_trb::EVENT_DATA | raw_trb::NO_OP => {
-            if trb::MAX_HELD < held + 1 {
-                return Answer::Refused(Refusal::TooManyHeld);
-            }
-            Answer::Accepted
+            trb::ask(held < trb::MAX_HELD, Refusal::TooManyHeld)
         }
-        _ => Answer::Accepted,
+        _ => Ok(()),
     }
 }
 
 // Questions 1, 13, 2 to 4, 21, 5 and 6, of a log of this length and guest memory in these regions.
+#[tactic(auto, unfolding(trb::specs::Questions::first_no, in_questions::specs::Questions::submission_questions))]
 pub fn ask_submission(
     log_length: usize,
     facts: BlockFacts,
@@ -85,18 +78,13 @@ pub fn ask_submission(
 ) -> Answer
     ensures { number_of result ≡ first_no (submission_questions log_length facts (trb_of numbers) regions) }
 {
-    if log_length < trb::MIN_LOG {
-        return Answer::Refused(Refusal::BufferTooShort);
-    }
-    if guest_memory::share_an_address(regions) {
-        return Answer::Refused(Refusal::RegionsOverlap);
-    }
-    if !in_block::is_sound(facts) {
-        return Answer::Refused(Refusal::UnsoundBlock);
-    }
-    if !in_block::submission_due(facts.state) {
-        return Answer::Refused(Refusal::OutOfTurn);
-    }
+    trb::ask(trb::MIN_LOG <= log_length, Refusal::BufferTooShort)?;
+    trb::ask(
+        !guest_memory::share_an_address(regions),
+        Refusal::RegionsOverlap,
+    )?;
+    trb::ask(in_block::is_sound(facts), Refusal::UnsoundBlock)?;
+    trb::ask(in_block::submission_due(facts.state), Refusal::OutOfTurn)?;
     ask_of_trb(
         facts.held,
         numbers.kind,

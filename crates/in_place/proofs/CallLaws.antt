@@ -1,4 +1,5 @@
 -- What a completion in place comes to, by its answer and what it stored. Assumes nothing.
+use Rattle.std.specs.Prelude.{Err, None, Ok, Option}
 use Prim.Native.Nat.{ℕ, ◌<◌, ◌≤◌}
 use mathlib.Core.Path.{◌≡◌, refl, sym, ap, ◌∙◌, subst}
 use mathlib.Core.Bool.{Bool, true, false}
@@ -11,12 +12,7 @@ use Rattle.trb.specs.Limits.{min_log, max_data}
 use Rattle.trb.specs.Refusals.{refusal_number}
 use Rattle.trb.specs.Questions.{first_no}
 use Rattle.trb.proofs.AnswerLaws.{answered-yes, answered-no, refusal_number-positive}
-use Rattle.trb.specs.declared.Answer.{Answer}
-use Rattle.trb.specs.declared.Answer.TheVariants.{Accepted}
-use Rattle.trb.specs.declared.CompletionAnswer.{CompletionAnswer}
-use Rattle.trb.specs.declared.CompletionAnswer.TheVariants as completion-answer
-use Rattle.trb.specs.declared.InTrbProcessingResult.{InTrbProcessingResult}
-use Rattle.trb.specs.declared.InTrbProcessingResult.TheVariants.{NoneGiven}
+use Rattle.trb.specs.Answers.{Answer, CompletionAnswer}
 use Rattle.trb.specs.declared.InTrbProcessingStatus.{InTrbProcessingStatus}
 use Rattle.trb.specs.declared.Refusal.TheVariants.{BufferTooShort}
 use Rattle.trb.specs.declared.TransferTrb.{TransferTrb}
@@ -39,7 +35,7 @@ use Rattle.in_block.specs.declared.Ending.TheVariants.{KeepCollecting}
 use Rattle.in_questions.specs.Questions.{completion_questions}
 use Rattle.in_endpoint.specs.Completion as completions
 use Rattle.account.specs.Guest.{Account}
-use Rattle.in_endpoint.specs.declared.Completed.{Completed}
+use Rattle.in_endpoint.specs.Returned.{Completed}
 use Rattle.in_endpoint.proofs.CompletionLaws.{accounted-completion, completion-number, completion_answer-refused, process_td-counts}
 use Rattle.answer_numbers.specs.Numbers.{completed_with, completion_answered}
 use Rattle.answer_numbers.specs.declared.CompletionAnswered.{CompletionAnswered}
@@ -61,15 +57,15 @@ result_parts (result.TransactionErrorAt a c) n = (refl, refl)
 result_parts result.Disconnect n = (refl, refl)
 
 pub answer-parts : (a : CompletionAnswer) (n : ℕ) → ((completion_answered a n).number ≡ completion_number a) × ((completion_answered a n).records ≡ n)
-answer-parts (completion-answer.Completed r) n = result_parts r n
-answer-parts (completion-answer.Refused q) n = (refl, refl)
+answer-parts (Ok r) n = result_parts r n
+answer-parts (Err q) n = (refl, refl)
 
 -- the number 0 is that of an accepted completion
 pub accepted-zero : (a : CompletionAnswer) → completion_number a ≡ 0 → completions.is_accepted a ≡ true
-accepted-zero (completion-answer.Completed r) e = refl
-accepted-zero (completion-answer.Refused q) e = absurd (eqb-false (refusal_number q) 0 (refusal_number-positive q) e)
+accepted-zero (Ok r) e = refl
+accepted-zero (Err q) e = absurd (eqb-false (refusal_number q) 0 (refusal_number-positive q) e)
 
-module _ (s : InTrbProcessingResult) (n : ℕ) (l b : List ℕ) where
+module _ (s : Option InTrbProcessingStatus) (n : ℕ) (l b : List ℕ) where
   abbrev asked-completion : List (Bool × ℕ)
   asked-completion = completion_questions (length l) (facts_of (block_of b)) s n
 
@@ -112,8 +108,8 @@ module _ (s : InTrbProcessingResult) (n : ℕ) (l b : List ℕ) where
   -- what an accepted completion comes to, by its ending
   pub completes-accepted : (a : Answer) {r : CompletionAnswered} {l' b' : List ℕ} → number_of a ≡ first_no asked-completion → is_accepted a ≡ true
       → (o : Ending) → ending_of (block_of b).state s n ≡ o
-      → (w : TrbProcessingResult) (count : ℕ) → r ≡ completion_answered (completion-answer.Completed w) count
-      → Meets (completed_numbers (completions.completed_as o (block_of b))) 0 l (completion_answered (completion-answer.Completed w) count) l'
+      → (w : TrbProcessingResult) (count : ℕ) → r ≡ completion_answered (Ok w) count
+      → Meets (completed_numbers (completions.completed_as o (block_of b))) 0 l (completion_answered (Ok w) count) l'
       → Becomes b (completions.completed_as o (block_of b)).state.block b' → CompletesInPlace (length l) s n l b r l' b'
   unfolding completions.completion
   completes-accepted a {r} {l'} e passed o eo w count er m changed =
@@ -124,28 +120,28 @@ module _ (s : InTrbProcessingResult) (n : ℕ) (l b : List ℕ) where
 
 -- ---- A TD that is collected
 
-pub none-given : (n : ℕ) → 4 ≤ n → result_of n ≡ NoneGiven
+pub none-given : (n : ℕ) → 4 ≤ n → result_of n ≡ None
 none-given n h = simp (ne_eqb n 0 (λ e. omega (arith, e, h)), ne_eqb n 1 (λ e. omega (arith, e, h)), ne_eqb n 2 (λ e. omega (arith, e, h)), ne_eqb n 3 (λ e. omega (arith, e, h)))
 
-pub goes_on : (b : List ℕ) (k : ℕ) (s : InTrbProcessingResult) (n : ℕ) → SoundIn 1 b → min_log ≤ k → n ≤ max_data → s ≡ NoneGiven → GoesOn k s n b
+pub goes_on : (b : List ℕ) (k : ℕ) (s : Option InTrbProcessingStatus) (n : ℕ) → SoundIn 1 b → min_log ≤ k → n ≤ max_data → s ≡ None → GoesOn k s n b
 unfolding block_of completion_questions first_no
 goes_on b k s n in-state long short none =
     let state : (block_of b).state ≡ CollectingTd = ap (λ (x : ℕ). state_of x (le_field 8 8 b)) in-state.state in
     record { asked = rw (le-leb min_log k long, in-state.sound, state, none, le-leb n max_data short) refl; state = state }
 
-module _ (s : InTrbProcessingResult) (n : ℕ) (l b : List ℕ) where
+module _ (s : Option InTrbProcessingStatus) (n : ℕ) (l b : List ℕ) where
   -- the TRBs held are kept
-  pub completes-kept : {r : CompletionAnswered} {b' : List ℕ} → GoesOn (length l) s n b → r ≡ completion_answered (completion-answer.Completed result.Ok) 0
+  pub completes-kept : {r : CompletionAnswered} {b' : List ℕ} → GoesOn (length l) s n b → r ≡ completion_answered (Ok result.Ok) 0
       → Becomes b (with_state (block_of b) SubmissionDue) b' → CompletesInPlace (length l) s n l b r l b'
   completes-kept on er changed =
-      completes-accepted s n l b Accepted (sym on.asked) refl KeepCollecting (ap (λ (x : TdBasedNormalSubmissionState). ending_of x s n) on.state) result.Ok 0 er
+      completes-accepted s n l b (Ok tt) (sym on.asked) refl KeepCollecting (ap (λ (x : TdBasedNormalSubmissionState). ending_of x s n) on.state) result.Ok 0 er
       (record { state = refl; log = sym (logged_none l 0); fits = tt }) changed
 
 -- ---- The TD was walked
 
 pub transferred-met : (b l l' : List ℕ) (td : InTd) (held : ℕ) (st : InTrbProcessingStatus) (n : ℕ) (r : TdProcessed) → td ≡ in_td (endpoint_of b) (slot_of b) (block_of b).mode st n
     → held ≡ held_count b → Meets (process_td td (take held (places b))) 0 l r l'
-    → Meets (completed_numbers (completions.transferred (block_of b) st n)) 0 l (completion_answered (completion-answer.Completed r.result) r.progress.records) l'
+    → Meets (completed_numbers (completions.transferred (block_of b) st n)) 0 l (completion_answered (Ok r.result) r.progress.records) l'
 unfolding block_of completions.transferred
 transferred-met b l l' td held st n r et eh m =
     let known : InTd = in_td (endpoint_of b) (slot_of b) (mode_of (get_or b 3 0)) st n in
@@ -153,8 +149,8 @@ transferred-met b l l' td held st n r et eh m =
     let walked : Meets (process_td known ts) 0 l r l' =
     subst (λ (k : ℕ). Meets (process_td known (take k (places b))) 0 l r l') eh (subst (λ (x : InTd). Meets (process_td x (take held (places b))) 0 l r l') et m) in
     record {
-      state = ap (λ (x : TdProcessed). completion_answered (completion-answer.Completed x.result) x.progress.records) walked.state
-          ∙ ap (λ (k : ℕ). completion_answered (completion-answer.Completed (process_td known ts).state.result) k) (process_td-counts known ts);
+      state = ap (λ (x : TdProcessed). completion_answered (Ok x.result) x.progress.records) walked.state
+          ∙ ap (λ (k : ℕ). completion_answered (Ok (process_td known ts).state.result) k) (process_td-counts known ts);
       log = walked.log;
       fits = walked.fits;
     }
@@ -164,8 +160,8 @@ unfolding completions.transferred
 transferred-becomes b b' st n h = h
 
 -- bytes too few for a block
-pub completes-short : (s : InTrbProcessingResult) (n : ℕ) (l b : List ℕ) {r : CompletionAnswered} → length b < block_length
-    → r ≡ completion_answered (completion-answer.Refused BufferTooShort) 0 → CompletesInPlace (lent_log l b) s n l b r l b
+pub completes-short : (s : Option InTrbProcessingStatus) (n : ℕ) (l b : List ℕ) {r : CompletionAnswered} → length b < block_length
+    → r ≡ completion_answered (Err BufferTooShort) 0 → CompletesInPlace (lent_log l b) s n l b r l b
 unfolding completion_questions first_no refusal_of completions.completion
 completes-short s n l b {r} short e =
     subst (λ (k : ℕ). CompletesInPlace k s n l b r l b) (sym (lent-short l b short))

@@ -1,9 +1,8 @@
 -- What a call in place is: by the definitions of the endpoint by value, of the block that the bytes are. Assumes nothing.
-use Rattle.std.specs.Prelude.{ℕ, ◌≤◌, ◌<◌, ◌≡◌, true, cond, List, [], ◌∷◌, eqb, length}
+use Rattle.std.specs.Prelude.{ℕ, ◌≤◌, ◌<◌, ◌≡◌, true, cond, List, [], ◌∷◌, eqb, length, None, Option, Some}
 use Rattle.trb.specs.Questions.{first_no}
 use Rattle.trb.specs.declared.EndpointId.{EndpointId}
-use Rattle.trb.specs.declared.InTrbProcessingResult.{InTrbProcessingResult}
-use Rattle.trb.specs.declared.InTrbProcessingResult.TheVariants.{NoneGiven, Given}
+use Rattle.trb.specs.declared.InTrbProcessingStatus.{InTrbProcessingStatus}
 use Rattle.trb.specs.declared.InTrbProcessingStatus.TheVariants.{Disconnect, Stall, TransactionError, Success}
 use Rattle.trb.specs.declared.SlotId.{SlotId}
 use Rattle.trb.specs.declared.TdBasedNormalSubmissionState.TheVariants.{CollectingTd}
@@ -18,7 +17,7 @@ use Rattle.in_block.specs.declared.InBlock.{InBlock}
 use Rattle.in_questions.specs.Questions.{completion_questions}
 use Rattle.in_endpoint.specs.Creation.{creation_questions, creation, cancelled}
 use Rattle.in_endpoint.specs.Completion.{completion}
-use Rattle.in_endpoint.specs.declared.Completed.{Completed}
+use Rattle.in_endpoint.specs.Returned.{Completed}
 use Rattle.answer_numbers.specs.Numbers.{completion_answered}
 use Rattle.answer_numbers.specs.declared.CompletionAnswered.{CompletionAnswered}
 use Rattle.in_bytes.specs.Layout.{block_length, block_of}
@@ -50,7 +49,7 @@ AccountedInPlace b n r rs =
     awaits_device b.state ≡ true → r.number ≡ 0 → Distinct (held_of b) → IspOnNormals (held_of b) → LastNormalWithIoc (held_of b) → Account n (held_of b) rs
 
 -- of a completion with the device result s and n bytes of data
-pub record CompletesInPlace (k : ℕ) (s : InTrbProcessingResult) (n : ℕ) (l b : List ℕ) (r : CompletionAnswered) (l' b' : List ℕ) : Type 0 where
+pub record CompletesInPlace (k : ℕ) (s : Option InTrbProcessingStatus) (n : ℕ) (l b : List ℕ) (r : CompletionAnswered) (l' b' : List ℕ) : Type 0 where
   pub number : r.number ≡ first_no (completion_questions k (facts_of (block_of b)) s n)
   pub met : Meets (completed_numbers (completion k (block_of b) s n)) 0 l r l'
   pub becomes : Becomes b (completion k (block_of b) s n).state.block b'
@@ -58,10 +57,10 @@ pub record CompletesInPlace (k : ℕ) (s : InTrbProcessingResult) (n : ℕ) (l b
   pub account : AccountedInPlace (block_of b) n r (records_in r.records l')
 
 -- every question says yes, and a TD is collected
-pub record GoesOn (k : ℕ) (s : InTrbProcessingResult) (n : ℕ) (b : List ℕ) : Type 0 where
+pub record GoesOn (k : ℕ) (s : Option InTrbProcessingStatus) (n : ℕ) (b : List ℕ) : Type 0 where
   pub asked : first_no (completion_questions k (facts_of (block_of b)) s n) ≡ 0
   pub state : (block_of b).state ≡ CollectingTd
 
 -- a device result by number: 0 Success, 1 Stall, 2 a transaction error, 3 a disconnect; any other number, none is given
-abbrev pub result_of : ℕ → InTrbProcessingResult
-result_of n = cond (eqb n 0) (Given Success) (cond (eqb n 1) (Given Stall) (cond (eqb n 2) (Given TransactionError) (cond (eqb n 3) (Given Disconnect) NoneGiven)))
+abbrev pub result_of : ℕ → Option InTrbProcessingStatus
+result_of n = cond (eqb n 0) (Some Success) (cond (eqb n 1) (Some Stall) (cond (eqb n 2) (Some TransactionError) (cond (eqb n 3) (Some Disconnect) None)))

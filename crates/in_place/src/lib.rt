@@ -10,8 +10,7 @@ ghost use Rattle.in_place.specs.InPlace.{CreatesInPlace, CancelsInPlace, Complet
 use answer_numbers::CompletionAnswered;
 use in_block::Ending;
 use trb::{
-    CompletionAnswer, EndpointId, InTrbProcessingResult, InTrbProcessingStatus, Refusal, SlotId,
-    TrbProcessingResult,
+    CompletionAnswer, EndpointId, InTrbProcessingStatus, Refusal, SlotId, TrbProcessingResult,
 };
 
 // ---- Completion
@@ -20,7 +19,7 @@ use trb::{
 pub fn complete(
     log: &mut [u8],
     block: &mut [u8],
-    res: InTrbProcessingResult,
+    res: Option<InTrbProcessingStatus>,
     data_length: usize,
 ) -> CompletionAnswered
     requires { block_length ≤ length block.old }
@@ -28,7 +27,7 @@ pub fn complete(
 {
     let held = buffers::le16(block, 4);
     let asked = in_place_questions::ask_completion(log.len(), block, res, data_length);
-    if !trb::is_accepted(asked) {
+    if asked.is_err() {
         let refused = in_endpoint::completion_answer(asked, TrbProcessingResult::Ok);
         return answer_numbers::completed_as(refused, 0);
     }
@@ -36,40 +35,34 @@ pub fn complete(
     match in_block::ending_of(state, res, data_length as u32) {
         Ending::KeepCollecting => {
             in_place_store::keep(block);
-            answer_numbers::completed_as(CompletionAnswer::Completed(TrbProcessingResult::Ok), 0)
+            answer_numbers::completed_as(Ok(TrbProcessingResult::Ok), 0)
         }
         Ending::Transfer(status, device_length) => {
             let td = in_place_walk::td_of(block, status, device_length);
             let processed = in_place_walk::walk(log, block, held as usize, td);
             in_place_store::free(block, held);
-            answer_numbers::completed_as(
-                CompletionAnswer::Completed(processed.result),
-                processed.progress.records,
-            )
+            answer_numbers::completed_as(Ok(processed.result), processed.progress.records)
         }
         Ending::ReportUnsupported(addr) => {
             let endpoint_id = in_bytes::endpoint_id(block);
             let slot_id = in_bytes::slot_id(block);
             in_endpoint::report_unsupported(log, addr, endpoint_id, slot_id);
             in_place_store::free(block, held);
-            answer_numbers::completed_as(
-                CompletionAnswer::Completed(TrbProcessingResult::TrbError),
-                1,
-            )
+            answer_numbers::completed_as(Ok(TrbProcessingResult::TrbError), 1)
         }
     }
 }
 
 // The device result by its number, as `next_completion` takes it.
-pub fn result_of(status: u8) -> InTrbProcessingResult
+pub fn result_of(status: u8) -> Option<InTrbProcessingStatus>
     ensures { result ≡ result_of status }
 {
     match status {
-        0 => InTrbProcessingResult::Given(InTrbProcessingStatus::Success),
-        1 => InTrbProcessingResult::Given(InTrbProcessingStatus::Stall),
-        2 => InTrbProcessingResult::Given(InTrbProcessingStatus::TransactionError),
-        3 => InTrbProcessingResult::Given(InTrbProcessingStatus::Disconnect),
-        _ => InTrbProcessingResult::NoneGiven,
+        0 => Some(InTrbProcessingStatus::Success),
+        1 => Some(InTrbProcessingStatus::Stall),
+        2 => Some(InTrbProcessingStatus::TransactionError),
+        3 => Some(InTrbProcessingStatus::Disconnect),
+        _ => None,
     }
 }
 
@@ -101,14 +94,11 @@ pub fn next_completion(
     ensures { CompletesInPlace (lent_log log.old block.old) (result_of status) data_length log.old block.old result log.new block.new }
 {
     if block.len() < in_bytes::BLOCK {
-        return answer_numbers::completed_as(CompletionAnswer::Refused(Refusal::BufferTooShort), 0);
+        return answer_numbers::completed_as(Err(Refusal::BufferTooShort), 0);
     }
     if goes_on(log.len(), block, status, data_length) {
         in_place_store::keep(block);
-        return answer_numbers::completed_as(
-            CompletionAnswer::Completed(TrbProcessingResult::Ok),
-            0,
-        );
+        return answer_numbers::completed_as(Ok(TrbProcessingResult::Ok), 0);
     }
     complete(log, block, result_of(status), data_length)
 }

@@ -1,4 +1,5 @@
 -- What `delivery` promises of the block that the bytes are is promised in place, as numbers and bytes: of a no, and behind a yes to every question. Assumes nothing.
+use Rattle.std.specs.Prelude.{Err, Option}
 use Prim.Native.Nat.{ℕ, ◌*◌, ◌<◌, ◌≤◌}
 use mathlib.Core.Path.{◌≡◌, refl, sym, ap, ◌∙◌, subst}
 use mathlib.Core.Bool.{Bool, true, false}
@@ -8,9 +9,8 @@ use lib.ListN.{length, take}
 use Rattle.trb.specs.Answers.{number_of, is_accepted, refusal_of, completion_number}
 use Rattle.trb.specs.Limits.{record_length}
 use Rattle.trb.specs.Questions.{first_no}
-use Rattle.trb.specs.declared.Answer.{Answer}
-use Rattle.trb.specs.declared.CompletionAnswer.TheVariants.{Refused}
-use Rattle.trb.specs.declared.InTrbProcessingResult.{InTrbProcessingResult}
+use Rattle.trb.specs.Answers.{Answer}
+use Rattle.trb.specs.declared.InTrbProcessingStatus.{InTrbProcessingStatus}
 use Rattle.trb.specs.declared.Refusal.TheVariants.{BufferTooShort}
 use Rattle.trb.specs.declared.TrbProcessingResult.{TrbProcessingResult}
 use Rattle.call_log.specs.Logs.{records_in}
@@ -20,7 +20,7 @@ use Rattle.carry_out.specs.CarryOut.{Carried}
 use Rattle.account.specs.Guest.{Account}
 use Rattle.in_block.specs.Blocks.{held_of}
 use Rattle.in_endpoint.specs.Completion as completions
-use Rattle.in_endpoint.specs.declared.Completed.{Completed}
+use Rattle.in_endpoint.specs.Returned.{Completed}
 use Rattle.in_endpoint.proofs.CompletionLaws.{completion-number, completes}
 use Rattle.answer_numbers.specs.Numbers.{completion_answered}
 use Rattle.answer_numbers.specs.declared.CompletionAnswered.{CompletionAnswered}
@@ -37,7 +37,7 @@ use Rattle.delivery.proofs.CallLaws.{delivers-no, log-long, delivers-yes}
 use Rattle.delivery.proofs.QuestionLaws.{passed-delivery}
 use Rattle.in_place_delivery.specs.Delivering.{DeliversInPlace}
 
-module _ (s : InTrbProcessingResult) (bytes l b : List ℕ) (m : Memory) where
+module _ (s : Option InTrbProcessingStatus) (bytes l b : List ℕ) (m : Memory) where
   abbrev questions : List (Bool × ℕ)
   questions = delivery_questions (length l) (block_of b) s (length bytes) (regions_of m)
 
@@ -96,14 +96,14 @@ module _ (s : InTrbProcessingResult) (bytes l b : List ℕ) (m : Memory) where
         (λ positive. absurd (omega (arith, positive, h.number, (passed-delivery (length l) (block_of b) s (length bytes) (regions_of m) none).completes)))
 
 -- bytes enough for a block
-pub long-in-place : (bytes l b : List ℕ) (m : Memory) {s x : InTrbProcessingResult} {r : CompletionAnswered} {l' b' : List ℕ} {m' : Memory} → block_length ≤ length b → s ≡ x
+pub long-in-place : (bytes l b : List ℕ) (m : Memory) {s x : Option InTrbProcessingStatus} {r : CompletionAnswered} {l' b' : List ℕ} {m' : Memory} → block_length ≤ length b → s ≡ x
     → DeliversInPlace (length l) s bytes l b m r l' b' m' → DeliversInPlace (lent_log l b) x bytes l b m r l' b' m'
 long-in-place bytes l b m {s} {x} {r} {l'} {b'} {m'} long is h =
-    subst (λ (k : ℕ). DeliversInPlace k x bytes l b m r l' b' m') (sym (lent-long l b long)) (subst (λ (y : InTrbProcessingResult). DeliversInPlace (length l) y bytes l b m r l' b' m') is h)
+    subst (λ (k : ℕ). DeliversInPlace k x bytes l b m r l' b' m') (sym (lent-long l b long)) (subst (λ (y : Option InTrbProcessingStatus). DeliversInPlace (length l) y bytes l b m r l' b' m') is h)
 
 -- bytes too few for a block
-pub short-in-place : (s : InTrbProcessingResult) (bytes l b : List ℕ) (m : Memory) {r : CompletionAnswered} → length b < block_length
-    → r ≡ completion_answered (Refused BufferTooShort) 0 → DeliversInPlace (lent_log l b) s bytes l b m r l b m
+pub short-in-place : (s : Option InTrbProcessingStatus) (bytes l b : List ℕ) (m : Memory) {r : CompletionAnswered} → length b < block_length
+    → r ≡ completion_answered (Err BufferTooShort) 0 → DeliversInPlace (lent_log l b) s bytes l b m r l b m
 unfolding delivery_questions first_no refusal_of delivery
 short-in-place s bytes l b m {r} short said =
     subst (λ (k : ℕ). DeliversInPlace k s bytes l b m r l b m) (sym (lent-short l b short))

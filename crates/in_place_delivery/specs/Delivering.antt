@@ -1,8 +1,8 @@
 -- What a completion in place that is carried out at once is: by the definitions of `delivery`, of the block that the bytes are. Assumes nothing.
-use Rattle.std.specs.Prelude.{ℕ, ◌*◌, ◌<◌, ◌≡◌, true, List, length, take}
+use Rattle.std.specs.Prelude.{ℕ, ◌*◌, ◌<◌, ◌≡◌, true, List, length, take, Option}
 use Rattle.trb.specs.Limits.{record_length}
 use Rattle.trb.specs.Questions.{first_no}
-use Rattle.trb.specs.declared.InTrbProcessingResult.{InTrbProcessingResult}
+use Rattle.trb.specs.declared.InTrbProcessingStatus.{InTrbProcessingStatus}
 use Rattle.call_log.specs.Calls.{Meets}
 use Rattle.call_log.specs.Logs.{records_in}
 use Rattle.guest_memory.specs.Places.{Memory, regions_of}
@@ -26,7 +26,7 @@ WholeInPlace b bytes m r log m' =
 
 -- of a call with the device result s, the device's bytes, the log l, of which k bytes count, over the bytes b and guest memory m, which
 -- answered r and left the log l', the bytes b' and the memory m'
-pub record DeliversInPlace (k : ℕ) (s : InTrbProcessingResult) (bytes l b : List ℕ) (m : Memory) (r : CompletionAnswered) (l' b' : List ℕ) (m' : Memory) : Type 0 where
+pub record DeliversInPlace (k : ℕ) (s : Option InTrbProcessingStatus) (bytes l b : List ℕ) (m : Memory) (r : CompletionAnswered) (l' b' : List ℕ) (m' : Memory) : Type 0 where
   pub number : r.number ≡ first_no (delivery_questions k (block_of b) s (length bytes) (regions_of m))
   pub met : Meets (completed_numbers (delivery k (block_of b) s (length bytes) (regions_of m))) 0 l r l'
   pub becomes : Becomes b (delivery k (block_of b) s (length bytes) (regions_of m)).state.block b'

@@ -15,7 +15,7 @@ ghost use Rattle.in_place_delivery.specs.Delivering.{DeliversInPlace};
 
 use answer_numbers::CompletionAnswered;
 use guest_memory::Regions;
-use trb::{Answer, CompletionAnswer, InTrbProcessingResult, Refusal, TrbProcessingResult};
+use trb::{Answer, CompletionAnswer, InTrbProcessingStatus, Refusal, TrbProcessingResult};
 
 // Question 11, of the first `held` places: do their writes lie in one of the regions each, where the device has given so many bytes?
 fn writes_inside(block: &[u8], held: usize, given: u32, regions: Regions) -> bool
@@ -35,40 +35,37 @@ fn writes_inside(block: &[u8], held: usize, given: u32, regions: Regions) -> boo
 }
 
 // Questions 1, 13, 2, 3, 8, 9 and 11, of the block that the bytes are.
+#[tactic(auto, unfolding(trb::specs::Questions::first_no, delivery::specs::Completing::delivery_questions))]
 fn ask(
     log_length: usize,
     block: &[u8],
-    res: InTrbProcessingResult,
+    res: Option<InTrbProcessingStatus>,
     data_length: usize,
     regions: Regions,
 ) -> Answer
     requires { block_length ≤ length block.now }
     ensures { number_of result ≡ first_no (delivery_questions log_length (block_of block.now) res data_length regions) }
 {
-    if log_length < trb::MIN_LOG {
-        return Answer::Refused(Refusal::BufferTooShort);
-    }
-    if guest_memory::share_an_address(regions) {
-        return Answer::Refused(Refusal::RegionsOverlap);
-    }
-    let completion = in_place_questions::ask_completion(log_length, block, res, data_length);
-    if !trb::is_accepted(completion) {
-        return completion;
-    }
+    trb::ask(trb::MIN_LOG <= log_length, Refusal::BufferTooShort)?;
+    trb::ask(
+        !guest_memory::share_an_address(regions),
+        Refusal::RegionsOverlap,
+    )?;
+    in_place_questions::ask_completion(log_length, block, res, data_length)?;
     let state = in_place_questions::state_of(block);
     let given = delivery::bytes_given(state, data_length as u32);
     let held = buffers::le16(block, 4) as usize;
-    if !writes_inside(block, held, given, regions) {
-        return Answer::Refused(Refusal::WriteOutOfRange);
-    }
-    Answer::Accepted
+    trb::ask(
+        writes_inside(block, held, given, regions),
+        Refusal::WriteOutOfRange,
+    )
 }
 
 // Of a row of bytes that is long enough for a block.
 fn deliver(
     log: &mut [u8],
     block: &mut [u8],
-    res: InTrbProcessingResult,
+    res: Option<InTrbProcessingStatus>,
     data: &[u8],
     low_base: u64,
     low: &mut [u8],
@@ -80,12 +77,13 @@ fn deliver(
 {
     let regions = guest_memory::guest_regions(low_base, low.len(), high_base, high.len());
     let asked = ask(log.len(), block, res, data.len(), regions);
-    if !trb::is_accepted(asked) {
+    if asked.is_err() {
         let refused = in_endpoint::completion_answer(asked, TrbProcessingResult::Ok);
         return answer_numbers::completed_as(refused, 0);
     }
     let done = in_place::complete(log, block, res, data.len());
-    delivery::carry_out_first(log, done.records, data, low_base, low, high_base, high);
+    // What is asked of a log was asked above: it is carried out.
+    let _ = delivery::carry_out_first(log, done.records, data, low_base, low, high_base, high);
     done
 }
 
@@ -104,7 +102,7 @@ pub fn complete_and_carry_out(
     ensures { DeliversInPlace (lent_log log.old block.old) (result_of status) «data».now log.old block.old (memory_of low_base low.old high_base high.old) result log.new block.new (memory_of low_base low.new high_base high.new) }
 {
     if block.len() < in_bytes::BLOCK {
-        return answer_numbers::completed_as(CompletionAnswer::Refused(Refusal::BufferTooShort), 0);
+        return answer_numbers::completed_as(Err(Refusal::BufferTooShort), 0);
     }
     deliver(
         log,

@@ -1,4 +1,5 @@
 -- What of the TRBs held the questions depend on. Assumes nothing.
+use Rattle.std.specs.Prelude.{Option}
 use Prim.Native.Nat.{ℕ, zero, suc, ◌<◌, ◌≤◌, min}
 use mathlib.Core.Path.{◌≡◌, refl, sym, ap, ◌∙◌}
 use mathlib.Core.Bool.{Bool, true, false, not, ◌&&◌, ◌||◌, true≢false}
@@ -10,7 +11,7 @@ use borrow.Author.Tests.{eqb-true, eqb-false, ne_eqb, le-leb}
 use Rattle.buffers.specs.LittleEndian.{le_field}
 use Rattle.trb.specs.Ids.{ids_in_range}
 use Rattle.trb.specs.Limits.{max_held}
-use Rattle.trb.specs.declared.InTrbProcessingResult.{InTrbProcessingResult}
+use Rattle.trb.specs.declared.InTrbProcessingStatus.{InTrbProcessingStatus}
 use Rattle.trb.specs.declared.TdBasedNormalSubmissionState.{TdBasedNormalSubmissionState}
 use Rattle.trb.specs.declared.TransferTrb.{TransferTrb}
 use Rattle.held.specs.Sound.{held_sound}
@@ -33,7 +34,7 @@ module _ (f g : BlockFacts) (same : SameFacts f g) where
   unfolding submission_questions
   submission-same l t regions = rw (same.sound, same.state, same.held)
 
-  pub completion-same : (l : ℕ) (r : InTrbProcessingResult) (n : ℕ) → completion_questions l f r n ≡ completion_questions l g r n
+  pub completion-same : (l : ℕ) (r : Option InTrbProcessingStatus) (n : ℕ) → completion_questions l f r n ≡ completion_questions l g r n
   unfolding completion_questions
   completion-same l r n = rw (same.sound, same.state)
 

@@ -13,7 +13,7 @@ ghost use Rattle.in_place_questions.specs.Lent.{SameFacts, SoundIn};
 use guest_memory::Regions;
 use held_bytes::TrbNumbers;
 use in_block::{BlockFacts, HeldTest};
-use trb::{Answer, InTrbProcessingResult, TdBasedNormalSubmissionState};
+use trb::{Answer, InTrbProcessingStatus, TdBasedNormalSubmissionState};
 
 // The state of the block.
 pub fn state_of(block: &[u8]) -> TdBasedNormalSubmissionState
@@ -71,7 +71,7 @@ pub fn ask_submission(
 pub fn ask_completion(
     log_length: usize,
     block: &[u8],
-    res: InTrbProcessingResult,
+    res: Option<InTrbProcessingStatus>,
     data_length: usize,
 ) -> Answer
     requires { block_length ≤ length block.now }

@@ -1,4 +1,5 @@
 -- What a row in place asks and comes to, by the laws of the row by value. Assumes nothing.
+use Rattle.std.specs.Prelude.{Err, Ok}
 use Prim.Native.Nat.{ℕ, ◌+◌, ◌/◌, ◌%◌, ◌<◌, ◌≤◌, min}
 use mathlib.Core.Path.{◌≡◌, refl, sym, ap, ◌∙◌, subst}
 use mathlib.Core.Bool.{Bool, true, false, cond, ◌&&◌}
@@ -11,9 +12,7 @@ use lib.Seq.{take_all}
 use Rattle.trb.specs.Answers.{number_of, is_accepted, refusal_of}
 use Rattle.trb.specs.Limits.{max_row}
 use Rattle.trb.specs.Questions.{first_no}
-use Rattle.trb.specs.declared.Answer.{Answer}
-use Rattle.trb.specs.declared.CompletionAnswer.{CompletionAnswer}
-use Rattle.trb.specs.declared.CompletionAnswer.TheVariants.{Completed, Refused}
+use Rattle.trb.specs.Answers.{Answer, CompletionAnswer}
 use Rattle.trb.specs.declared.EndpointId.{EndpointId}
 use Rattle.trb.specs.declared.Refusal.TheVariants.{BufferTooShort}
 use Rattle.trb.specs.declared.SlotId.{SlotId}
@@ -99,14 +98,14 @@ row_fits row results few =
 -- ---- The promise
 
 started-same : (a : CompletionAnswer) (f n : ℕ) → started_of (row_answered a f n) ≡ started_by f (result_of a)
-started-same (Completed result.Ok) f n = refl
-started-same (Completed result.Stall) f n = refl
-started-same (Completed (result.StallAt a c)) f n = refl
-started-same (Completed result.TrbError) f n = refl
-started-same (Completed result.TransactionError) f n = refl
-started-same (Completed (result.TransactionErrorAt a c)) f n = refl
-started-same (Completed result.Disconnect) f n = refl
-started-same (Refused q) f n = refl
+started-same (Ok result.Ok) f n = refl
+started-same (Ok result.Stall) f n = refl
+started-same (Ok (result.StallAt a c)) f n = refl
+started-same (Ok result.TrbError) f n = refl
+started-same (Ok result.TransactionError) f n = refl
+started-same (Ok (result.TransactionErrorAt a c)) f n = refl
+started-same (Ok result.Disconnect) f n = refl
+started-same (Err q) f n = refl
 
 module _ (b row results : List ℕ) (n : ℕ) (regions : Regions) (l : List ℕ) where
   -- what is promised by value, by numbers
@@ -153,7 +152,7 @@ module _ (b row results : List ℕ) (n : ℕ) (regions : Regions) (l : List ℕ)
           (accepted-row (block_of b) (row_count row results) (trbs_in row) (length (results_in results)) (results_in results) n regions l a e accepts w l' met))
 
   -- bytes too few for a block
-  pub completes-short : {r : RowAnswered} → length b < block_length → r ≡ row_answered (Refused BufferTooShort) 0 0 → CompletesTdsInPlace (lent_log l b) b row results n regions l r l
+  pub completes-short : {r : RowAnswered} → length b < block_length → r ≡ row_answered (Err BufferTooShort) 0 0 → CompletesTdsInPlace (lent_log l b) b row results n regions l r l
   unfolding row_questions first_no refusal_of row_completion
   completes-short {r} short e =
       subst (λ (k : ℕ). CompletesTdsInPlace k b row results n regions l r l) (sym (lent-short l b short))

@@ -1,4 +1,5 @@
 -- A chained Normal that is taken: what the questions find with it. Assumes nothing.
+use Rattle.std.specs.Prelude.{Ok}
 use Prim.Native.Nat.{ℕ, ◌+◌, ◌<◌}
 use mathlib.Core.Path.{◌≡◌, refl, ap, ◌∙◌}
 use mathlib.Core.Bool.{Bool, true, false, ◌&&◌, ◌||◌}
@@ -9,7 +10,6 @@ use borrow.Author.Tests.{le-leb}
 use Rattle.trb.specs.Answers.{is_accepted}
 use Rattle.trb.specs.Limits.{max_held, max_transfer_length}
 use Rattle.trb.specs.Questions.{first_no}
-use Rattle.trb.specs.declared.Answer.TheVariants.{Accepted}
 use Rattle.trb.specs.declared.TransferTrbVariant.{TransferTrbVariant}
 use Rattle.trb.specs.declared.TransferTrbVariant.TheVariants.{Normal}
 use Rattle.buffers.specs.LittleEndian.{le_field}
@@ -40,7 +40,7 @@ module _ (regions : Regions) (a : RowTest) (l : List ℕ) (k : Taken l regions) 
   is_normal = rw k.kind
 
   -- no question says no
-  taken : a.held < max_held → is_accepted a.asked ≡ true → asked_also a.asked (trb_questions a.held normal regions) ≡ Accepted
+  taken : a.held < max_held → is_accepted a.asked ≡ true → asked_also a.asked (trb_questions a.held normal regions) ≡ Ok tt
   unfolding first_no answered
   taken few accepted =
       also-yes a.asked (trb_questions a.held normal regions) accepted

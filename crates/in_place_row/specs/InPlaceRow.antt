@@ -1,10 +1,9 @@
 -- A row of TDs in place: by the definitions of the row by value (in_row), of the block, the row and the results that the bytes are. Assumes
 -- nothing.
-use Rattle.std.specs.Prelude.{ℕ, ◌+◌, ◌≤◌, ◌≡◌, Bool, true, false, cond, List, eqb, length, drop, get_or}
+use Rattle.std.specs.Prelude.{ℕ, ◌+◌, ◌≤◌, ◌≡◌, Bool, true, false, cond, List, eqb, length, drop, get_or, Ok}
 use Rattle.trb.specs.Limits.{max_transfer_length}
 use Rattle.trb.specs.Questions.{first_no}
-use Rattle.trb.specs.declared.Answer.TheVariants.{Accepted}
-use Rattle.trb.specs.declared.CompletionAnswer.{CompletionAnswer}
+use Rattle.trb.specs.Answers.{CompletionAnswer}
 use Rattle.trb.specs.declared.TransferTrb.{TransferTrb}
 use Rattle.buffers.specs.LittleEndian.{le_field}
 use Rattle.call_log.specs.Calls.{Out, Meets}
@@ -48,7 +47,7 @@ pub record Taken (l : List ℕ) (regions : Regions) : Type 0 where
 -- what is found with one such Normal more, where nothing was refused before
 abbrev pub with_normal : RowTest → RowTest
 with_normal a = record {
-  asked = Accepted;
+  asked = Ok tt;
   held = a.held + 1;
   supported = a.supported;
   tds = a.tds;

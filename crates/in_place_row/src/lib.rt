@@ -60,6 +60,7 @@ fn look_at_td(row: &[u8], first: usize) -> TdLooked
     let mut asked = row_walk::nothing_asked();
     let mut end = first;
     let mut more = true;
+    // The TRB that ends the TD is looked at too: the test stands behind it.
     while more {
         let t = row_bytes::trb_at(row, end);
         asked = row_walk::asked_more(asked, t);
@@ -140,7 +141,7 @@ fn with_normal(test: RowTest) -> RowTest
     ensures { result ≡ with_normal test }
 {
     RowTest {
-        asked: Answer::Accepted,
+        asked: Ok(()),
         held: test.held + 1,
         has_normal: true,
         ..test
@@ -152,7 +153,7 @@ fn test_at(test: RowTest, row: &[u8], j: usize, results: &[u8], regions: Regions
     requires { (j < length (trbs_in row.now)) × ((test.held < max_held) × ((test.tds ≤ max_row) × (test.given ≤ max_row * 2 ^ 32))) }
     ensures { (result ≡ tested_trb regions test (get_or (trbs_in row.now) j past_end) (get_or (results_in results.now) test.tds past_results)) × (result.given ≤ test.given + 2 ^ 32) }
 {
-    if trb::is_accepted(test.asked) && is_taken(row, held_bytes::PLACE * j, regions) {
+    if test.asked.is_ok() && is_taken(row, held_bytes::PLACE * j, regions) {
         return with_normal(test);
     }
     let t = row_bytes::trb_at(row, j);
@@ -224,7 +225,7 @@ fn complete(
     ensures { CompletesTdsInPlace (length log.old) block.now row.now results.now data_length regions log.old result log.new }
 {
     let asked = ask_row(log.len(), block, row, results, regions, data_length);
-    if !trb::is_accepted(asked) {
+    if asked.is_err() {
         let refused = in_endpoint::completion_answer(asked, TrbProcessingResult::Ok);
         return answered_as(refused, 0, 0);
     }
@@ -252,7 +253,7 @@ pub fn complete_tds(
     ensures { CompletesTdsInPlace (lent_log log.old block.now) block.now row.now results.now data_length (guest_regions low_base low_len high_base high_len) log.old result log.new }
 {
     if block.len() < in_bytes::BLOCK {
-        return answered_as(CompletionAnswer::Refused(Refusal::BufferTooShort), 0, 0);
+        return answered_as(Err(Refusal::BufferTooShort), 0, 0);
     }
     let regions = guest_memory::guest_regions(low_base, low_len, high_base, high_len);
     complete(log, block, row, results, regions, data_length)

@@ -1,4 +1,5 @@
 -- A Normal with chain on, at which no question says no. Assumes nothing.
+use Rattle.std.specs.Prelude.{Ok}
 use Prim.Native.Nat.{ℕ, ◌<◌, ◌≤◌}
 use mathlib.Core.Path.{◌≡◌, refl, sym, ap, ◌∙◌}
 use mathlib.Core.Bool.{true, false}
@@ -7,7 +8,6 @@ use borrow.Author.Tests.{le-leb}
 use Rattle.trb.specs.Limits.{max_held, max_transfer_length, min_log}
 use Rattle.trb.specs.Questions.{first_no}
 use Rattle.trb.specs.Trbs.{transfer_length}
-use Rattle.trb.specs.declared.Answer.TheVariants.{Accepted}
 use Rattle.trb.specs.declared.TdBasedNormalSubmissionState.TheVariants.{SubmissionDue, CollectingTd}
 use Rattle.trb.specs.declared.TransferTrb.{TransferTrb}
 use Rattle.trb.specs.declared.TransferTrbVariant.{TransferTrbVariant}
@@ -68,6 +68,6 @@ module _ (b : List ℕ) (t : TransferTrb) (regions : Regions) where
       (passed.room kind, (passed.short, kind))
 
   -- it is held, and nothing is logged
-  pub submits-collected : (k : ℕ) (l : List ℕ) {r : Answered} {b' : List ℕ} → Collected k b t regions → r ≡ answered_as Accepted 0
+  pub submits-collected : (k : ℕ) (l : List ℕ) {r : Answered} {b' : List ℕ} → Collected k b t regions → r ≡ answered_as (Ok tt) 0
       → Becomes b (with_state (stored (block_of b) t) CollectingTd) b' → SubmitsInPlace k t regions l b r l b'
-  submits-collected k l c er changed = submits-accepted k t regions l b Accepted (sym c.asked) refl Collect c.outcome er changed refl (sym (logged_none l 0)) tt
+  submits-collected k l c er changed = submits-accepted k t regions l b (Ok tt) (sym c.asked) refl Collect c.outcome er changed refl (sym (logged_none l 0)) tt

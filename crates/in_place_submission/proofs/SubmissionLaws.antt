@@ -1,4 +1,5 @@
 -- What a submission in place comes to, by its answer and what it stored. Assumes nothing.
+use Rattle.std.specs.Prelude.{Err, Ok}
 use Prim.Native.Nat.{ℕ, ◌+◌, ◌<◌}
 use mathlib.Core.Path.{◌≡◌, refl, sym, ap, ◌∙◌, subst}
 use mathlib.Core.Bool.{Bool, true, false}
@@ -8,8 +9,7 @@ use lib.ListN.{length, take}
 use Rattle.trb.specs.Answers.{number_of, is_accepted}
 use Rattle.trb.specs.Questions.{first_no}
 use Rattle.trb.proofs.AnswerLaws.{accepted-is, refused-is, answered-yes, answered-no}
-use Rattle.trb.specs.declared.Answer.{Answer}
-use Rattle.trb.specs.declared.Answer.TheVariants.{Accepted, Refused}
+use Rattle.trb.specs.Answers.{Answer}
 use Rattle.trb.specs.declared.Refusal.TheVariants.{BufferTooShort}
 use Rattle.trb.specs.declared.TransferTrb.{TransferTrb}
 use Rattle.trb.specs.declared.TdBasedNormalSubmissionState.TheVariants.{AwaitingRealTransfer}
@@ -25,7 +25,7 @@ use Rattle.in_block.specs.Outcomes.{outcome_of}
 use Rattle.in_block.specs.declared.Outcome.{Outcome}
 use Rattle.in_questions.specs.Questions.{submission_questions}
 use Rattle.in_endpoint.specs.Submission as submissions
-use Rattle.in_endpoint.specs.declared.Submitted.{Submitted}
+use Rattle.in_endpoint.specs.Returned.{Submitted}
 use Rattle.answer_numbers.specs.Numbers.{answered_as}
 use Rattle.answer_numbers.specs.declared.Answered.{Answered}
 use Rattle.in_bytes.specs.Layout.{block_length, endpoint_of, slot_of, places, block_of}
@@ -59,7 +59,7 @@ module _ (k : ℕ) (t : TransferTrb) (regions : Regions) (l b : List ℕ) where
       → (o : Outcome) → outcome_of (held_test (held_of (block_of b))) t ≡ o
       → r ≡ answered_as a (submissions.submitted_as o (block_of b) t).state.records
       → Becomes b (submissions.submitted_as o (block_of b) t).state.block b'
-      → (submissions.submitted_as o (block_of b) t).state.answer ≡ Accepted
+      → (submissions.submitted_as o (block_of b) t).state.answer ≡ Ok tt
       → l' ≡ logged l 0 (submissions.submitted_as o (block_of b) t).records → AllFit (submissions.submitted_as o (block_of b) t).records
       → SubmitsInPlace k t regions l b r l' b'
   unfolding submissions.submission
@@ -87,8 +87,8 @@ request-said x t b' n l l' e h put =
     ∙ ap (λ (k : ℕ). submissions.request_of (take k (stored x t).trbs) x.endpoint_id x.slot_id) e) put
 
 -- bytes too few for a block
-pub submits-short : (t : TransferTrb) (regions : Regions) (l b : List ℕ) {r : Answered} → length b < block_length → r ≡ answered_as (Refused BufferTooShort) 0
+pub submits-short : (t : TransferTrb) (regions : Regions) (l b : List ℕ) {r : Answered} → length b < block_length → r ≡ answered_as (Err BufferTooShort) 0
     → SubmitsInPlace (lent_log l b) t regions l b r l b
 unfolding submission_questions first_no
 submits-short t regions l b {r} short e =
-    subst (λ (k : ℕ). SubmitsInPlace k t regions l b r l b) (sym (lent-short l b short)) (submits-refused 0 t regions l b (Refused BufferTooShort) refl refl e)
+    subst (λ (k : ℕ). SubmitsInPlace k t regions l b r l b) (sym (lent-short l b short)) (submits-refused 0 t regions l b (Err BufferTooShort) refl refl e)

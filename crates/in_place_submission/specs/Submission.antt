@@ -10,7 +10,7 @@ use Rattle.in_block.specs.Outcomes.{outcome_of}
 use Rattle.in_block.specs.declared.Outcome.TheVariants.{Collect}
 use Rattle.in_questions.specs.Questions.{submission_questions}
 use Rattle.in_endpoint.specs.Submission.{submission}
-use Rattle.in_endpoint.specs.declared.Submitted.{Submitted}
+use Rattle.in_endpoint.specs.Returned.{Submitted}
 use Rattle.answer_numbers.specs.Numbers.{answered_as}
 use Rattle.answer_numbers.specs.declared.Answered.{Answered}
 use Rattle.in_bytes.specs.Layout.{block_of}

@@ -56,7 +56,7 @@ fn submit(log: &mut [u8], block: &mut [u8], numbers: TrbNumbers, regions: Region
 {
     let held = buffers::le16(block, 4);
     let answer = in_place_questions::ask_submission(log.len(), block, numbers, regions);
-    if !trb::is_accepted(answer) {
+    if answer.is_err() {
         return answer_numbers::answered_as(answer, 0);
     }
     match outcome_of(block, held as usize, numbers) {
@@ -117,7 +117,7 @@ fn is_collected(log_length: usize, block: &[u8], numbers: TrbNumbers, regions: R
         numbers.transfer_length,
         regions,
     );
-    trb::is_accepted(answer)
+    answer.is_ok()
 }
 
 // Takes a TRB, given by numbers; ports `submit_trb`. Of guest memory only the regions' bases and lengths are asked for.
@@ -133,13 +133,13 @@ pub fn submit_trb(
     ensures { SubmitsInPlace (lent_log log.old block.old) (trb_of numbers) (guest_regions low_base low_len high_base high_len) log.old block.old result log.new block.new }
 {
     if block.len() < in_bytes::BLOCK {
-        return answer_numbers::answered_as(Answer::Refused(Refusal::BufferTooShort), 0);
+        return answer_numbers::answered_as(Err(Refusal::BufferTooShort), 0);
     }
     let regions = guest_memory::guest_regions(low_base, low_len, high_base, high_len);
     if is_collected(log.len(), block, numbers, regions) {
         let held = buffers::le16(block, 4);
         in_place_store::store(block, held, numbers, in_bytes::COLLECTING);
-        return answer_numbers::answered_as(Answer::Accepted, 0);
+        return answer_numbers::answered_as(Ok(()), 0);
     }
     submit(log, block, numbers, regions)
 }

@@ -1,4 +1,5 @@
 -- What is known of a call on an IN endpoint once every question was answered with yes. Assumes nothing.
+use Rattle.std.specs.Prelude.{Option}
 use Prim.Native.Nat.{ℕ, ◌+◌, ◌<◌, ◌≤◌}
 use mathlib.Core.Path.{◌≡◌}
 use mathlib.Core.Bool.{Bool, true, false, not}
@@ -9,7 +10,7 @@ use borrow.Author.Tests.{leb-true, not-true}
 use Rattle.trb.specs.Limits.{max_held, max_transfer_length, min_log, max_data}
 use Rattle.trb.specs.Questions.{first_no, asked_if, agree}
 use Rattle.trb.specs.Trbs.{transfer_length, immediate_of}
-use Rattle.trb.specs.declared.InTrbProcessingResult.{InTrbProcessingResult}
+use Rattle.trb.specs.declared.InTrbProcessingStatus.{InTrbProcessingStatus}
 use Rattle.trb.specs.declared.TransferTrb.{TransferTrb}
 use Rattle.trb.specs.declared.TransferTrbVariant.{TransferTrbVariant}
 use Rattle.trb.proofs.QuestionLaws.{yes-first, yes-behind}
@@ -83,13 +84,13 @@ module _ (l : ℕ) (f : BlockFacts) (t : TransferTrb) (regions : Regions) (none 
             omega (arith, leb-true (f.held + 1) max_held fits);
       }
 
-pub record PassedCompletion (l : ℕ) (f : BlockFacts) (r : InTrbProcessingResult) (n : ℕ) : Type 0 where
+pub record PassedCompletion (l : ℕ) (f : BlockFacts) (r : Option InTrbProcessingStatus) (n : ℕ) : Type 0 where
   pub log-long : min_log ≤ l
   pub sound : sound_block f ≡ true
   pub agreed : agree (is_given r) (awaits_device f.state) ≡ true
   pub short : n ≤ max_data
 
-module _ (l : ℕ) (f : BlockFacts) (r : InTrbProcessingResult) (n : ℕ) where
+module _ (l : ℕ) (f : BlockFacts) (r : Option InTrbProcessingStatus) (n : ℕ) where
   abbrev from-data : List (Bool × ℕ)
   from-data = (leb n max_data, 9) ∷ []
 

@@ -1,10 +1,9 @@
 -- 01, Questions asked, in this order, on an IN endpoint. Assumes nothing.
-use Rattle.std.specs.Prelude.{ℕ, ◌+◌, Bool, true, false, not, List, [], ◌∷◌, leb}
+use Rattle.std.specs.Prelude.{ℕ, ◌+◌, Bool, true, false, not, List, [], ◌∷◌, leb, None, Option, Some}
 use Rattle.trb.specs.Limits.{max_held, max_transfer_length, min_log, max_data}
 use Rattle.trb.specs.Questions.{asked_if, agree}
 use Rattle.trb.specs.Trbs.{transfer_length, immediate_of}
-use Rattle.trb.specs.declared.InTrbProcessingResult.{InTrbProcessingResult}
-use Rattle.trb.specs.declared.InTrbProcessingResult.TheVariants.{NoneGiven, Given}
+use Rattle.trb.specs.declared.InTrbProcessingStatus.{InTrbProcessingStatus}
 use Rattle.trb.specs.declared.TransferTrb.{TransferTrb}
 use Rattle.trb.specs.declared.TransferTrbVariant.{TransferTrbVariant}
 use Rattle.held.specs.Sound.{supported}
@@ -34,13 +33,13 @@ submission_questions l f t regions =
 
 -- ---- Completion
 
-abbrev pub is_given : InTrbProcessingResult → Bool
-is_given NoneGiven = false
-is_given (Given st) = true
+abbrev pub is_given : Option InTrbProcessingStatus → Bool
+is_given None = false
+is_given (Some st) = true
 
 -- with a log of l bytes and n bytes of data: is a completion due, is a device result given exactly when the block awaits one, is the
 -- data at most 67,108,352 bytes?
-unfoldable pub completion_questions : ℕ → BlockFacts → InTrbProcessingResult → ℕ → List (Bool × ℕ)
+unfoldable pub completion_questions : ℕ → BlockFacts → Option InTrbProcessingStatus → ℕ → List (Bool × ℕ)
 completion_questions l f r n =
     (leb min_log l, 1)
     ∷ (sound_block f, 2)

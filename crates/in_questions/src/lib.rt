@@ -10,7 +10,7 @@ ghost use Rattle.in_questions.specs.Questions.{trb_questions, submission_questio
 use guest_memory::Regions;
 use held::EndpointKind;
 use in_block::BlockFacts;
-use trb::{Answer, InTrbProcessingResult, Refusal, TransferTrb, TransferTrbVariant};
+use trb::{Answer, InTrbProcessingStatus, Refusal, TransferTrb, TransferTrbVariant};
 
 // Questions 4, 21, 5 and 6, of a TRB behind `held` others.
 #[tactic(auto, unfolding(trb::specs::Questions::first_no))]
@@ -18,22 +18,19 @@ pub fn ask_of_trb(held: usize, variant: TransferTrbVariant, regions: Regions) ->
     requires { held ≤ max_held }
     ensures { number_of result ≡ first_no (trb_questions held variant regions) }
 {
-    if trb::MAX_TRANSFER_LENGTH < trb::transfer_length(variant) {
-        return Answer::Refused(Refusal::TransferTooLong);
-    }
+    trb::ask(
+        trb::transfer_length(variant) <= trb::MAX_TRANSFER_LENGTH,
+        Refusal::TransferTooLong,
+    )?;
     if !held::supports(EndpointKind::In, variant) {
-        return Answer::Accepted;
+        return Ok(());
     }
-    if trb::immediate_data(variant) {
-        return Answer::Refused(Refusal::ImmediateInput);
-    }
-    if trb::MAX_HELD < held + 1 {
-        return Answer::Refused(Refusal::TooManyHeld);
-    }
-    if !in_request::in_guest_memory(variant, regions) {
-        return Answer::Refused(Refusal::OutsideGuestMemory);
-    }
-    Answer::Accepted
+    trb::ask(!trb::immediate_data(variant), Refusal::ImmediateInput)?;
+    trb::ask(held < trb::MAX_HELD, Refusal::TooManyHeld)?;
+    trb::ask(
+        in_request::in_guest_memory(variant, regions),
+        Refusal::OutsideGuestMemory,
+    )
 }
 
 // Questions 1, 13, 2 to 4, 21, 5 and 6, of a log of this length and guest memory in these regions.
@@ -46,26 +43,14 @@ pub fn ask_submission(
 ) -> Answer
     ensures { number_of result ≡ first_no (submission_questions log_length facts t regions) }
 {
-    if log_length < trb::MIN_LOG {
-        return Answer::Refused(Refusal::BufferTooShort);
-    }
-    if guest_memory::share_an_address(regions) {
-        return Answer::Refused(Refusal::RegionsOverlap);
-    }
-    if !in_block::is_sound(facts) {
-        return Answer::Refused(Refusal::UnsoundBlock);
-    }
-    if !in_block::submission_due(facts.state) {
-        return Answer::Refused(Refusal::OutOfTurn);
-    }
+    trb::ask(trb::MIN_LOG <= log_length, Refusal::BufferTooShort)?;
+    trb::ask(
+        !guest_memory::share_an_address(regions),
+        Refusal::RegionsOverlap,
+    )?;
+    trb::ask(in_block::is_sound(facts), Refusal::UnsoundBlock)?;
+    trb::ask(in_block::submission_due(facts.state), Refusal::OutOfTurn)?;
     ask_of_trb(facts.held, t.variant, regions)
-}
-
-// Is a device result given?
-fn is_given(res: InTrbProcessingResult) -> bool
-    ensures { result ≡ is_given res }
-{
-    matches!(res, InTrbProcessingResult::Given(_))
 }
 
 // Questions 1, 2, 3, 8 and 9, of a log and device data of these lengths.
@@ -73,25 +58,17 @@ fn is_given(res: InTrbProcessingResult) -> bool
 pub fn ask_completion(
     log_length: usize,
     facts: BlockFacts,
-    res: InTrbProcessingResult,
+    res: Option<InTrbProcessingStatus>,
     data_length: usize,
 ) -> Answer
     ensures { number_of result ≡ first_no (completion_questions log_length facts res data_length) }
 {
-    if log_length < trb::MIN_LOG {
-        return Answer::Refused(Refusal::BufferTooShort);
-    }
-    if !in_block::is_sound(facts) {
-        return Answer::Refused(Refusal::UnsoundBlock);
-    }
-    if in_block::submission_due(facts.state) {
-        return Answer::Refused(Refusal::OutOfTurn);
-    }
-    if is_given(res) != in_block::awaits_device(facts.state) {
-        return Answer::Refused(Refusal::DeviceResultMismatch);
-    }
-    if trb::MAX_DATA < data_length {
-        return Answer::Refused(Refusal::DataTooLong);
-    }
-    Answer::Accepted
+    trb::ask(trb::MIN_LOG <= log_length, Refusal::BufferTooShort)?;
+    trb::ask(in_block::is_sound(facts), Refusal::UnsoundBlock)?;
+    trb::ask(!in_block::submission_due(facts.state), Refusal::OutOfTurn)?;
+    trb::ask(
+        res.is_some() == in_block::awaits_device(facts.state),
+        Refusal::DeviceResultMismatch,
+    )?;
+    trb::ask(data_length <= trb::MAX_DATA, Refusal::DataTooLong)
 }

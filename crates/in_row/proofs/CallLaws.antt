@@ -1,5 +1,6 @@
 -- A TD by single calls. A block that holds the TRBs us, the rest of its places as they were, takes each chained TRB and keeps it, completion
 -- included; the last TRB ends the TD, whose request and completion are its own log, and the places used are blank again. Assumes nothing.
+use Rattle.std.specs.Prelude.{None, Ok, Option, Some}
 use Prim.Native.Nat.{ℕ, zero, suc, ◌+◌, ◌<◌, ◌≤◌, min}
 use mathlib.Core.Path.{◌≡◌, refl, sym, ap, ◌∙◌, subst}
 use mathlib.Core.Bool.{Bool, true, false, not, cond, ◌&&◌, ◌||◌, true≢false}
@@ -14,10 +15,7 @@ use Rattle.trb.specs.Ids.{ids_in_range}
 use Rattle.trb.specs.Limits.{max_held, max_transfer_length, max_data, min_log}
 use Rattle.trb.specs.Questions.{first_no}
 use Rattle.trb.specs.Trbs.{transfer_length, chain_of}
-use Rattle.trb.specs.declared.CompletionAnswer.TheVariants as answer
 use Rattle.trb.specs.declared.EndpointId.{EndpointId}
-use Rattle.trb.specs.declared.InTrbProcessingResult.{InTrbProcessingResult}
-use Rattle.trb.specs.declared.InTrbProcessingResult.TheVariants.{NoneGiven, Given}
 use Rattle.trb.specs.declared.InTrbProcessingStatus.{InTrbProcessingStatus}
 use Rattle.trb.specs.declared.InTrbProcessingStatus.TheVariants.{Disconnect, Stall, TransactionError, Success}
 use Rattle.trb.specs.declared.SlotId.{SlotId}
@@ -46,7 +44,7 @@ use Rattle.in_block.proofs.TestLaws.{normals-length}
 use Rattle.in_questions.specs.Questions.{trb_questions, submission_questions, completion_questions}
 use Rattle.in_endpoint.specs.Completion.{processed, transferred, completion}
 use Rattle.in_endpoint.specs.Submission.{request_of, accepted, submitted_as, submission}
-use Rattle.in_endpoint.specs.declared.Completed.{Completed}
+use Rattle.in_endpoint.specs.Returned.{Completed}
 use Rattle.row_walk.specs.Rows.{RowTd, completed, own_log}
 use Rattle.row_walk.specs.declared.TdResult.{TdResult}
 use Rattle.row_questions.specs.Questions.{given_rightly, is_success}
@@ -192,7 +190,7 @@ module _ (e : EndpointId) (s : SlotId) (mode : InMode) (ids : ids_in_range e s �
       ending b off h = rw (k.kind, off, all-normals, h)
 
       -- a completion that passes its questions
-      completion-asked : (x : TdBasedNormalSubmissionState) (r : InTrbProcessingResult) (n : ℕ) → first_no (completion_questions l (known_of x more) r n) ≡ 0
+      completion-asked : (x : TdBasedNormalSubmissionState) (r : Option InTrbProcessingStatus) (n : ℕ) → first_no (completion_questions l (known_of x more) r n) ≡ 0
           → first_no (completion_questions l (facts_of (holding x more)) r n) ≡ 0
       completion-asked x r n h = ap (λ (f : BlockFacts). first_no (completion_questions l f r n)) (facts-as x more) ∙ h
 
@@ -201,25 +199,25 @@ module _ (e : EndpointId) (s : SlotId) (mode : InMode) (ids : ids_in_range e s �
       collected : chain_of t.variant ≡ true → submission l (holding SubmissionDue us) t regions ≡ silent (accepted 0 (holding CollectingTd more))
       collected on = submitted-as Collect (collect on) ∙ ap (λ (b : InBlock). silent (accepted 0 (with_state b CollectingTd))) (stored-as SubmissionDue us t k.place)
 
-      kept-asked : first_no (completion_questions l (known_of CollectingTd more) NoneGiven 0) ≡ 0
+      kept-asked : first_no (completion_questions l (known_of CollectingTd more) None 0) ≡ 0
       unfolding completion_questions first_no
       kept-asked = rw (long, sound-as CollectingTd more more-few more-sound refl)
 
-      kept : completion l (holding CollectingTd more) NoneGiven 0 ≡ silent (record { answer = answer.Completed result.Ok; records = 0; block = holding SubmissionDue more })
+      kept : completion l (holding CollectingTd more) None 0 ≡ silent (record { answer = Ok result.Ok; records = 0; block = holding SubmissionDue more })
       unfolding completion
-      kept = rw (completion-asked CollectingTd NoneGiven 0 kept-asked)
+      kept = rw (completion-asked CollectingTd None 0 kept-asked)
 
-      pub calls-chained : chain_of t.variant ≡ true → two_calls l regions (holding SubmissionDue us) t NoneGiven 0 ≡ silent (record { answer = answer.Completed result.Ok; block = holding SubmissionDue more })
+      pub calls-chained : chain_of t.variant ≡ true → two_calls l regions (holding SubmissionDue us) t None 0 ≡ silent (record { answer = Ok result.Ok; block = holding SubmissionDue more })
       unfolding two_calls
       calls-chained on =
-          ap (completed_behind l NoneGiven 0) (collected on)
+          ap (completed_behind l None 0) (collected on)
           ∙ ap (λ (o : Out Completed). record { state = record { answer = o.state.answer; block = o.state.block }; records = o.records }) kept
 
       -- ---- The last one ends the TD
 
       abbrev done : InTrbProcessingStatus → ℕ → Out Called
       done st n = record {
-        state = record { answer = answer.Completed (process_td (in_td e s mode st n) more).state.result; block = in_block e s mode SubmissionDue 0 (freed xs more) };
+        state = record { answer = Ok (process_td (in_td e s mode st n) more).state.result; block = in_block e s mode SubmissionDue 0 (freed xs more) };
         records = own_log e s mode (record { trbs = more; given = record { status = st; length = n } });
       }
 
@@ -235,18 +233,18 @@ module _ (e : EndpointId) (s : SlotId) (mode : InMode) (ids : ids_in_range e s �
             ∙ ap (λ (ts : List TransferTrb). record { state = accepted 1 (holding AwaitingRealTransfer more); records = request_of ts e s ∷ [] }) (held-as SubmissionDue more)
 
         module _ (st : InTrbProcessingStatus) (n : ℕ) (small : leb n max_data ≡ true) where
-          real-asked : first_no (completion_questions l (known_of AwaitingRealTransfer more) (Given st) n) ≡ 0
+          real-asked : first_no (completion_questions l (known_of AwaitingRealTransfer more) (Some st) n) ≡ 0
           unfolding completion_questions first_no
           real-asked = rw (long, sound-as AwaitingRealTransfer more more-few more-sound (rw (counted-as more more-few, normal)), small)
 
-          real : completion l (holding AwaitingRealTransfer more) (Given st) n ≡ processed (process_td (in_td e s mode st n) more) (holding AwaitingRealTransfer more)
+          real : completion l (holding AwaitingRealTransfer more) (Some st) n ≡ processed (process_td (in_td e s mode st n) more) (holding AwaitingRealTransfer more)
           unfolding completion
-          real = rw (completion-asked AwaitingRealTransfer (Given st) n real-asked) (walked_as AwaitingRealTransfer st n)
+          real = rw (completion-asked AwaitingRealTransfer (Some st) n real-asked) (walked_as AwaitingRealTransfer st n)
 
-          pub calls-real : two_calls l regions (holding SubmissionDue us) t (Given st) n ≡ done st n
+          pub calls-real : two_calls l regions (holding SubmissionDue us) t (Some st) n ≡ done st n
           unfolding two_calls own_log
           calls-real =
-              ap (completed_behind l (Given st) n) requested
+              ap (completed_behind l (Some st) n) requested
               ∙ ap (λ (o : Out Completed). record { state = record { answer = o.state.answer; block = o.state.block }; records = request_of more e s ∷ o.records }) real
               ∙ rw normal
 
@@ -254,18 +252,18 @@ module _ (e : EndpointId) (s : SlotId) (mode : InMode) (ids : ids_in_range e s �
         ended-locally : submission l (holding SubmissionDue us) t regions ≡ silent (accepted 0 (holding AwaitingLocalCompletion more))
         ended-locally = submitted-as CompleteLocally (ending true off none) ∙ ap (λ (b : InBlock). silent (accepted 0 (with_state b AwaitingLocalCompletion))) (stored-as SubmissionDue us t k.place)
 
-        local-asked : first_no (completion_questions l (known_of AwaitingLocalCompletion more) NoneGiven 0) ≡ 0
+        local-asked : first_no (completion_questions l (known_of AwaitingLocalCompletion more) None 0) ≡ 0
         unfolding completion_questions first_no
         local-asked = rw (long, sound-as AwaitingLocalCompletion more more-few more-sound refl)
 
-        local : completion l (holding AwaitingLocalCompletion more) NoneGiven 0 ≡ processed (process_td (in_td e s mode Success 0) more) (holding AwaitingLocalCompletion more)
+        local : completion l (holding AwaitingLocalCompletion more) None 0 ≡ processed (process_td (in_td e s mode Success 0) more) (holding AwaitingLocalCompletion more)
         unfolding completion
-        local = rw (completion-asked AwaitingLocalCompletion NoneGiven 0 local-asked) (walked_as AwaitingLocalCompletion Success 0)
+        local = rw (completion-asked AwaitingLocalCompletion None 0 local-asked) (walked_as AwaitingLocalCompletion Success 0)
 
-        pub calls-local : two_calls l regions (holding SubmissionDue us) t NoneGiven 0 ≡ done Success 0
+        pub calls-local : two_calls l regions (holding SubmissionDue us) t None 0 ≡ done Success 0
         unfolding two_calls own_log
         calls-local =
-            ap (completed_behind l NoneGiven 0) ended-locally
+            ap (completed_behind l None 0) ended-locally
             ∙ ap (λ (o : Out Completed). record { state = record { answer = o.state.answer; block = o.state.block }; records = o.records }) local
             ∙ rw none
 
@@ -274,7 +272,7 @@ module _ (e : EndpointId) (s : SlotId) (mode : InMode) (ids : ids_in_range e s �
     -- its own log, its result, and a block that holds nothing again
     abbrev pub td_out : RowTd → Out Called
     td_out x = record {
-      state = record { answer = answer.Completed (completed e s mode x).state.result; block = in_block e s mode SubmissionDue 0 (freed xs x.trbs) };
+      state = record { answer = Ok (completed e s mode x).state.result; block = in_block e s mode SubmissionDue 0 (freed xs x.trbs) };
       records = own_log e s mode x;
     }
 
@@ -289,13 +287,13 @@ module _ (e : EndpointId) (s : SlotId) (mode : InMode) (ids : ids_in_range e s �
       whole = record { trbs = us ++ t ∷ []; given = given }
 
       calls_by : (b : Bool) → eqb (normals (us ++ t ∷ [])) 0 ≡ b → given_rightly whole ≡ true → leb given.length max_data ≡ true
-          → two_calls l regions (holding SubmissionDue us) t (cond (not b) (Given given.status) NoneGiven) given.length ≡ td_out whole
+          → two_calls l regions (holding SubmissionDue us) t (cond (not b) (Some given.status) None) given.length ≡ td_out whole
       calls_by false normal right small = calls-real us sound t k off normal given.status given.length small
       calls_by true none right small =
           let nothing : (is_success given.status && eqb given.length 0) ≡ true = rw none at right in
           let st : given.status ≡ Success = success-is given.status (and_left (is_success given.status) (eqb given.length 0) nothing) in
           let zeroed : given.length ≡ 0 = eqb-true given.length 0 (and_right (is_success given.status) (eqb given.length 0) nothing) in
-          ap (two_calls l regions (holding SubmissionDue us) t NoneGiven) zeroed
+          ap (two_calls l regions (holding SubmissionDue us) t None) zeroed
           ∙ calls-local us sound t k off none
           ∙ ap (λ (x : InTrbProcessingStatus). td_out (record { trbs = us ++ t ∷ []; given = record { status = x; length = 0 } })) (sym st)
           ∙ ap (λ (n : ℕ). td_out (record { trbs = us ++ t ∷ []; given = record { status = given.status; length = n } })) (sym zeroed)

@@ -1,5 +1,6 @@
 -- 02, R-7: the row is the fold of the single calls. TD by TD the two walks keep together: the same records, the same result, as many finished, the same
 -- bytes given, and between TDs a block that holds nothing. Assumes nothing.
+use Rattle.std.specs.Prelude.{Ok}
 use Prim.Native.Nat.{ℕ, ◌+◌, ◌<◌, ◌≤◌}
 use mathlib.Core.Path.{◌≡◌, refl, sym, ap, ◌∙◌, subst}
 use mathlib.Core.Bool.{Bool, true, false, not, cond}
@@ -13,7 +14,6 @@ use Rattle.trb.specs.Ids.{ids_in_range}
 use Rattle.trb.specs.Limits.{max_held, max_data, min_log}
 use Rattle.trb.specs.Questions.{first_no}
 use Rattle.trb.specs.Trbs.{chain_of}
-use Rattle.trb.specs.declared.CompletionAnswer.TheVariants.{Completed}
 use Rattle.trb.specs.declared.EndpointId.{EndpointId}
 use Rattle.trb.specs.declared.SlotId.{SlotId}
 use Rattle.trb.specs.declared.TdBasedNormalSubmissionState.{TdBasedNormalSubmissionState}
@@ -137,7 +137,7 @@ module _ (e : EndpointId) (s : SlotId) (mode : InMode) (ids : ids_in_range e s �
   -- between TDs; where the places were blank, they are
   record Together (w : RowProgress) (v : RowCalled) : Type 0 where
     finished : w.finished ≡ v.finished
-    answer : Completed w.result ≡ v.answer
+    answer : Ok w.result ≡ v.answer
     start : w.start ≡ v.start
     block : v.block ≡ in_block e s mode SubmissionDue 0 v.block.trbs
     places : length v.block.trbs ≡ max_held

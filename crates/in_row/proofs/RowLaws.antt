@@ -1,5 +1,6 @@
 -- Laws of a row that was accepted: the block, which holds nothing, is emptied as it stands; and the account of each TD that was started.
 -- Assumes nothing.
+use Rattle.std.specs.Prelude.{Ok}
 use Prim.Native.Nat.{ℕ}
 use mathlib.Core.Path.{◌≡◌, refl, sym, ap, ◌∙◌}
 use mathlib.Core.Bool.{Bool, true, false, true≢false}
@@ -10,13 +11,11 @@ use lib.ListN.{length}
 use borrow.Author.Tests.{eqb-true}
 use Rattle.trb.specs.Answers.{number_of, is_accepted as is_passed, said}
 use Rattle.trb.specs.Questions.{first_no}
-use Rattle.trb.specs.declared.Answer.{Answer}
-use Rattle.trb.specs.declared.CompletionAnswer.{CompletionAnswer}
-use Rattle.trb.specs.declared.CompletionAnswer.TheVariants.{Completed}
+use Rattle.trb.specs.Answers.{Answer, CompletionAnswer}
 use Rattle.trb.specs.declared.TdBasedNormalSubmissionState.{TdBasedNormalSubmissionState}
 use Rattle.trb.specs.declared.TdBasedNormalSubmissionState.TheVariants.{SubmissionDue, CollectingTd, AwaitingRealTransfer, AwaitingLocalCompletion, UnsupportedTrb}
 use Rattle.trb.specs.declared.TransferTrb.{TransferTrb}
-use Rattle.trb.specs.declared.TrbProcessingResult.TheVariants.{Ok}
+use Rattle.trb.specs.declared.TrbProcessingResult.TheVariants as result
 use Rattle.trb.proofs.AnswerLaws.{answered-yes, answered-no, answered-all}
 use Rattle.trb.proofs.TestLaws.{and_left, and_right}
 use Rattle.call_log.specs.Calls.{Out, Meets}
@@ -86,8 +85,8 @@ module _ (b : InBlock) (k : ℕ) (ts : List TransferTrb) (m : ℕ) (rs : List Td
     same-state : accepted-as w ≡ (walked b done).state
     same-state =
         ap (λ (x : CompletionAnswer). record { answer = x; finished = w.finished; records = w.records; block = b }) (completion_answer-accepted a w.result accepts)
-        ∙ ap (λ (v : RowProgress). record { answer = Completed v.result; finished = v.finished; records = v.records; block = b }) met.state
-        ∙ ap (λ (c : InBlock). record { answer = Completed done.state.result; finished = done.state.finished; records = done.state.records; block = c }) (sym (emptied-same b (known-row accepts).due))
+        ∙ ap (λ (v : RowProgress). record { answer = Ok v.result; finished = v.finished; records = v.records; block = b }) met.state
+        ∙ ap (λ (c : InBlock). record { answer = Ok done.state.result; finished = done.state.finished; records = done.state.records; block = c }) (sym (emptied-same b (known-row accepts).due))
 
     completes-met : Meets (row_completion (length l) b k ts m rs n regions) 0 l (accepted-as w) l'
     unfolding row_completion
@@ -102,7 +101,7 @@ module _ (b : InBlock) (k : ℕ) (ts : List TransferTrb) (m : ℕ) (rs : List Td
     }
 
   abbrev refused_as : TdsCompleted
-  refused_as = record { answer = completion_answer a Ok; finished = 0; records = 0; block = b }
+  refused_as = record { answer = completion_answer a result.Ok; finished = 0; records = 0; block = b }
 
   module _ (refuses : is_passed a ≡ false) where
     refused-met : Meets (row_completion (length l) b k ts m rs n regions) 0 l refused_as l
@@ -110,15 +109,15 @@ module _ (b : InBlock) (k : ℕ) (ts : List TransferTrb) (m : ℕ) (rs : List Td
     refused-met =
         meets (answered-no questions (refused b) (walked b done) a e refuses)
         (record {
-          state = ap (λ (x : CompletionAnswer). record { answer = x; finished = 0; records = 0; block = b }) (completion_answer-refused a Ok refuses);
+          state = ap (λ (x : CompletionAnswer). record { answer = x; finished = 0; records = 0; block = b }) (completion_answer-refused a result.Ok refuses);
           log = sym (logged_none l 0);
           fits = tt;
         })
 
     pub refused-row : CompletesTds b k ts m rs n regions l refused_as l
     refused-row = record {
-      number = completion_answer-number a Ok ∙ e;
+      number = completion_answer-number a result.Ok ∙ e;
       met = refused-met;
       result = ap (λ (x : TdsCompleted). said x.answer) refused-met.state;
-      account = λ z. absurd (true≢false (sym z ∙ ap is_accepted (completion_answer-refused a Ok refuses)));
+      account = λ z. absurd (true≢false (sym z ∙ ap is_accepted (completion_answer-refused a result.Ok refuses)));
     }

@@ -1,9 +1,8 @@
 -- 02, R-7: what is done of a row once every question was answered with yes, and the promise of the call. Assumes nothing.
-use Rattle.std.specs.Prelude.{ℕ, ◌≡◌, true, List, length}
+use Rattle.std.specs.Prelude.{ℕ, ◌≡◌, true, List, length, Err, Ok}
 use Rattle.trb.specs.Answers.{completion_number, refusal_of, said}
 use Rattle.trb.specs.Questions.{first_no, after_questions}
-use Rattle.trb.specs.declared.CompletionAnswer.{CompletionAnswer}
-use Rattle.trb.specs.declared.CompletionAnswer.TheVariants as answer
+use Rattle.trb.specs.Answers.{CompletionAnswer}
 use Rattle.trb.specs.declared.TdBasedNormalSubmissionState.TheVariants.{SubmissionDue}
 use Rattle.trb.specs.declared.TransferTrb.{TransferTrb}
 use Rattle.trb.specs.declared.TrbProcessingResult.{TrbProcessingResult}
@@ -25,12 +24,12 @@ use Rattle.in_row.specs.declared.TdsCompleted.{TdsCompleted}
 
 -- a no ends the call with its number, zero records, and block and log unchanged
 abbrev pub refused : InBlock → ℕ → Out TdsCompleted
-refused b n = silent (record { answer = answer.Refused (refusal_of n); finished = 0; records = 0; block = b })
+refused b n = silent (record { answer = Err (refusal_of n); finished = 0; records = 0; block = b })
 
 -- the answer gives how many were finished well and the failing result, else Ok; the block ends empty, and a submission is due
 abbrev pub walked : InBlock → Out RowProgress → Out TdsCompleted
 walked b o = record {
-  state = record { answer = answer.Completed o.state.result; finished = o.state.finished; records = o.state.records; block = emptied b SubmissionDue };
+  state = record { answer = Ok o.state.result; finished = o.state.finished; records = o.state.records; block = emptied b SubmissionDue };
   records = o.records;
 }
 
@@ -41,8 +40,8 @@ row_completion l b k ts m rs n regions =
 
 -- the result of an accepted call
 abbrev pub result_of : CompletionAnswer → TrbProcessingResult
-result_of (answer.Completed r) = r
-result_of (answer.Refused q) = result.Ok
+result_of (Ok r) = r
+result_of (Err q) = result.Ok
 
 -- 02, R-7: the account rule is stated for each TD that was started
 abbrev pub AccountedTds : List TransferTrb → List TdResult → TdsCompleted → List Record → Type 0

@@ -1,13 +1,11 @@
 -- A row by single calls: each TRB is submitted and its completion asked for, TD after TD, until one does not go well. What they log is
 -- joined, each TD's with its starts moved by the data before it. Assumes nothing.
-use Rattle.std.specs.Prelude.{ℕ, ◌+◌, ◌≡◌, Bool, false, not, cond, List, [], ◌∷◌, ◌++◌, map, replicate}
+use Rattle.std.specs.Prelude.{ℕ, ◌+◌, ◌≡◌, Bool, false, not, cond, List, [], ◌∷◌, ◌++◌, map, replicate, Err, None, Ok, Option, Some}
 use Rattle.trb.specs.Limits.{max_held}
-use Rattle.trb.specs.declared.CompletionAnswer.{CompletionAnswer}
-use Rattle.trb.specs.declared.CompletionAnswer.TheVariants.{Completed, Refused}
-use Rattle.trb.specs.declared.InTrbProcessingResult.{InTrbProcessingResult}
-use Rattle.trb.specs.declared.InTrbProcessingResult.TheVariants.{NoneGiven, Given}
+use Rattle.trb.specs.Answers.{CompletionAnswer}
+use Rattle.trb.specs.declared.InTrbProcessingStatus.{InTrbProcessingStatus}
 use Rattle.trb.specs.declared.TransferTrb.{TransferTrb}
-use Rattle.trb.specs.declared.TrbProcessingResult.TheVariants.{Ok}
+use Rattle.trb.specs.declared.TrbProcessingResult.TheVariants as result
 use Rattle.call_log.specs.Calls.{Out, silent}
 use Rattle.held.specs.Places.{blank_trb}
 use Rattle.guest_memory.specs.declared.Regions.{Regions}
@@ -16,7 +14,7 @@ use Rattle.in_td.specs.Td.{is_error}
 use Rattle.in_block.specs.declared.InBlock.{InBlock}
 use Rattle.in_endpoint.specs.Completion.{completion}
 use Rattle.in_endpoint.specs.Submission.{submission}
-use Rattle.in_endpoint.specs.declared.Submitted.{Submitted}
+use Rattle.in_endpoint.specs.Returned.{Submitted}
 use Rattle.row_walk.specs.Rows.{RowTd, row_tds, has_normal, moved_by}
 use Rattle.row_walk.specs.declared.TdResult.{TdResult}
 use Rattle.in_row.specs.Completion.{row_completion}
@@ -28,17 +26,17 @@ pub record Called : Type 0 where
 
 -- accepted, and no failing result
 abbrev pub went_well : CompletionAnswer → Bool
-went_well (Completed r) = not (is_error r)
-went_well (Refused q) = false
+went_well (Ok r) = not (is_error r)
+went_well (Err q) = false
 
 -- the completion behind a submission, with this device result and n bytes
-abbrev pub completed_behind : ℕ → InTrbProcessingResult → ℕ → Out Submitted → Out Called
+abbrev pub completed_behind : ℕ → Option InTrbProcessingStatus → ℕ → Out Submitted → Out Called
 completed_behind l r n submitted =
     let completed = completion l submitted.state.block r n in
     record { state = record { answer = completed.state.answer; block = completed.state.block }; records = submitted.records ++ completed.records }
 
 -- a submission, and its completion
-unfoldable pub two_calls : ℕ → Regions → InBlock → TransferTrb → InTrbProcessingResult → ℕ → Out Called
+unfoldable pub two_calls : ℕ → Regions → InBlock → TransferTrb → Option InTrbProcessingStatus → ℕ → Out Called
 two_calls l regions b t r n = completed_behind l r n (submission l b t regions)
 
 -- and those behind, if they went well
@@ -46,14 +44,14 @@ abbrev pub onward : Out Called → Out Called → Out Called
 onward o p = cond (went_well o.state.answer) (join o p) o
 
 -- the TRBs of a TD: the last completion has what the device gave
-unfoldable pub td_calls : ℕ → Regions → InBlock → List TransferTrb → InTrbProcessingResult → ℕ → Out Called
-td_calls l regions b [] r n = silent (record { answer = Completed Ok; block = b })
+unfoldable pub td_calls : ℕ → Regions → InBlock → List TransferTrb → Option InTrbProcessingStatus → ℕ → Out Called
+td_calls l regions b [] r n = silent (record { answer = Ok result.Ok; block = b })
 td_calls l regions b (t ∷ []) r n = two_calls l regions b t r n
-td_calls l regions b (t ∷ u ∷ ts) r n = onward (two_calls l regions b t NoneGiven 0) (td_calls l regions (two_calls l regions b t NoneGiven 0).state.block (u ∷ ts) r n)
+td_calls l regions b (t ∷ u ∷ ts) r n = onward (two_calls l regions b t None 0) (td_calls l regions (two_calls l regions b t None 0).state.block (u ∷ ts) r n)
 
 -- a TD without a Normal has no device result
-abbrev pub result_for : RowTd → InTrbProcessingResult
-result_for x = cond (has_normal x.trbs) (Given x.given.status) NoneGiven
+abbrev pub result_for : RowTd → Option InTrbProcessingStatus
+result_for x = cond (has_normal x.trbs) (Some x.given.status) None
 
 -- behind a TD: how many were finished well, the last answer, the bytes given so far, and the block
 pub record RowCalled : Type 0 where
@@ -79,7 +77,7 @@ abbrev pub ended_badly : RowCalled → Bool
 ended_badly w = not (went_well w.answer)
 
 abbrev pub uncalled : InBlock → RowCalled
-uncalled b = record { finished = 0; answer = Completed Ok; start = 0; block = b }
+uncalled b = record { finished = 0; answer = Ok result.Ok; start = 0; block = b }
 
 -- with logs of l bytes each
 abbrev pub row_calls : ℕ → Regions → InBlock → List RowTd → Out RowCalled

@@ -43,7 +43,7 @@ pub fn complete_tds(
         test = row_questions::test_trb(test, *t, results[test.tds], regions);
     }
     let asked = row_questions::ask_row(log.len(), regions, facts, count, test, tds, data.len());
-    if !trb::is_accepted(asked) {
+    if asked.is_err() {
         return TdsCompleted {
             answer: in_endpoint::completion_answer(asked, TrbProcessingResult::Ok),
             finished: 0,

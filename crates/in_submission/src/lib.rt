@@ -38,7 +38,7 @@ pub fn submit_trb(
     let facts = in_block::facts_of(&block);
     let regions = guest_memory::guest_regions(low_base, low.len(), high_base, high.len());
     let answer = in_questions::ask_submission(log.len(), facts, t, regions);
-    if !trb::is_accepted(answer) {
+    if answer.is_err() {
         return Submitted {
             answer,
             records: 0,

@@ -15,6 +15,7 @@ pub fn read_full<R: Read>(reader: &mut R, buffer: &mut [u8]) -> io::Result<usize
     ensures end { IfOk result (λ n. n < length buffer.new → IsAtEnd (R.remaining reader.new)) }
 {
     let mut filled = 0;
+    // A read gives as many bytes as it likes: nothing is counted by one.
     while filled < buffer.len() {
         let read = reader.read(&mut buffer[filled..])?;
         if read == 0 {

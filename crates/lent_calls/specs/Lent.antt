@@ -1,13 +1,10 @@
 -- A call with the first so many bytes of each buffer: the rest stays as it was. Assumes nothing.
 use Rattle.std.specs.Prelude.{ℕ, ◌≡◌, List, ◌++◌, take, drop}
 use Rattle.guest_memory.specs.Places.{Memory, memory_of}
-use Rattle.call_answer.specs.Called.{Called}
+use Rattle.call_answer.specs.Called.{Called, Says}
 use Rattle.in_block.specs.declared.InBlock.{InBlock}
-use Rattle.in_calls.specs.Calls.{Says}
-use Rattle.in_calls.specs.declared.InRan.{InRan}
+use Rattle.call_answer.specs.declared.EndpointRan.{EndpointRan}
 use Rattle.control_block.specs.declared.ControlBlock.{ControlBlock}
-use Rattle.control_calls.specs.Calls.{Says as ControlSays}
-use Rattle.control_calls.specs.declared.ControlRan.{ControlRan}
 use Rattle.lent_calls.specs.declared.Lent.{Lent}
 
 -- guest memory: as much of both buffers as the regions have
@@ -25,12 +22,12 @@ pub record Leaves {B : Type 0} (o : Called B) (l : Lent) (g g' a a' b b' : List 
   pub high : b' ≡ behind_lent l.high b o.memory.high
 
 -- of a call on an IN endpoint
-pub record RunsLent (o : Called InBlock) (l : Lent) (t : List ℕ) (at : ℕ) (r : InRan) (t' log log' low low' high high' : List ℕ) : Type 0 where
+pub record RunsLent (o : Called InBlock) (l : Lent) (t : List ℕ) (at : ℕ) (r : EndpointRan InBlock) (t' log log' low low' high high' : List ℕ) : Type 0 where
   pub says : Says o.said t at r t'
   pub leaves : Leaves o l log log' low low' high high'
 
 -- of a call on a control endpoint, which was to leave this collect buffer
-pub record RunsControlLent (o : Called ControlBlock) (collect : List ℕ) (l : Lent) (t : List ℕ) (at : ℕ) (r : ControlRan) (t' log log' collect' low low' high high' : List ℕ) : Type 0 where
-  pub says : ControlSays o.said t at r t'
+pub record RunsControlLent (o : Called ControlBlock) (collect : List ℕ) (l : Lent) (t : List ℕ) (at : ℕ) (r : EndpointRan ControlBlock) (t' log log' collect' low low' high high' : List ℕ) : Type 0 where
+  pub says : Says o.said t at r t'
   pub collected : collect' ≡ collect
   pub leaves : Leaves o l log log' low low' high high'

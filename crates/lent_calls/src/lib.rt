@@ -8,11 +8,10 @@ ghost use Rattle.in_calls.specs.Calls.{in_call, row_call};
 ghost use Rattle.control_calls.specs.Calls.{control_call, collect_behind};
 ghost use Rattle.lent_calls.specs.Lent.{lent_memory, RunsLent, RunsControlLent};
 
+use call_answer::EndpointRan;
 use call_script::Call;
 use control_block::ControlBlock;
-use control_calls::ControlRan;
 use in_block::InBlock;
-use in_calls::InRan;
 use row_walk::TdResult;
 use trb::TransferTrb;
 
@@ -38,14 +37,14 @@ pub fn run_in(
     data: &[u8],
     low: &mut [u8],
     high: &mut [u8],
-) -> InRan
+) -> EndpointRan<InBlock>
     requires max_answer_in_bounds { at + max_answer ≤ length text.old }
     requires log_len_bound { length log.old ≤ min_row_log }
     ensures { RunsLent (in_call block call «data».now (take lent.log log.old) (lent_memory lent low.old high.old)) lent text.old at result text.new log.old log.new low.old low.new high.old high.new }
 {
-    let log_end = call_script::least(lent.log, log.len());
-    let low_end = call_script::least(lent.low, low.len());
-    let high_end = call_script::least(lent.high, high.len());
+    let log_end = lent.log.min(log.len());
+    let low_end = lent.low.min(low.len());
+    let high_end = lent.high.min(high.len());
     in_calls::run(
         text,
         at,
@@ -75,15 +74,15 @@ pub fn run_row(
     data: &[u8],
     low: &mut [u8],
     high: &mut [u8],
-) -> InRan
+) -> EndpointRan<InBlock>
     requires max_answer_in_bounds { at + max_answer ≤ length text.old }
     requires log_len_bound { length log.old ≤ min_row_log }
     ensures { RunsLent (row_call block row count results tds (take bytes «data».now) (take lent.log log.old) (lent_memory lent low.old high.old)) lent text.old at result text.new log.old log.new low.old low.new high.old high.new }
 {
-    let log_end = call_script::least(lent.log, log.len());
-    let low_end = call_script::least(lent.low, low.len());
-    let high_end = call_script::least(lent.high, high.len());
-    let given = call_script::least(bytes, data.len());
+    let log_end = lent.log.min(log.len());
+    let low_end = lent.low.min(low.len());
+    let high_end = lent.high.min(high.len());
+    let given = bytes.min(data.len());
     in_calls::complete_row(
         text,
         at,
@@ -113,14 +112,14 @@ pub fn run_control(
     data: &[u8],
     low: &mut [u8],
     high: &mut [u8],
-) -> ControlRan
+) -> EndpointRan<ControlBlock>
     requires max_answer_in_bounds { at + max_answer ≤ length text.old }
     requires log_len_bound { length log.old ≤ min_row_log }
     ensures { RunsControlLent (control_call block call «data».now lent.collect collect.old (take lent.log log.old) (lent_memory lent low.old high.old)) (collect_behind block call lent.collect collect.old (take lent.log log.old) (lent_memory lent low.old high.old)) lent text.old at result text.new log.old log.new collect.new low.old low.new high.old high.new }
 {
-    let log_end = call_script::least(lent.log, log.len());
-    let low_end = call_script::least(lent.low, low.len());
-    let high_end = call_script::least(lent.high, high.len());
+    let log_end = lent.log.min(log.len());
+    let low_end = lent.low.min(low.len());
+    let high_end = lent.high.min(high.len());
     control_calls::run(
         text,
         at,

@@ -2,11 +2,11 @@
 use Rattle.std.specs.Prelude.{ℕ, ◌≡◌, List}
 use Rattle.std.specs.Borrow.{Bor, MutBor}
 use Rattle.std.specs.Fn.{Once}
-use Rattle.lent_laws.specs.declared.Returned.{Returned}
-use Rattle.lent_laws.specs.declared.Outcome.{Outcome}
+use Rattle.trb.specs.declared.Returned.{Returned}
+use Rattle.trb.specs.declared.Logged.{Logged}
 
 -- what the function by value returned, of what the layer returned and the block that it left
-abbrev pub returned_with : {A B : Type 0} → Outcome A → B → Returned A B
+abbrev pub returned_with : {A B : Type 0} → Logged A → B → Returned A B
 returned_with r b = record { answer = r.answer; records = r.records; block = b }
 
 module _ {F A B X : Type 0} (g : Once F (MutBor (List ℕ) × (B × (X × (Bor (List ℕ) × Unit {0})))) (Returned A B × (MutBor (List ℕ) × Unit {0}))) (f : F)
@@ -16,7 +16,7 @@ module _ {F A B X : Type 0} (g : Once F (MutBor (List ℕ) × (B × (X × (Bor (
   TakesCompletion = (p : MutBor (List ℕ)) (q : Bor (List ℕ)) → p.now ≡ log → q.now ≡ bytes → g.pre f (p, (block, (x, (q, tt))))
 
   -- such a call may give the answer r with the block, and leave the log
-  pub record CompletesBy (r : Outcome A) (block' : B) (log' : List ℕ) : Type 0 where
+  pub record CompletesBy (r : Logged A) (block' : B) (log' : List ℕ) : Type 0 where
     pub log_shown : MutBor (List ℕ)
     pub bytes_shown : Bor (List ℕ)
     pub shows : (log_shown.now ≡ log) × (bytes_shown.now ≡ bytes)
@@ -33,7 +33,7 @@ module _ {F A B X Y Z : Type 0} (g : Once F (MutBor (List ℕ) × (B × (X × (Y
       → g.pre f (p, (block, (x, (y, (q, (z, (u, tt)))))))
 
   -- such a call may give the answer r with the block, and leave the log
-  pub record SubmitsBy (r : Outcome A) (block' : B) (log' : List ℕ) : Type 0 where
+  pub record SubmitsBy (r : Logged A) (block' : B) (log' : List ℕ) : Type 0 where
     pub log_shown : MutBor (List ℕ)
     pub low_shown : Bor (List ℕ)
     pub high_shown : Bor (List ℕ)
@@ -51,7 +51,7 @@ module _ {F A B X Y Z : Type 0} (g : Once F (MutBor (List ℕ) × (MutBor (List 
       → g.pre f (p, (c, (block, (x, (y, (q, (z, (u, tt))))))))
 
   -- such a call may give the answer r with the block, and leave the log and the collect buffer
-  pub record CollectsBy (r : Outcome A) (block' : B) (log' collect' : List ℕ) : Type 0 where
+  pub record CollectsBy (r : Logged A) (block' : B) (log' collect' : List ℕ) : Type 0 where
     pub log_shown : MutBor (List ℕ)
     pub collect_shown : MutBor (List ℕ)
     pub low_shown : Bor (List ℕ)

@@ -5,20 +5,7 @@ ghost use Rattle.std.specs.Prelude.{◌≡◌};
 ghost use Rattle.std.specs.Fn.{FnOnceTakesAtMut, FnOnceReturnsAtMut};
 ghost use Rattle.lent_laws.specs.Layers.{TakesCompletion, CompletesBy, TakesSubmission, SubmitsBy, TakesCollecting, CollectsBy};
 
-// What a function by value returns: its answer, the number of records that it logged, and the block.
-#[derive(Clone, Copy)]
-pub struct Returned<A, B> {
-    pub answer: A,
-    pub records: usize,
-    pub block: B,
-}
-
-// What a layer returns: the same, but for the block.
-#[derive(Clone, Copy)]
-pub struct Outcome<A> {
-    pub answer: A,
-    pub records: usize,
-}
+use trb::{Logged, Returned};
 
 // The layer of a cancel: it ensures whatever the callee ensures of the block that was lent and the one that is stored over it.
 pub fn cancel_layer<B: Copy, F: FnOnce(B) -> B>(block: &mut B, callee: F)
@@ -43,13 +30,13 @@ pub fn completion_layer<A, B: Copy, X, F: FnOnce(&mut [u8], B, X, &[u8]) -> Retu
     x: X,
     bytes: &[u8],
     callee: F,
-) -> Outcome<A>
+) -> Logged<A>
     requires { TakesCompletion F.FnOnce callee log.old block.old x bytes.now }
     ensures { CompletesBy F.FnOnce callee log.old block.old x bytes.now result block.new log.new }
 {
     let r = callee(log, *block, x, bytes);
     *block = r.block;
-    Outcome {
+    Logged {
         answer: r.answer,
         records: r.records,
     }
@@ -63,13 +50,13 @@ pub fn submission_layer<
     Y,
     Z,
     F: FnOnce(&mut [u8], B, X, Y, &[u8], Z, &[u8]) -> Returned<A, B>,
->(log: &mut [u8], block: &mut B, x: X, y: Y, low: &[u8], z: Z, high: &[u8], callee: F) -> Outcome<A>
+>(log: &mut [u8], block: &mut B, x: X, y: Y, low: &[u8], z: Z, high: &[u8], callee: F) -> Logged<A>
     requires { TakesSubmission F.FnOnce callee log.old block.old x y low.now z high.now }
     ensures { SubmitsBy F.FnOnce callee log.old block.old x y low.now z high.now result block.new log.new }
 {
     let r = callee(log, *block, x, y, low, z, high);
     *block = r.block;
-    Outcome {
+    Logged {
         answer: r.answer,
         records: r.records,
     }
@@ -93,13 +80,13 @@ pub fn collecting_layer<
     z: Z,
     high: &[u8],
     callee: F,
-) -> Outcome<A>
+) -> Logged<A>
     requires { TakesCollecting F.FnOnce callee log.old collect.old block.old x y low.now z high.now }
     ensures { CollectsBy F.FnOnce callee log.old collect.old block.old x y low.now z high.now result block.new log.new collect.new }
 {
     let r = callee(log, collect, *block, x, y, low, z, high);
     *block = r.block;
-    Outcome {
+    Logged {
         answer: r.answer,
         records: r.records,
     }

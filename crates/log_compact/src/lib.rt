@@ -104,12 +104,11 @@ fn clear_from(log: &mut [u8], start: usize)
 
 // Compacts a log in its own buffer: drops writes of 0 bytes, joins writes to those that they go on from, zeroes the rows that
 // are freed, and returns how many are kept.
+#[tactic(auto, unfolding(trb::specs::Questions::first_no, trb::specs::Answers::refusal_of))]
 pub fn compact(log: &mut [u8]) -> Result<usize, Refusal>
     ensures { Compacts log.old result log.new }
 {
-    if !log_check::well_formed(log) {
-        return Err(Refusal::MalformedLog);
-    }
+    trb::ask(log_check::well_formed(log), Refusal::MalformedLog)?;
     let kept = keep_rows(log);
     clear_from(log, trb::RECORD_LENGTH * kept);
     Ok(kept)

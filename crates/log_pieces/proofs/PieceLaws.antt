@@ -22,7 +22,7 @@ use Rattle.kept_records.specs.Rows.{rows_in, rows_of, bytes_of}
 use Rattle.log_compact.proofs.RowLaws.{decode-take, take-drop-take}
 use Rattle.compact_laws.proofs.LogLaws.{records_of-rows_of}
 use Rattle.stored_logs.specs.Stored.{lines_of}
-use Rattle.log_pieces.specs.Pieces.{AllWhole, AllFormed, InPieces}
+use Rattle.log_pieces.specs.Pieces.{AllWhole, InPieces}
 
 -- ---- Lists
 

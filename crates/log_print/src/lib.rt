@@ -6,7 +6,7 @@ ghost use Rattle.numerals.specs.Written.{Written};
 ghost use Rattle.log_text.specs.Widths.{max_text};
 ghost use Rattle.log_print.specs.LogText.{refused_text, printable, log_text, Prints};
 
-use trb::{Answer, Refusal};
+use trb::Refusal;
 
 // Writes what a log that is refused prints.
 #[tactic(auto, unfolding(numerals::specs::Digits::digit_char, numerals::specs::Digits::digits, numerals::specs::Digits::trimmed, numerals::specs::Digits::decimal_of, crate::specs::LogText::refused_text))]
@@ -46,27 +46,11 @@ pub fn text_buffer() -> [u8; log_text::MAX_TEXT]
     [0u8; log_text::MAX_TEXT]
 }
 
-// What printing a log answers: whether the buffer was long enough, and how long the text is.
-#[derive(Clone, Copy)]
-pub struct Printed {
-    pub answer: Answer,
-    pub length: usize,
-}
-
-// Prints a log into a text buffer of at least MAX_TEXT bytes.
+// Prints a log into a text buffer of at least MAX_TEXT bytes, and returns how long its text is.
 #[tactic(auto, unfolding(crate::specs::LogText::printed, crate::specs::LogText::text_after, trb::specs::Questions::first_no, trb::specs::Answers::refusal_of))]
-pub fn print_log(log: &[u8], text: &mut [u8]) -> Printed
+pub fn print_log(log: &[u8], text: &mut [u8]) -> Result<usize, Refusal>
     ensures { Prints log.now text.old result text.new }
 {
-    if text.len() < log_text::MAX_TEXT {
-        return Printed {
-            answer: Answer::Refused(Refusal::BufferTooShort),
-            length: 0,
-        };
-    }
-    let length = put_log(text, log);
-    Printed {
-        answer: Answer::Accepted,
-        length,
-    }
+    trb::ask(log_text::MAX_TEXT <= text.len(), Refusal::BufferTooShort)?;
+    Ok(put_log(text, log))
 }

@@ -1,12 +1,13 @@
 -- What is printed of a log that is read into a buffer. Assumes nothing.
-use Rattle.std.proofs.Common.{◌≡◌, ℕ, ◌+◌, ◌≤◌, ◌<◌, List, ◌++◌, length, take, drop, ap, ◌∙◌, refl, arith, length-append}
+use Rattle.std.proofs.Common.{◌≡◌, ℕ, Result, ◌+◌, ◌≤◌, ◌<◌, List, ◌++◌, length, take, drop, ap, ◌∙◌, refl, arith, length-append}
+use Rattle.std.specs.Result.{result_unwrap_or}
 use lib.Seq.{take_at}
 use borrow.Author.Tests.{le-leb, lt-leb}
 use Rattle.trb.specs.Limits.{max_printed_log}
 use Rattle.buffers.specs.Patch.{patch}
 use Rattle.trb.specs.Questions.{first_no}
 use Rattle.log_text.specs.Widths.{max_text}
-use Rattle.log_print.specs.declared.Printed.{Printed}
+use Rattle.trb.specs.declared.Refusal.{Refusal}
 use Rattle.log_print.specs.LogText.{printable, log_text, printed, text_after, Prints}
 
 -- a log that is too long prints the same whatever stands behind it
@@ -17,9 +18,9 @@ longer-same l rest long =
     simp (lt-leb (length l) max_printed_log (omega (arith, long)), lt-leb (length (l ++ rest)) max_printed_log both)
 
 -- in a buffer that is long enough the text stands first
-pub text-first : (l t : List ℕ) (r : Printed) (t' : List ℕ) → Prints l t r t' → max_text ≤ length t → take r.«length» t' ≡ log_text l
+pub text-first : (l t : List ℕ) (r : Result ℕ Refusal) (t' : List ℕ) → Prints l t r t' → max_text ≤ length t → take (result_unwrap_or r 0) t' ≡ log_text l
 unfolding printed text_after patch first_no
 text-first l t r t' prints room =
-    let size : r.«length» ≡ length (log_text l) = ap (λ (p : Printed). p.«length») prints.printed ∙ simp (le-leb max_text (length t) room) in
+    let size : result_unwrap_or r 0 ≡ length (log_text l) = ap (λ (p : Result ℕ Refusal). result_unwrap_or p 0) prints.printed ∙ simp (le-leb max_text (length t) room) in
     let text : t' ≡ log_text l ++ drop (0 + length (log_text l)) t = prints.text ∙ simp (le-leb max_text (length t) room) in
     rw (size, text) (take_at (log_text l) (drop (0 + length (log_text l)) t) (length (log_text l)) refl)

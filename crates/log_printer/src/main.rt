@@ -23,8 +23,8 @@ fn print_input<R: Read, W: Write>(reader: &mut R, writer: &mut W) -> io::Result<
     let mut log = log_buffer();
     let read = input_bytes::read_full(reader, &mut log)?;
     let mut text = log_print::text_buffer();
-    let printed = log_print::print_log(&log[..read], &mut text);
-    writer.write_all(&text[..printed.length])
+    let length = log_print::print_log(&log[..read], &mut text).unwrap_or(0);
+    writer.write_all(&text[..length])
 }
 
 fn main(rt: HostRuntime) -> io::Result<()> {

@@ -1,8 +1,8 @@
 -- 01, IN endpoint: a transfer ends in error only where n < S. Assumes nothing.
-use Rattle.std.specs.Prelude.{ℕ, ◌≡◌, Bool, false, not, ◌&&◌, eqb}
+use Rattle.std.specs.Prelude.{◌≡◌, Bool, false, not, ◌&&◌, eqb}
 use Rattle.trb.specs.Codes.{code_number}
 use Rattle.trb.specs.declared.CompletionCode.TheVariants.{Success}
-use Rattle.trb.specs.declared.TrbProcessingResult.TheVariants.{Ok}
+use Rattle.trb.specs.declared.TrbProcessingResult.TheVariants as result
 use Rattle.call_log.specs.Calls.{Out}
 use Rattle.call_log.specs.declared.Record.{Record}
 use Rattle.in_td.specs.declared.TdProcessed.{TdProcessed}
@@ -14,5 +14,5 @@ not_success r = is_event r && not (eqb r.code (code_number Success))
 
 -- of a TD: its result is Ok, and every event has code Success
 pub record Succeeds (o : Out TdProcessed) : Type 0 where
-  pub result : o.state.result ≡ Ok
+  pub result : o.state.result ≡ result.Ok
   pub codes : any not_success o.records ≡ false

@@ -2,6 +2,7 @@
 -- submission being due, holds nothing, so that a Setup that turns the direction to IN finds no TRB of a transfer before it. In an IN
 -- transfer no TRB held has immediate data, by question 21; the lengths held add up to at most what was asked for, since lengths are
 -- only added where the request's is; and the request's length is that sum modulo 2^32. Assumes nothing.
+use Rattle.std.specs.Prelude.{None, Ok, Option, Some}
 use Prim.Native.Nat.{ℕ, ◌+◌, ◌%◌, ◌^◌, ◌≤◌}
 use mathlib.Core.Path.{◌≡◌, refl, sym, ap, ◌∙◌}
 use mathlib.Core.Bool.{Bool, true, false, not, cond, ◌&&◌, true≢false}
@@ -15,7 +16,6 @@ use Rattle.trb.specs.Ids.{ids_in_range}
 use Rattle.trb.specs.Limits.{min_log}
 use Rattle.trb.specs.Questions.{first_no, agree}
 use Rattle.trb.specs.Trbs.{transfer_length, immediate_of}
-use Rattle.trb.specs.declared.Answer.TheVariants.{Accepted}
 use Rattle.trb.specs.declared.ControlRequestProcessingResult.{ControlRequestProcessingResult}
 use Rattle.trb.specs.declared.ControlRequestProcessingResult.TheVariants as device
 use Rattle.trb.specs.declared.ControlSubmissionState.{ControlSubmissionState}
@@ -54,9 +54,9 @@ use Rattle.control_questions.proofs.SubmissionLaws as submission-questions
 use Rattle.control_endpoint.specs.Completion as completing
 use Rattle.control_endpoint.specs.Creation.{not_created, creation}
 use Rattle.control_endpoint.specs.Submission as submitting
-use Rattle.control_endpoint.specs.declared.Completed.{Completed}
-use Rattle.control_endpoint.specs.declared.Created.{Created}
-use Rattle.control_endpoint.specs.declared.Submitted.{Submitted}
+use Rattle.control_endpoint.specs.Returned.{Completed}
+use Rattle.control_endpoint.specs.Returned.{Created}
+use Rattle.control_endpoint.specs.Returned.{Submitted}
 use Rattle.control_block.specs.declared.GuestRelease.{GuestRelease}
 use Rattle.made_blocks.specs.Held.{from_memory, lengths}
 use Rattle.made_blocks.specs.ControlCalls.{ControlCall, submit, complete, cancel, after, after_all, asked_by, asked_after, asked_after_all}
@@ -103,7 +103,7 @@ submission-due l c f o t regions none =
     let turn = yes-behind (sound_block f) 1 (submission-questions.from-turn f o t regions) block in
     yes-first (submission_due f.state) 2 (submission-questions.from-length f o t regions) turn
 
-pub result-agrees : (l : ℕ) (f : BlockFacts) (r : ControlRequestProcessingResult) (m : ℕ) → first_no (completion_questions l f r m) ≡ 0
+pub result-agrees : (l : ℕ) (f : BlockFacts) (r : Option ControlRequestProcessingResult) (m : ℕ) → first_no (completion_questions l f r m) ≡ 0
     → agree (is_given r) (awaits_device f.state) ≡ true
 unfolding completion_questions
 result-agrees l f r m none =
@@ -123,7 +123,7 @@ kept_fresh e s release = record {
 
 pub kept-creation : (e : EndpointId) (s : SlotId) (release : GuestRelease) → Kept (creation e s release).block 0
 kept-creation e s release =
-    by-questions (λ (r : Created). Kept r.block 0) ((ids_in_range e s, 12) ∷ []) (not_created release) (record { answer = Accepted; block = fresh_block e s release })
+    by-questions (λ (r : Created). Kept r.block 0) ((ids_in_range e s, 12) ∷ []) (not_created release) (record { answer = Ok tt; block = fresh_block e s release })
     (λ n. kept_fresh (record { 0 = 0 }) (record { 0 = 0 }) release) (λ none. kept_fresh e s release)
 
 -- ---- A TRB that is taken
@@ -268,21 +268,21 @@ module _ (b : ControlBlock) (n : ℕ) (k : Kept b n) where
   input-behind (Realize input m) = input-dropped true
 
   -- where a Setup is expected behind it, nothing is held
-  none-behind : (s : ControlSubmissionState) (r : ControlRequestProcessingResult) (m : ℕ) → agree (is_given r) (awaits_device s) ≡ true
+  none-behind : (s : ControlSubmissionState) (r : Option ControlRequestProcessingResult) (m : ℕ) → agree (is_given r) (awaits_device s) ≡ true
       → (is_collecting s ≡ true → expects_setup b.phase ≡ false) → (submission_due s ≡ true → expects_setup b.phase ≡ true → b.held ≡ 0)
       → expects_setup (phase_behind s b.phase) ≡ true → (completing.held_behind (ending_of s r m) b).held ≡ 0
   none-behind NoTrbSubmitted r m agreed collecting none phase = none refl phase
   none-behind CollectingTd r m agreed collecting none phase = absurd (true≢false (sym phase ∙ collecting refl))
   none-behind (ParserError a) r m agreed collecting none phase = refl
   none-behind (UnexpectedTrb a) r m agreed collecting none phase = refl
-  none-behind AwaitingControlRequest device.NoneGiven m agreed collecting none phase = absurd (true≢false (sym agreed))
-  none-behind AwaitingControlRequest device.Disconnect m agreed collecting none phase = refl
-  none-behind AwaitingControlRequest device.Stall m agreed collecting none phase = refl
-  none-behind AwaitingControlRequest device.TransactionError m agreed collecting none phase = refl
-  none-behind AwaitingControlRequest device.SuccessfulControlIn m agreed collecting none phase = refl
-  none-behind AwaitingControlRequest device.SuccessfulControlOut m agreed collecting none phase = refl
+  none-behind AwaitingControlRequest None m agreed collecting none phase = absurd (true≢false (sym agreed))
+  none-behind AwaitingControlRequest (Some device.Disconnect) m agreed collecting none phase = refl
+  none-behind AwaitingControlRequest (Some device.Stall) m agreed collecting none phase = refl
+  none-behind AwaitingControlRequest (Some device.TransactionError) m agreed collecting none phase = refl
+  none-behind AwaitingControlRequest (Some device.SuccessfulControlIn) m agreed collecting none phase = refl
+  none-behind AwaitingControlRequest (Some device.SuccessfulControlOut) m agreed collecting none phase = refl
 
-  kept-completion : (l : ℕ) (r : ControlRequestProcessingResult) (m : ℕ) → Kept (completing.completion l b r m).state.block n
+  kept-completion : (l : ℕ) (r : Option ControlRequestProcessingResult) (m : ℕ) → Kept (completing.completion l b r m).state.block n
   unfolding completing.completion completing.accepted completing.block_behind
   kept-completion l r m =
       by-questions (λ (o : Out Completed). Kept o.state.block n) (completion_questions l (facts_of b) r m) (completing.refused b) (completing.accepted (ending_of b.state r m) b)

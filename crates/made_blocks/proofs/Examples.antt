@@ -1,6 +1,7 @@
 -- Why the theorems have their conditions, computed: in an OUT transfer calls make a block that holds immediate data; a made-up block of an
 -- IN transfer that holds it, as calls made it before R-14, writes more than it asked for; and so does one that calls make by a sum that
 -- passes 2^32. Endpoint 3, slot 2; guest memory in one region of 2^17 bytes at 0. Assumes nothing.
+use Rattle.std.specs.Prelude.{None, Some}
 use Prim.Native.Nat.{ℕ, zero, suc, ◌+◌, ◌*◌, ◌%◌, ◌^◌}
 use mathlib.Core.Path.{◌≡◌, refl, ap, ◌∙◌}
 use mathlib.Core.Bool.{Bool, true, false}
@@ -10,7 +11,7 @@ use native.Mathlib.Omega.{arith}
 use Rattle.trb.specs.Ids.{ids_in_range}
 use Rattle.trb.specs.Limits.{max_transfer_length, max_collected, min_log}
 use Rattle.trb.specs.Questions.{first_no}
-use Rattle.trb.specs.declared.ControlRequestProcessingResult.TheVariants.{NoneGiven, SuccessfulControlIn}
+use Rattle.trb.specs.declared.ControlRequestProcessingResult.TheVariants.{SuccessfulControlIn}
 use Rattle.trb.specs.declared.ControlSubmissionState.TheVariants.{NoTrbSubmitted, AwaitingControlRequest}
 use Rattle.trb.specs.declared.ControlTransferState.{ControlTransferState}
 use Rattle.trb.specs.declared.ControlTransferState.TheVariants.{ExpectSetupStageTrb, MoreData}
@@ -98,7 +99,7 @@ regions = guest_regions 0 (2 ^ 17) 0 0
 
 -- a TRB is submitted, and its submission completed
 abbrev submitted : TransferTrb → List ControlCall → List ControlCall
-submitted t cs = submit min_log max_collected t regions ∷ complete min_log NoneGiven 0 ∷ cs
+submitted t cs = submit min_log max_collected t regions ∷ complete min_log None 0 ∷ cs
 
 -- what calls leave, with all that they are defined by
 unfoldable run : List ControlCall → ControlBlock → ControlBlock
@@ -117,7 +118,7 @@ input_transfer phase n = record {
 -- the bytes that a completion writes, n having come
 unfoldable pub written : ControlBlock → ℕ → ℕ
 unfolding completion completion_questions first_no ids_in_range sound_block sound_trb all accepted_completion block_behind ending_records cleared walk realize_trb realize_data_stage realize_normal realize_dma put_dma
-written b n = write_lengths (completion min_log b SuccessfulControlIn n).records
+written b n = write_lengths (completion min_log b (Some SuccessfulControlIn) n).records
 
 -- ---- Immediate data of 12 bytes
 

@@ -1,14 +1,14 @@
 -- Each call on an IN endpoint keeps it so that no TRB held has immediate data: question 21 lets none in, and every other change of the
 -- places drops the TRBs held. Assumes nothing.
+use Rattle.std.specs.Prelude.{Err, Ok, Option}
 use Prim.Native.Nat.{ℕ}
 use mathlib.Core.Path.{◌≡◌, refl}
 use mathlib.Core.Bool.{true, false}
 use mathlib.Core.List.{List, [], ◌∷◌}
 use Rattle.trb.specs.Answers.{refusal_of}
 use Rattle.trb.specs.Trbs.{immediate_of}
-use Rattle.trb.specs.declared.Answer.TheVariants.{Accepted, Refused}
 use Rattle.trb.specs.declared.EndpointId.{EndpointId}
-use Rattle.trb.specs.declared.InTrbProcessingResult.{InTrbProcessingResult}
+use Rattle.trb.specs.declared.InTrbProcessingStatus.{InTrbProcessingStatus}
 use Rattle.trb.specs.declared.SlotId.{SlotId}
 use Rattle.trb.specs.declared.TdBasedNormalSubmissionState.{TdBasedNormalSubmissionState}
 use Rattle.trb.specs.declared.TdBasedNormalSubmissionState.TheVariants.{SubmissionDue}
@@ -29,9 +29,9 @@ use Rattle.in_questions.proofs.PassedLaws.{passed-submission}
 use Rattle.in_endpoint.specs.Completion as completing
 use Rattle.in_endpoint.specs.Creation.{creation_questions, creation}
 use Rattle.in_endpoint.specs.Submission as submitting
-use Rattle.in_endpoint.specs.declared.Completed.{Completed}
-use Rattle.in_endpoint.specs.declared.Created.{Created}
-use Rattle.in_endpoint.specs.declared.Submitted.{Submitted}
+use Rattle.in_endpoint.specs.Returned.{Completed}
+use Rattle.in_endpoint.specs.Returned.{Created}
+use Rattle.in_endpoint.specs.Returned.{Submitted}
 use Rattle.in_endpoint.proofs.SubmissionLaws.{holds, supported-held}
 use Rattle.in_td.specs.declared.InMode.{InMode}
 use Rattle.made_blocks.specs.Held.{from_memory}
@@ -59,7 +59,7 @@ pub from-creation : (e : EndpointId) (s : SlotId) (mode : InMode) → FromMemory
 unfolding creation
 from-creation e s mode =
     by-questions (λ (r : Created). FromMemory r.block) (creation_questions e s)
-    (λ n. record { answer = Refused (refusal_of n); block = fresh_block (record { 0 = 0 }) (record { 0 = 0 }) mode }) (record { answer = Accepted; block = fresh_block e s mode })
+    (λ n. record { answer = Err (refusal_of n); block = fresh_block (record { 0 = 0 }) (record { 0 = 0 }) mode }) (record { answer = Ok tt; block = fresh_block e s mode })
     (λ n. from-fresh (record { 0 = 0 }) (record { 0 = 0 }) mode) (λ none. from-fresh e s mode)
 
 -- ---- Submission
@@ -87,7 +87,7 @@ module _ (b : InBlock) (k : FromMemory b) where
   from-completed (Transfer st n) = from-emptied b SubmissionDue
   from-completed (ReportUnsupported a) = from-emptied b SubmissionDue
 
-  from-completion : (l : ℕ) (r : InTrbProcessingResult) (n : ℕ) → FromMemory (completing.completion l b r n).state.block
+  from-completion : (l : ℕ) (r : Option InTrbProcessingStatus) (n : ℕ) → FromMemory (completing.completion l b r n).state.block
   unfolding completing.completion
   from-completion l r n =
       by-questions (λ (c : Out Completed). FromMemory c.state.block) (completion_questions l (facts_of b) r n) (completing.refused b)

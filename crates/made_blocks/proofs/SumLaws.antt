@@ -27,7 +27,7 @@ use Rattle.control_block.specs.Facts.{submission_due, facts_of, sound_block}
 use Rattle.control_questions.specs.Submission.{long_enough, submission_questions}
 use Rattle.control_questions.proofs.SubmissionLaws.{from-flag, from-length, from-turn, from_block, from-regions}
 use Rattle.control_endpoint.specs.Submission.{questions_of, refused, accepted, submission}
-use Rattle.control_endpoint.specs.declared.Submitted.{Submitted}
+use Rattle.control_endpoint.specs.Returned.{Submitted}
 use Rattle.made_blocks.specs.ControlCalls.{ControlCall, submit, complete, cancel, after, asked_by, asked_after, asked_after_all}
 use Rattle.made_blocks.proofs.CallLaws.{by-questions}
 

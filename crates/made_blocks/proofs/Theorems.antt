@@ -1,4 +1,5 @@
 -- 02, R-14: what holds of every block that only calls made, whichever they are, refused ones among them. Assumes nothing.
+use Rattle.std.specs.Prelude.{Some}
 use Prim.Native.Nat.{ℕ, ◌<◌, ◌≤◌, ◌^◌}
 use mathlib.Core.Path.{◌≡◌, sym}
 use mathlib.Core.Bool.{true, true≢false}
@@ -26,7 +27,7 @@ use Rattle.control_chain.specs.Endings.{ending_records}
 use Rattle.control_questions.specs.Completion.{is_given, completion_questions}
 use Rattle.control_endpoint.specs.Completion.{refused, accepted, completion}
 use Rattle.control_endpoint.specs.Creation.{creation}
-use Rattle.control_endpoint.specs.declared.Completed.{Completed}
+use Rattle.control_endpoint.specs.Returned.{Completed}
 use Rattle.control_block.specs.declared.GuestRelease.{GuestRelease}
 use Rattle.control_block.specs.Stages.{error_address}
 use Rattle.in_td.specs.declared.InMode.{InMode}
@@ -48,14 +49,14 @@ in-from-memory e s mode cs = from-calls cs (in-creation.creation e s mode).block
 -- ---- Control
 
 -- a completion with SuccessfulControlIn writes at most the lengths of the TRBs held
-writes-held : (l : ℕ) (b : ControlBlock) (n : ℕ) → write_lengths (completion l b SuccessfulControlIn n).records ≤ lengths (held_of b)
+writes-held : (l : ℕ) (b : ControlBlock) (n : ℕ) → write_lengths (completion l b (Some SuccessfulControlIn) n).records ≤ lengths (held_of b)
 unfolding completion accepted ending_records
 writes-held l b n =
-    by-questions (λ (o : Out Completed). write_lengths o.records ≤ lengths (held_of b)) (completion_questions l (facts_of b) SuccessfulControlIn n) (refused b)
-    (accepted (ending_of b.state SuccessfulControlIn n) b) (λ q. omega arith) (λ none. by b.state (result-agrees l (facts_of b) SuccessfulControlIn n none))
+    by-questions (λ (o : Out Completed). write_lengths o.records ≤ lengths (held_of b)) (completion_questions l (facts_of b) (Some SuccessfulControlIn) n) (refused b)
+    (accepted (ending_of b.state (Some SuccessfulControlIn) n) b) (λ q. omega arith) (λ none. by b.state (result-agrees l (facts_of b) (Some SuccessfulControlIn) n none))
   where
-    by : (s : ControlSubmissionState) → agree (is_given SuccessfulControlIn) (awaits_device s) ≡ true
-        → write_lengths (ending_records (ending_of s SuccessfulControlIn n) (error_address b) b.endpoint_id b.slot_id (held_of b)) ≤ lengths (held_of b)
+    by : (s : ControlSubmissionState) → agree (is_given (Some SuccessfulControlIn)) (awaits_device s) ≡ true
+        → write_lengths (ending_records (ending_of s (Some SuccessfulControlIn) n) (error_address b) b.endpoint_id b.slot_id (held_of b)) ≤ lengths (held_of b)
     by NoTrbSubmitted agreed = omega arith
     by CollectingTd agreed = omega arith
     by (ParserError a) agreed = absurd (true≢false (sym agreed))
@@ -85,7 +86,7 @@ module _ (e : EndpointId) (s : SlotId) (release : GuestRelease) (cs : List Contr
 
   -- the same of a call
   pub completed-asked : (made e s release cs).direction ≡ true → asked e s release cs < 2 ^ 32
-      → (l n : ℕ) → write_lengths (completion l (made e s release cs) SuccessfulControlIn n).records ≤ (made e s release cs).request.length
+      → (l n : ℕ) → write_lengths (completion l (made e s release cs) (Some SuccessfulControlIn) n).records ≤ (made e s release cs).request.length
   completed-asked input below l n =
       let k : Asked (held_of (made e s release cs)) (made e s release cs).request.length (asked e s release cs) = kept-made.input input in
       omega (arith, writes-held l (made e s release cs) n)

@@ -1,5 +1,5 @@
 -- The control blocks that only calls made, and what these calls asked for. Assumes nothing.
-use Rattle.std.specs.Prelude.{ℕ, ◌+◌, cond, ◌&&◌, List, [], ◌∷◌}
+use Rattle.std.specs.Prelude.{ℕ, ◌+◌, cond, ◌&&◌, List, [], ◌∷◌, Option}
 use Rattle.trb.specs.Answers.{is_accepted}
 use Rattle.trb.specs.declared.ControlRequestProcessingResult.{ControlRequestProcessingResult}
 use Rattle.trb.specs.declared.EndpointId.{EndpointId}
@@ -21,7 +21,7 @@ use Rattle.control_endpoint.specs.Submission.{submission}
 -- data
 pub data ControlCall : Type 0 where
   submit : (log collect : ℕ) → TransferTrb → Regions → ControlCall
-  complete : (log : ℕ) → ControlRequestProcessingResult → (n : ℕ) → ControlCall
+  complete : (log : ℕ) → Option ControlRequestProcessingResult → (n : ℕ) → ControlCall
   cancel : ControlCall
 
 -- the block that a call leaves, accepted or refused. 01, Questions asked: on control cancel changes nothing

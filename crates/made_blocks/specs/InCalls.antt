@@ -1,7 +1,7 @@
 -- The IN blocks that only calls made. Assumes nothing.
-use Rattle.std.specs.Prelude.{ℕ, List, [], ◌∷◌}
+use Rattle.std.specs.Prelude.{ℕ, List, [], ◌∷◌, Option}
 use Rattle.trb.specs.declared.EndpointId.{EndpointId}
-use Rattle.trb.specs.declared.InTrbProcessingResult.{InTrbProcessingResult}
+use Rattle.trb.specs.declared.InTrbProcessingStatus.{InTrbProcessingStatus}
 use Rattle.trb.specs.declared.SlotId.{SlotId}
 use Rattle.trb.specs.declared.TransferTrb.{TransferTrb}
 use Rattle.guest_memory.specs.declared.Regions.{Regions}
@@ -14,7 +14,7 @@ use Rattle.in_endpoint.specs.Submission.{submission}
 -- a submission has a log of so many bytes, and guest memory in these regions; a completion has a log, and n bytes of data
 pub data InCall : Type 0 where
   submit : (log : ℕ) → TransferTrb → Regions → InCall
-  complete : (log : ℕ) → InTrbProcessingResult → (n : ℕ) → InCall
+  complete : (log : ℕ) → Option InTrbProcessingStatus → (n : ℕ) → InCall
   cancel : InCall
 
 -- the block that a call leaves, accepted or refused

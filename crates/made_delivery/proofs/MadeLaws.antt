@@ -1,5 +1,6 @@
 -- Every TD that came in by submissions has each Normal's range in one of the regions: question 6 lets no other in, and every other change of the places drops
 -- the TRBs held or keeps them. Assumes nothing.
+use Rattle.std.specs.Prelude.{Err, Ok, Option}
 use Prim.Native.Nat.{ℕ, ◌*◌}
 use mathlib.Core.Path.{◌≡◌, refl, ◌∙◌}
 use mathlib.Core.Bool.{Bool, true, false, cond}
@@ -8,9 +9,8 @@ use lib.ListN.{length, take}
 use Rattle.trb.specs.Answers.{refusal_of}
 use Rattle.trb.specs.Limits.{record_length}
 use Rattle.trb.specs.Questions.{after_questions, agree}
-use Rattle.trb.specs.declared.Answer.TheVariants.{Accepted, Refused}
 use Rattle.trb.specs.declared.EndpointId.{EndpointId}
-use Rattle.trb.specs.declared.InTrbProcessingResult.{InTrbProcessingResult}
+use Rattle.trb.specs.declared.InTrbProcessingStatus.{InTrbProcessingStatus}
 use Rattle.trb.specs.declared.SlotId.{SlotId}
 use Rattle.trb.specs.declared.TdBasedNormalSubmissionState.{TdBasedNormalSubmissionState}
 use Rattle.trb.specs.declared.TdBasedNormalSubmissionState.TheVariants.{SubmissionDue}
@@ -36,9 +36,9 @@ use Rattle.in_questions.proofs.PassedLaws.{passed-window, passed-trb}
 use Rattle.in_endpoint.specs.Completion as completing
 use Rattle.in_endpoint.specs.Creation.{creation_questions, creation}
 use Rattle.in_endpoint.specs.Submission as submitting
-use Rattle.in_endpoint.specs.declared.Completed.{Completed}
-use Rattle.in_endpoint.specs.declared.Created.{Created}
-use Rattle.in_endpoint.specs.declared.Submitted.{Submitted}
+use Rattle.in_endpoint.specs.Returned.{Completed}
+use Rattle.in_endpoint.specs.Returned.{Created}
+use Rattle.in_endpoint.specs.Returned.{Submitted}
 use Rattle.in_endpoint.proofs.SubmissionLaws.{holds, supported-held}
 use Rattle.made_blocks.proofs.CallLaws.{by-questions, all-stored}
 use Rattle.delivery_laws.specs.Ranges.{InRegions}
@@ -67,7 +67,7 @@ module _ (regions : Regions) where
   unfolding creation
   kept-creation e s mode =
       by-questions (λ (r : Created). Kept r.block) (creation_questions e s)
-      (λ n. record { answer = Refused (refusal_of n); block = fresh_block (record { 0 = 0 }) (record { 0 = 0 }) mode }) (record { answer = Accepted; block = fresh_block e s mode })
+      (λ n. record { answer = Err (refusal_of n); block = fresh_block (record { 0 = 0 }) (record { 0 = 0 }) mode }) (record { answer = Ok tt; block = fresh_block e s mode })
       (λ n. kept_fresh (record { 0 = 0 }) (record { 0 = 0 }) mode) (λ none. kept_fresh e s mode)
 
   -- ---- Each call
@@ -114,7 +114,7 @@ module _ (regions : Regions) where
 
   -- where question 8 was answered with yes, so is question 11
   pub made-writes-inside : (e : EndpointId) (s : SlotId) (mode : InMode) (cs : List InCall) → let b = made regions e s mode cs in
-      (r : InTrbProcessingResult) (n : ℕ) → agree (is_given r) (awaits_device b.state) ≡ true → writes_in_range n regions (completed b r n).records ≡ true
+      (r : Option InTrbProcessingStatus) (n : ℕ) → agree (is_given r) (awaits_device b.state) ≡ true → writes_in_range n regions (completed b r n).records ≡ true
   made-writes-inside e s mode cs r n agreed =
       let b = made regions e s mode cs in
       inside-ended b n regions b.state r agreed
@@ -122,7 +122,7 @@ module _ (regions : Regions) where
 
 -- so every frame of such a block is delivered whole
 pub made-no-torn-frame : (bytes : List ℕ) (m : Memory) (e : EndpointId) (s : SlotId) (mode : InMode) (cs : List InCall) → let b = made (regions_of m) e s mode cs in
-    (res : InTrbProcessingResult) (l : List ℕ) (r : Completed) (l' : List ℕ) → completing.Completes b res (length bytes) l r l' → share_an_address (regions_of m) ≡ false
+    (res : Option InTrbProcessingStatus) (l : List ℕ) (r : Completed) (l' : List ℕ) → completing.Completes b res (length bytes) l r l' → share_an_address (regions_of m) ≡ false
     → DeliveredWhole b bytes m r.answer (take (record_length * r.records) l') (written bytes m (completed b res (length bytes)).records)
 made-no-torn-frame bytes m e s mode cs res l r l' h apart =
     no-torn-frame bytes m (made (regions_of m) e s mode cs) res l r l' h apart (made-in-regions (regions_of m) e s mode cs)

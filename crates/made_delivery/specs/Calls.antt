@@ -1,7 +1,7 @@
 -- The IN blocks that only calls made, with guest memory in the same regions all the time. Assumes nothing.
-use Rattle.std.specs.Prelude.{ℕ, List, [], ◌∷◌}
+use Rattle.std.specs.Prelude.{ℕ, List, [], ◌∷◌, Option}
 use Rattle.trb.specs.declared.EndpointId.{EndpointId}
-use Rattle.trb.specs.declared.InTrbProcessingResult.{InTrbProcessingResult}
+use Rattle.trb.specs.declared.InTrbProcessingStatus.{InTrbProcessingStatus}
 use Rattle.trb.specs.declared.SlotId.{SlotId}
 use Rattle.trb.specs.declared.TransferTrb.{TransferTrb}
 use Rattle.guest_memory.specs.declared.Regions.{Regions}
@@ -15,8 +15,8 @@ use Rattle.delivery.specs.Completing.{delivery}
 -- each but cancel has a log of so many bytes; a completion, carried out at once or not, has n bytes of data
 pub data InCall : Type 0 where
   submit : (log : ℕ) → TransferTrb → InCall
-  complete : (log : ℕ) → InTrbProcessingResult → (n : ℕ) → InCall
-  deliver : (log : ℕ) → InTrbProcessingResult → (n : ℕ) → InCall
+  complete : (log : ℕ) → Option InTrbProcessingStatus → (n : ℕ) → InCall
+  deliver : (log : ℕ) → Option InTrbProcessingStatus → (n : ℕ) → InCall
   cancel : InCall
 
 -- the block that a call leaves, accepted or refused

@@ -108,6 +108,7 @@ pub fn subtract_power(n: u32, power: u32) -> Place
 {
     let mut digit = 0u8;
     let mut rest = n;
+    // A digit is how often its power can be subtracted: no division.
     while power <= rest {
         rest -= power;
         digit += 1;

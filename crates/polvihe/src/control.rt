@@ -53,11 +53,11 @@ pub extern "C" fn polvihe_control_submit<'a>(
     ensures { SubmitsInPlace (lent_log log.old block.old) (trb_of (trb_numbers kind flags addr value transfer_length)) (memory_of low_base low.now high_base high.now) log.old collect.old block.old result log.new collect.new block.new }
 {
     let numbers = TrbNumbers {
-        kind: kind,
-        flags: flags,
-        addr: addr,
-        value: value,
-        transfer_length: transfer_length,
+        kind,
+        flags,
+        addr,
+        value,
+        transfer_length,
     };
     control_in_place::submit_trb(log, collect, block, numbers, low_base, low, high_base, high)
 }

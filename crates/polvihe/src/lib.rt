@@ -254,11 +254,11 @@ pub extern "C" fn polvihe_write_control_submission(
 {
     let usb_request = UsbRequest {
         address: id,
-        request_type: request_type,
-        request: request,
-        value: value,
-        index: index,
-        length: length,
+        request_type,
+        request,
+        value,
+        index,
+        length,
     };
     let event = CaptureEvent::ControlSubmission(usb_request);
     capture_numbers::write_event(
@@ -344,11 +344,11 @@ pub extern "C" fn polvihe_write_control_error(
 {
     let usb_request = UsbRequest {
         address: id,
-        request_type: request_type,
-        request: request,
-        value: value,
-        index: index,
-        length: length,
+        request_type,
+        request,
+        value,
+        index,
+        length,
     };
     let event = CaptureEvent::ControlError(
         direction,
@@ -446,11 +446,11 @@ pub extern "C" fn polvihe_in_submit(
     ensures { SubmitsInPlace (lent_log log.old block.old) (trb_of (trb_numbers kind flags addr value transfer_length)) (guest_regions low_base low_len high_base high_len) log.old block.old result log.new block.new }
 {
     let numbers = TrbNumbers {
-        kind: kind,
-        flags: flags,
-        addr: addr,
-        value: value,
-        transfer_length: transfer_length,
+        kind,
+        flags,
+        addr,
+        value,
+        transfer_length,
     };
     in_place_submission::submit_trb(log, block, numbers, low_base, low_len, high_base, high_len)
 }

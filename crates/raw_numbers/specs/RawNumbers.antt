@@ -3,7 +3,7 @@ use Rattle.std.specs.Prelude.{ℕ, Bool, ◌≡◌, List, ◌∷◌, leb, length
 use Rattle.trb.specs.Questions.{first_no, after_questions}
 use Rattle.trb.specs.declared.TransferTrb.{TransferTrb}
 use Rattle.buffers.specs.Patch.{patch}
-use Rattle.raw_trb.specs.Raw.{decode_trb, encode_questions, encode_trb}
+use Rattle.raw_trb.specs.Raw.{decode_trb, encode_questions, encoded_bytes}
 use Rattle.held_bytes.specs.Numbers.{trb_of, trb_numbers}
 
 -- 02, R-6: the ring walker gives us 16 bytes
@@ -25,4 +25,4 @@ room_questions t raw = (leb raw_length (length raw), 1) ∷ encode_questions t.v
 -- of a call with these questions that encodes a TRB into raw: it answered r and left raw', unchanged after a no
 pub record Encodes (questions : List (Bool × ℕ)) (t : TransferTrb) (raw : List ℕ) (r : ℕ) (raw' : List ℕ) : Type 0 where
   pub number : r ≡ first_no questions
-  pub after : raw' ≡ after_questions questions (λ n. raw) (patch raw 0 (encode_trb t.variant t.cycle_bit).bytes)
+  pub after : raw' ≡ after_questions questions (λ n. raw) (patch raw 0 (encoded_bytes t.variant t.cycle_bit))

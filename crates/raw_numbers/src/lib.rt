@@ -30,13 +30,12 @@ fn put_encoded(raw: &mut [u8], t: TransferTrb) -> u8
     requires { raw_length ≤ length raw.old }
     ensures { Encodes (encode_questions t.variant) t raw.old result raw.new }
 {
-    let encoded = raw_trb_encoder::encode(t.variant, t.cycle_bit);
-    match encoded.answer {
-        Answer::Accepted => {
-            buffers::copy_into(raw, 0, &encoded.bytes);
+    match raw_trb_encoder::encode(t.variant, t.cycle_bit) {
+        Ok(bytes) => {
+            buffers::copy_into(raw, 0, &bytes);
             0
         }
-        Answer::Refused(refusal) => trb::refusal_number(refusal),
+        Err(refusal) => u8::from(refusal),
     }
 }
 
@@ -45,7 +44,7 @@ pub fn encode_trb(kind: u8, flags: u8, value: u64, transfer_length: u32, raw: &m
     ensures { Encodes (room_questions (numbered_trb kind flags value transfer_length) raw.old) (numbered_trb kind flags value transfer_length) raw.old result raw.new }
 {
     if raw.len() < RAW {
-        return trb::refusal_number(Refusal::BufferTooShort);
+        return u8::from(Refusal::BufferTooShort);
     }
     let t = held_bytes::trb_of(TrbNumbers {
         kind,

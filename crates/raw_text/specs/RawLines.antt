@@ -1,12 +1,11 @@
 -- 02, R-6: the answers of the program `raw_trbs`, a line each: a decoded TRB as a call script writes it, an encoded one as its bytes.
 -- `raw_limits` in src/lib.rt proves that the code's constant is the limit here. Assumes nothing.
-use Rattle.std.specs.Prelude.{ℕ, ◌+◌, ◌*◌, ◌^◌, Bool, false, cond, List, [], ◌∷◌, ◌++◌}
-use Rattle.trb.specs.declared.Answer.{Answer}
-use Rattle.trb.specs.declared.Answer.TheVariants.{Accepted, Refused}
+use Rattle.std.specs.Prelude.{ℕ, ◌+◌, ◌*◌, ◌^◌, Bool, false, cond, List, [], ◌∷◌, ◌++◌, Result, Err, Ok}
 use Rattle.trb.specs.declared.SetupStageTrb.{SetupStageTrb}
 use Rattle.trb.specs.declared.TransferTrbVariant.{TransferTrbVariant}
 use Rattle.trb.specs.declared.TransferTrbVariant.TheVariants.{SetupStage, DataStage, StatusStage, Normal, EventData, NoOp, Isoch, Unrecognized}
 use Rattle.trb.specs.Refusals.{refusal_number}
+use Rattle.trb.specs.declared.Refusal.{Refusal}
 use Rattle.numerals.specs.Digits.{hex_of, bytes_hex}
 use Rattle.numerals.specs.Widths.{hex_places}
 use Rattle.log_text.specs.Lines.{line_feed}
@@ -62,9 +61,9 @@ trb_line v c length = hex_of (kind_of v) ++ behind (hex_of (flags_of v c)) ++ be
 unfoldable pub bytes_line : List ℕ → List ℕ
 bytes_line bytes = bytes_hex bytes ++ (line_feed ∷ [])
 
-abbrev pub encoded_line : Answer → List ℕ → List ℕ
-encoded_line Accepted bytes = bytes_line bytes
-encoded_line (Refused q) bytes = refused_line (refusal_number q)
+abbrev pub encoded_line : Result (List ℕ) Refusal → List ℕ
+encoded_line (Ok bytes) = bytes_line bytes
+encoded_line (Err q) = refused_line (refusal_number q)
 
 -- four numbers, each with a space or a line feed behind it
 abbrev pub max_raw_answer : ℕ

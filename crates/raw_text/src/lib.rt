@@ -7,8 +7,8 @@ ghost use Rattle.numerals.specs.Written.{Written};
 ghost use Rattle.raw_text.specs.RawLines.{kind_of, flags_number, flags_of, setup_number, a_of, trb_line, bytes_line, encoded_line, max_raw_answer, raw_limits};
 ghost use Rattle.raw_text.specs.Flags.{Flag};
 
-use raw_trb::{DecodedTrb, EncodedTrb};
-use trb::{Answer, SetupStageTrb, TransferTrbVariant};
+use raw_trb::DecodedTrb;
+use trb::{Refusal, SetupStageTrb, TransferTrbVariant};
 
 // ---- Limits: the constant has this name here and one in specs/RawLines.antt; `raw_limits` ties the two.
 
@@ -178,12 +178,12 @@ fn put_bytes_line(text: &mut [u8], at: usize, bytes: [u8; 16]) -> usize
 }
 
 // Its 32 digits, or `no NUMBER`.
-pub fn put_encoded(text: &mut [u8], at: usize, encoded: EncodedTrb) -> usize
+pub fn put_encoded(text: &mut [u8], at: usize, encoded: Result<[u8; 16], Refusal>) -> usize
     requires { at + max_raw_answer ≤ length text.old }
-    ensures { Written max_raw_answer text.old at (encoded_line encoded.answer encoded.bytes) result text.new }
+    ensures { Written max_raw_answer text.old at (encoded_line encoded) result text.new }
 {
-    match encoded.answer {
-        Answer::Accepted => put_bytes_line(text, at, encoded.bytes),
-        Answer::Refused(refusal) => call_text::put_refused(text, at, trb::refusal_number(refusal)),
+    match encoded {
+        Ok(bytes) => put_bytes_line(text, at, bytes),
+        Err(refusal) => call_text::put_refused(text, at, u8::from(refusal)),
     }
 }

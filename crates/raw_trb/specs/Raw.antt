@@ -1,5 +1,5 @@
 -- 02, R-6: a transfer TRB from its 16 bytes, and back. Assumes nothing.
-use Rattle.std.specs.Prelude.{ℕ, ◌+◌, ◌*◌, ◌/◌, ◌%◌, ◌<◌, ◌^◌, Bool, true, false, cond, List, [], ◌∷◌, ◌≡◌, eqb, leb, replicate}
+use Rattle.std.specs.Prelude.{ℕ, ◌+◌, ◌*◌, ◌/◌, ◌%◌, ◌<◌, ◌^◌, Bool, true, false, cond, List, [], ◌∷◌, ◌≡◌, eqb, leb, Result, Err, Ok}
 use Rattle.trb.specs.declared.NormalTrb.{NormalTrb}
 use Rattle.trb.specs.declared.SetupStageTrb.{SetupStageTrb}
 use Rattle.trb.specs.declared.DataStageTrb.{DataStageTrb}
@@ -8,15 +8,14 @@ use Rattle.trb.specs.declared.EventDataTrb.{EventDataTrb}
 use Rattle.trb.specs.declared.NoOpTrb.{NoOpTrb}
 use Rattle.trb.specs.declared.TransferTrbVariant.{TransferTrbVariant}
 use Rattle.trb.specs.declared.TransferTrbVariant.TheVariants.{SetupStage, DataStage, StatusStage, Normal, EventData, NoOp, Isoch, Unrecognized}
-use Rattle.trb.specs.declared.Answer.TheVariants.{Accepted, Refused}
 use Rattle.trb.specs.declared.Refusal.{Refusal}
-use Rattle.trb.specs.Answers.{number_of, refusal_of}
+use Rattle.trb.specs.Answers.{refusal_of}
+use Rattle.trb.specs.Refusals.{refusal_number}
 use Rattle.trb.specs.Limits.{max_transfer_length}
 use Rattle.trb.specs.Questions.{first_no, after_questions}
 use Rattle.trb.specs.Trbs.{transfer_length}
 use Rattle.raw_trb.specs.declared.Dwords.{Dwords}
 use Rattle.raw_trb.specs.declared.DecodedTrb.{DecodedTrb}
-use Rattle.raw_trb.specs.declared.EncodedTrb.{EncodedTrb}
 use Rattle.raw_trb.specs.Fields.{Placed, ◌⇒◌, field_of, is_set, all_zero, bit_number, dwords_of, dwords_with, bytes_of}
 use Rattle.raw_trb.specs.Layouts.{cycle_bit, interrupt_on_short, chain_bit, interrupt_on_completion, immediate_data, trb_type, direction, pointer_low, pointer_high, trb_transfer_length, request_type, request_code, setup_value, setup_index, setup_length, normal_type, setup_stage_type, data_stage_type, status_stage_type, isoch_type, event_data_type, no_op_type, Row, reserved_of, normal_table, setup_stage_table, data_stage_table, status_stage_table, event_data_table, no_op_table}
 
@@ -138,19 +137,20 @@ has_fields Unrecognized = false
 unfoldable pub encoded_dwords : TransferTrbVariant → Bool → Dwords
 encoded_dwords v c = dwords_with (placed v c)
 
-abbrev pub accepted : Dwords → EncodedTrb
-accepted d = record { answer = Accepted; bytes = bytes_of d }
-
--- no bytes: sixteen zeros
-abbrev pub refused : Refusal → EncodedTrb
-refused q = record { answer = Refused q; bytes = replicate 16 0 }
+abbrev pub encoded_bytes : TransferTrbVariant → Bool → List ℕ
+encoded_bytes v c = bytes_of (encoded_dwords v c)
 
 -- 02, R-6: 23 to Isoch and Unrecognized, then 4 to a length above 131,071
 abbrev pub encode_questions : TransferTrbVariant → List (Bool × ℕ)
 encode_questions v = (has_fields v, 23) ∷ (leb (transfer_length v) max_transfer_length, 4) ∷ []
 
-abbrev pub encode_trb : TransferTrbVariant → Bool → EncodedTrb
-encode_trb v c = after_questions (encode_questions v) (λ n. refused (refusal_of n)) (accepted (encoded_dwords v c))
+abbrev pub encode_trb : TransferTrbVariant → Bool → Result (List ℕ) Refusal
+encode_trb v c = after_questions (encode_questions v) (λ n. Err (refusal_of n)) (Ok (encoded_bytes v c))
+
+-- the number of what the encoder answers
+abbrev pub encoding_number : Result (List ℕ) Refusal → ℕ
+encoding_number (Ok bytes) = 0
+encoding_number (Err q) = refusal_number q
 
 -- every number of the TRB fits its field's type in the code; the transfer length is asked by the encoder
 abbrev pub InRange : TransferTrbVariant → Type 0
@@ -169,7 +169,7 @@ pub record EncodedAs (v : TransferTrbVariant) (c : Bool) (d : Dwords) : Type 0 w
   pub range : InRange v
 
 -- what the encoder promises: the number of the first no, the definition's answer, and bytes that decode to the TRB and its cycle bit
-pub record Encodes (v : TransferTrbVariant) (c : Bool) (r : EncodedTrb) : Type 0 where
-  pub number : number_of r.answer ≡ first_no (encode_questions v)
+pub record Encodes (v : TransferTrbVariant) (c : Bool) (r : Result (List ℕ) Refusal) : Type 0 where
+  pub number : encoding_number r ≡ first_no (encode_questions v)
   pub encoded : r ≡ encode_trb v c
-  pub decodes : r.answer ≡ Accepted → decode_trb r.bytes ≡ record { variant = v; cycle_bit = c }
+  pub decodes : (bytes : List ℕ) → r ≡ Ok bytes → decode_trb bytes ≡ record { variant = v; cycle_bit = c }

@@ -2,7 +2,7 @@
 // decoded and encoded by them stand in specs/; `raw_trb_decoder` and `raw_trb_encoder` have the code.
 #![tactic(auto)]
 
-use trb::{Answer, TransferTrbVariant};
+use trb::TransferTrbVariant;
 
 // ---- TRB types by number (xHCI 1.2, table 6-91): constants and no enum, since a TRB comes with any number as its type, and each TRB would be matched
 // a second time to make the enum
@@ -35,11 +35,4 @@ pub struct Dwords {
 pub struct DecodedTrb {
     pub variant: TransferTrbVariant,
     pub cycle_bit: bool,
-}
-
-// The 16 bytes of a TRB; where it is refused, zeros. (An enum cannot hold them.)
-#[derive(Clone, Copy)]
-pub struct EncodedTrb {
-    pub answer: Answer,
-    pub bytes: [u8; 16],
 }

@@ -4,9 +4,9 @@
 ghost use Rattle.std.specs.Prelude.{◌≡◌, [], ◌<◌};
 ghost use Rattle.trb.specs.declared.TransferTrbVariant.TheVariants.{SetupStage, DataStage, StatusStage, Normal, EventData, NoOp};
 ghost use Rattle.raw_trb.specs.Fields.{dwords_with, bytes_of, control_dword};
-ghost use Rattle.raw_trb.specs.Raw.{has_fields, refused, EncodedAs, Encodes};
+ghost use Rattle.raw_trb.specs.Raw.{has_fields, EncodedAs, Encodes};
 
-use raw_trb::{Dwords, EncodedTrb};
+use raw_trb::Dwords;
 use trb::{
     Answer, DataStageTrb, EventDataTrb, NoOpTrb, NormalTrb, Refusal, SetupStageTrb, StatusStageTrb,
     TransferTrbVariant,
@@ -186,29 +186,16 @@ fn has_fields(variant: TransferTrbVariant) -> bool
     )
 }
 
-fn refused(refusal: Refusal) -> EncodedTrb
-    ensures { result ≡ refused refusal }
-{
-    EncodedTrb {
-        answer: Answer::Refused(refusal),
-        bytes: [0; 16],
-    }
-}
-
 // The 16 bytes of a TRB.
-pub fn encode(variant: TransferTrbVariant, cycle_bit: bool) -> EncodedTrb
+pub fn encode(variant: TransferTrbVariant, cycle_bit: bool) -> Result<[u8; 16], Refusal>
     ensures { Encodes variant cycle_bit result }
 {
-    if !has_fields(variant) {
-        return refused(Refusal::NotEncodable);
-    }
-    if trb::MAX_TRANSFER_LENGTH < trb::transfer_length(variant) {
-        return refused(Refusal::TransferTooLong);
-    }
-    EncodedTrb {
-        answer: Answer::Accepted,
-        bytes: bytes_of(encoded(variant, cycle_bit)),
-    }
+    trb::ask(has_fields(variant), Refusal::NotEncodable)?;
+    trb::ask(
+        trb::transfer_length(variant) <= trb::MAX_TRANSFER_LENGTH,
+        Refusal::TransferTooLong,
+    )?;
+    Ok(bytes_of(encoded(variant, cycle_bit)))
 }
 
 // The bytes of four dwords.

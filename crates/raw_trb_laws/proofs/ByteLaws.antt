@@ -1,9 +1,9 @@
 -- 16 bytes and their four dwords. Assumes nothing.
-use Prim.Native.Nat.{ℕ, ◌+◌, ◌*◌, ◌/◌, ◌%◌, ◌<◌, ◌≤◌, ◌^◌}
+use Prim.Native.Nat.{ℕ, ◌+◌, ◌<◌, ◌≤◌, ◌^◌}
 use mathlib.Core.List.{List, ◌++◌}
 use mathlib.Core.Path.{◌≡◌, sym, ap, ◌∙◌}
 use native.Mathlib.Omega.{arith}
-use lib.ListN.{length, take, drop, get_or, length-drop, take-append-drop}
+use lib.ListN.{length, take, drop, length-drop, take-append-drop}
 use lib.Seq.{drop-drop, take-length, length-take-le}
 use Rattle.buffers.specs.LittleEndian.{le_bytes, le_number, AllBytes}
 use Rattle.buffers.proofs.LittleEndianLaws.{le_bytes-le_number, le_number-lt, AllBytes-take, AllBytes-drop}

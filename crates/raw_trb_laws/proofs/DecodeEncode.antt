@@ -1,5 +1,6 @@
 -- 02, R-6: decoding an encoded TRB returns it and its cycle bit. Every field is found in the sum of the numbers that are set in its dword
 -- by linear arithmetic, a bit being at most 1. Assumes nothing.
+use Rattle.std.specs.Prelude.{Result, Ok, Err}
 use Prim.Native.Nat.{ℕ, ◌<◌, ◌≤◌, ◌^◌}
 use mathlib.Core.Bool.{Bool, true, cond, true≢false}
 use mathlib.Core.List.{List}
@@ -14,19 +15,17 @@ use Rattle.trb.specs.declared.EventDataTrb.{EventDataTrb}
 use Rattle.trb.specs.declared.NoOpTrb.{NoOpTrb}
 use Rattle.trb.specs.declared.TransferTrbVariant.{TransferTrbVariant}
 use Rattle.trb.specs.declared.TransferTrbVariant.TheVariants.{SetupStage, DataStage, StatusStage, Normal, EventData, NoOp, Isoch, Unrecognized}
-use Rattle.trb.specs.declared.Answer.TheVariants.{Refused}
 use Rattle.trb.specs.declared.Refusal.{Refusal}
-use Rattle.trb.specs.Answers.{number_of, refusal_of}
+use Rattle.trb.specs.Answers.{refusal_of}
 use Rattle.trb.specs.Limits.{max_transfer_length}
 use Rattle.trb.specs.Questions.{first_no}
 use Rattle.trb.specs.Refusals.{refusal_number}
 use Rattle.trb.specs.Trbs.{transfer_length}
 use Rattle.trb.proofs.AnswerLaws.{refusal_of-number, answered-no}
 use Rattle.raw_trb.specs.declared.Dwords.{Dwords}
-use Rattle.raw_trb.specs.declared.EncodedTrb.{EncodedTrb}
 use Rattle.raw_trb.specs.Fields.{field_of, is_set, bit_number, dwords_with, bytes_of}
 use Rattle.raw_trb.specs.Layouts.{Row, reserved_of, cycle_bit, interrupt_on_short, chain_bit, interrupt_on_completion, immediate_data, trb_type, direction, trb_transfer_length, request_type, request_code, setup_value, setup_index, setup_length, normal_type, setup_stage_type, data_stage_type, status_stage_type, event_data_type, no_op_type, normal_table, setup_stage_table, data_stage_table, status_stage_table, event_data_table, no_op_table}
-use Rattle.raw_trb.specs.Raw.{InRange, Encodes, has_fields, where_clear, pointer_of, of_type, variant_of, decode_trb, placed, encoded_dwords, accepted, refused, encode_questions, encode_trb}
+use Rattle.raw_trb.specs.Raw.{InRange, Encodes, has_fields, where_clear, pointer_of, of_type, variant_of, decode_trb, placed, encoded_dwords, encoded_bytes, encoding_number, encode_questions, encode_trb}
 use Rattle.raw_trb.proofs.DwordLaws.{Small, AllZero, bit-small, set-bit, all-zero, dwords_of-bytes_of}
 
 -- dwords of 32 bits that say the TRB v with the cycle bit c
@@ -170,24 +169,27 @@ decode-bytes_of d v c h =
 module _ (v : TransferTrbVariant) (c : Bool) where
   -- 02, R-6: decoding an encoded TRB returns it and its cycle bit when its length is at most 131,071
   pub decode-encode : InRange v → has_fields v ≡ true → transfer_length v ≤ max_transfer_length
-      → decode_trb (encode_trb v c).bytes ≡ record { variant = v; cycle_bit = c }
+      → (encode_trb v c ≡ Ok (encoded_bytes v c)) × (decode_trb (encoded_bytes v c) ≡ record { variant = v; cycle_bit = c })
   unfolding first_no
-  decode-encode r f l = rw (f, le-leb (transfer_length v) max_transfer_length l) (decode-bytes_of (encoded_dwords v c) v c (encoded-says v c r f l))
+  decode-encode r f l = (rw (f, le-leb (transfer_length v) max_transfer_length l), decode-bytes_of (encoded_dwords v c) v c (encoded-says v c r f l))
 
   -- what the encoder promises, by its questions: the TRB is taken, or refused with q
-  pub encodes-taken : {r : EncodedTrb} → InRange v → has_fields v ≡ true → transfer_length v ≤ max_transfer_length → r ≡ accepted (encoded_dwords v c) → Encodes v c r
+  pub encodes-taken : {r : Result (List ℕ) Refusal} → InRange v → has_fields v ≡ true → transfer_length v ≤ max_transfer_length → r ≡ Ok (encoded_bytes v c) → Encodes v c r
   unfolding first_no
   encodes-taken i f l e = record {
-    number = ap (λ (x : EncodedTrb). number_of x.answer) e ∙ rw (f, le-leb (transfer_length v) max_transfer_length l);
+    number = ap encoding_number e ∙ rw (f, le-leb (transfer_length v) max_transfer_length l);
     encoded = e ∙ rw (f, le-leb (transfer_length v) max_transfer_length l);
-    decodes = λ a. ap (λ (x : EncodedTrb). decode_trb x.bytes) e ∙ decode-bytes_of (encoded_dwords v c) v c (encoded-says v c i f l);
+    decodes = λ bytes is. ap decode_trb (taken-bytes (sym is ∙ e)) ∙ decode-bytes_of (encoded_dwords v c) v c (encoded-says v c i f l);
   }
+    where
+      taken-bytes : {a b : List ℕ} → ◌≡◌ {A = Result (List ℕ) Refusal} (Ok a) (Ok b) → a ≡ b
+      taken-bytes is = cc
 
-  pub encodes-refused : {r : EncodedTrb} {q : Refusal} → first_no (encode_questions v) ≡ refusal_number q → r ≡ refused q → Encodes v c r
+  pub encodes-refused : {r : Result (List ℕ) Refusal} {q : Refusal} → first_no (encode_questions v) ≡ refusal_number q → r ≡ Err q → Encodes v c r
   encodes-refused {r} {q} first e = record {
-    number = ap (λ (x : EncodedTrb). number_of x.answer) e ∙ sym first;
-    encoded = e ∙ sym (answered-no (encode_questions v) (λ n. refused (refusal_of n)) (accepted (encoded_dwords v c)) (Refused q) (sym first) refl ∙ ap refused (refusal_of-number q));
-    decodes = λ a. let p : r.answer ≡ Refused q = ap (λ (x : EncodedTrb). x.answer) e in let z : ◌≡◌ {A = ℕ} 0 1 = cc in absurd (no-sooner z);
+    number = ap encoding_number e ∙ sym first;
+    encoded = e ∙ sym (answered-no (encode_questions v) (λ n. Err (refusal_of n)) (Ok (encoded_bytes v c)) (Err q) (sym first) refl ∙ ap (λ (k : Refusal). Err k) (refusal_of-number q));
+    decodes = λ bytes is. let told : r ≡ Err q = e in let z : ◌≡◌ {A = ℕ} 0 1 = cc in absurd (no-sooner z);
   }
     where
       no-sooner : ◌≡◌ {A = ℕ} 0 1 → ⊥

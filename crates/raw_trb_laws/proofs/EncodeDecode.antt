@@ -1,5 +1,6 @@
 -- 02, R-6: encoding what 16 bytes decode to gives the bytes back, where the fields that the decoded form does not hold are zero. By the type's
 -- number, and then by whether the reserved bits are zero: the numbers that are set are those that the fields have, and these make the dwords. Assumes nothing.
+use Rattle.std.specs.Prelude.{Ok}
 use Prim.Native.Nat.{ℕ, ◌≤◌}
 use mathlib.Core.Bool.{Bool, true, false, cond}
 use mathlib.Core.List.{List, [], ◌∷◌, map}
@@ -9,14 +10,13 @@ use lib.Dec.{eqb}
 use lib.ListN.{length}
 use borrow.Author.Tests.{eqb-true, le-leb}
 use Rattle.buffers.specs.LittleEndian.{AllBytes}
-use Rattle.trb.specs.declared.Answer.TheVariants.{Accepted}
 use Rattle.trb.specs.declared.TransferTrbVariant.{TransferTrbVariant}
 use Rattle.trb.specs.declared.TransferTrbVariant.TheVariants.{SetupStage, DataStage, StatusStage, Normal, EventData, NoOp, Isoch, Unrecognized}
 use Rattle.trb.specs.Limits.{max_transfer_length}
 use Rattle.trb.specs.Questions.{first_no}
 use Rattle.trb.specs.Trbs.{transfer_length}
 use Rattle.raw_trb.specs.declared.Dwords.{Dwords}
-use Rattle.raw_trb.specs.Fields.{Placed, ◌⇒◌, field_of, is_set, all_zero, dwords_of, bytes_of}
+use Rattle.raw_trb.specs.Fields.{◌⇒◌, field_of, is_set, all_zero, dwords_of, bytes_of}
 use Rattle.raw_trb.specs.Layouts.{Row, reserved_of, unheld_of, set_of, tiles, pointer_low, pointer_high, request_type, request_code, setup_value, setup_index, setup_length, trb_transfer_length, cycle_bit, interrupt_on_short, chain_bit, interrupt_on_completion, immediate_data, trb_type, direction, normal_type, setup_stage_type, data_stage_type, status_stage_type, isoch_type, event_data_type, no_op_type, normal_table, setup_stage_table, data_stage_table, status_stage_table, event_data_table, no_op_table}
 use Rattle.raw_trb.specs.Raw.{has_fields, where_clear, of_type, variant_of, decode_trb, placed, encoded_dwords, encode_trb, normal_of, setup_stage_of, data_stage_of, status_stage_of, event_data_of, no_op_of}
 use Rattle.raw_trb.proofs.DwordLaws.{Small, AllZero, zero-all, number-of-set, pointer-low, pointer-high}
@@ -99,9 +99,9 @@ module _ (d : Dwords) (s : Small d) where
 
 -- 02, R-6: encoding what 16 bytes decode to gives the bytes back
 pub encode-decode : (l : List ℕ) → length l ≡ 16 → AllBytes l → Unheld (dwords_of l) (decode_trb l).variant
-    → encode_trb (decode_trb l).variant (decode_trb l).cycle_bit ≡ record { answer = Accepted; bytes = l }
+    → encode_trb (decode_trb l).variant (decode_trb l).cycle_bit ≡ Ok l
 unfolding first_no
 encode-decode l n h u =
     let b = said-back (dwords_of l) (dwords-small l n h) u in
     rw (b.fields, le-leb (transfer_length (decode_trb l).variant) max_transfer_length b.short)
-    (λ i. record { answer = Accepted; bytes = (ap bytes_of b.dwords ∙ bytes_of-dwords_of l n h) i })
+    (λ i. Ok ((ap bytes_of b.dwords ∙ bytes_of-dwords_of l n h) i))

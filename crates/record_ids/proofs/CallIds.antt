@@ -1,5 +1,6 @@
 -- Every record of every call has the ids of its endpoint: requests, writes and events, Success for the TRBs of a chain that is dropped, code 5, and what is told of a
 -- failed transfer; on both endpoints, single calls and rows. A no logs nothing. Assumes nothing.
+use Rattle.std.specs.Prelude.{Option}
 use Prim.Native.Nat.{ℕ}
 use mathlib.Core.Bool.{Bool, true, false, cond}
 use mathlib.Core.Path.{◌≡◌, refl}
@@ -9,7 +10,7 @@ use Rattle.trb.specs.Questions.{first_no, after_questions}
 use Rattle.trb.specs.declared.CompletionCode.TheVariants.{Success}
 use Rattle.trb.specs.declared.ControlRequestProcessingResult.{ControlRequestProcessingResult}
 use Rattle.trb.specs.declared.EndpointId.{EndpointId}
-use Rattle.trb.specs.declared.InTrbProcessingResult.{InTrbProcessingResult}
+use Rattle.trb.specs.declared.InTrbProcessingStatus.{InTrbProcessingStatus}
 use Rattle.trb.specs.declared.SlotId.{SlotId}
 use Rattle.trb.specs.declared.TransferTrb.{TransferTrb}
 use Rattle.call_log.specs.Calls.{Out}
@@ -92,21 +93,21 @@ module _ (b : InBlock) where
   ended-ids (Transfer st n) = process_td-ids b.endpoint_id b.slot_id n b.mode st (held_of b)
   ended-ids (ReportUnsupported a) = (refl, refl, tt)
 
-  pub completion-ids : (l : ℕ) (r : InTrbProcessingResult) (n : ℕ) → Own (completing.completion l b r n).records
+  pub completion-ids : (l : ℕ) (r : Option InTrbProcessingStatus) (n : ℕ) → Own (completing.completion l b r n).records
   unfolding completing.completion
   completion-ids l r n =
       after-ids b.endpoint_id b.slot_id (completion_questions l (facts_of b) r n) (completing.refused b) (completing.completed_as (ending_of b.state r n) b)
       (λ k. refl) (ended-ids (ending_of b.state r n))
 
   -- carried out at once
-  pub delivery-ids : (l : ℕ) (r : InTrbProcessingResult) (n : ℕ) (regions : Regions) → Own (delivering.delivery l b r n regions).records
+  pub delivery-ids : (l : ℕ) (r : Option InTrbProcessingStatus) (n : ℕ) (regions : Regions) → Own (delivering.delivery l b r n regions).records
   unfolding delivering.delivery
   delivery-ids l r n regions =
       after-ids b.endpoint_id b.slot_id (delivering.delivery_questions l b r n regions) (completing.refused b) (delivering.completed b r n)
       (λ k. refl) (ended-ids (ending_of b.state r n))
 
 -- the TD as a lent row
-pub lent-row-ids : (l : ℕ) (e : EndpointId) (s : SlotId) (mode : InMode) (ts : List TransferTrb) (r : InTrbProcessingResult) (n : ℕ)
+pub lent-row-ids : (l : ℕ) (e : EndpointId) (s : SlotId) (mode : InMode) (ts : List TransferTrb) (r : Option InTrbProcessingStatus) (n : ℕ)
     → AllOf e s (lent.row_completion l e s mode ts r n).records
 lent-row-ids l e s mode ts r n = completion-ids (lent.row_block e s mode ts) l r n
 
@@ -175,7 +176,7 @@ module _ (b : ControlBlock) where
   ending-ids (does.Fail c r) a = (refl, refl, tt)
   ending-ids (does.Realize input n) a = realize_chain-ids b.endpoint_id b.slot_id n input (held_control b)
 
-  pub control-completion-ids : (log : ℕ) (r : ControlRequestProcessingResult) (n : ℕ) → OwnControl (control_completing.completion log b r n).records
+  pub control-completion-ids : (log : ℕ) (r : Option ControlRequestProcessingResult) (n : ℕ) → OwnControl (control_completing.completion log b r n).records
   unfolding control_completing.completion control_completing.accepted
   control-completion-ids log r n =
       after-ids b.endpoint_id b.slot_id (asked.completion_questions log (control_facts b) r n) (control_completing.refused b)

@@ -1,5 +1,6 @@
 -- The promise of `complete_tds_and_carry_out`, over the contracts of `complete_tds` and `carry_out`: a no logs nothing, so nothing is written; behind a yes to every
 -- question carry-out accepts the row's log, and each TD's frame is delivered whole. Assumes nothing.
+use Rattle.std.specs.Prelude.{Err, Ok}
 use Prim.Native.Nat.{ℕ, ◌*◌, ◌≤◌}
 use mathlib.Core.Bool.{Bool, true, false, cond, true≢false}
 use mathlib.Core.Path.{◌≡◌, refl, sym, ap, ◌∙◌, subst}
@@ -12,10 +13,7 @@ use lib.ListN.{length, take, length-take}
 use Rattle.trb.specs.Answers.{completion_number}
 use Rattle.trb.specs.Limits.{record_length}
 use Rattle.trb.specs.Questions.{first_no}
-use Rattle.trb.specs.declared.Answer.{Answer}
-use Rattle.trb.specs.declared.Answer.TheVariants.{Accepted, Refused}
-use Rattle.trb.specs.declared.CompletionAnswer.{CompletionAnswer}
-use Rattle.trb.specs.declared.CompletionAnswer.TheVariants as answer
+use Rattle.trb.specs.Answers.{Answer, CompletionAnswer}
 use Rattle.trb.specs.declared.TransferTrb.{TransferTrb}
 use Rattle.call_log.specs.Calls.{Out}
 use Rattle.call_log.specs.Logs.{encode_all}
@@ -45,8 +43,8 @@ use Rattle.row_delivery.proofs.RowLaws.{started-delivered}
 
 -- a call that was accepted has the number 0
 accepted-number : (a : CompletionAnswer) → is_accepted a ≡ true → completion_number a ≡ 0
-accepted-number (answer.Completed r) h = refl
-accepted-number (answer.Refused q) h = absurd (true≢false (sym h))
+accepted-number (Ok r) h = refl
+accepted-number (Err q) h = absurd (true≢false (sym h))
 
 module _ (b : InBlock) (k : ℕ) (ts : List TransferTrb) (n : ℕ) (rs : List TdResult) (bytes l : List ℕ) (m : Memory) (r : TdsCompleted) (l' : List ℕ)
     (h : CompletesTds b k ts n rs (length bytes) (regions_of m) l r l') where
@@ -128,8 +126,8 @@ module _ (b : InBlock) (k : ℕ) (ts : List TransferTrb) (n : ℕ) (rs : List Td
     carried-no empty = carried.after ∙ ap (λ (log : List ℕ). memory_after a log bytes m) (stored ∙ ap encode_all empty) ∙ unchanged a ∙ ap (written bytes m) (sym empty)
       where
         unchanged : (a : Answer) → memory_after a (encode_all []) bytes m ≡ m
-        unchanged Accepted = refl
-        unchanged (Refused q) = refl
+        unchanged (Ok tt) = refl
+        unchanged (Err q) = refl
 
     carried-yes : is_accepted r.answer ≡ true → m' ≡ written bytes m called.records
     carried-yes accepts =

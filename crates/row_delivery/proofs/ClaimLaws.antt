@@ -1,10 +1,10 @@
 -- The test of specs/Claims.antt is true of every row that is delivered whole, where each TD keeps demand 3's conditions; so a torn one is not. Assumes nothing.
+use Rattle.std.specs.Prelude.{Ok}
 use Prim.Native.Nat.{ℕ, ◌+◌}
 use mathlib.Core.Bool.{true, false, false≢true}
 use mathlib.Core.Path.{◌≡◌, refl, sym, ◌∙◌}
 use mathlib.Core.List.{List, [], ◌∷◌}
 use lib.ListN.{length}
-use Rattle.trb.specs.declared.Answer.TheVariants.{Accepted}
 use Rattle.call_log.specs.declared.Record.{Record}
 use Rattle.guest_memory.specs.Places.{Memory}
 use Rattle.carry_out.specs.CarryOut.{memory_after, Carried}
@@ -21,7 +21,7 @@ EachFit [] = Unit {0}
 EachFit (x ∷ xs) = (Distinct x.trbs × (IspOnNormals x.trbs × LastNormalWithIoc x.trbs)) × EachFit xs
 
 module _ (bytes : List ℕ) (m : Memory) (log : List ℕ) where
-  same-carried : (l : List ℕ) (m' : Memory) → Carried l bytes m Accepted m' → same_memory (memory_after Accepted l bytes m) m' ≡ true
+  same-carried : (l : List ℕ) (m' : Memory) → Carried l bytes m (Ok tt) m' → same_memory (memory_after (Ok tt) l bytes m) m' ≡ true
   same-carried l m' c = rw (← c.after, same_bytes-refl m'.low, same_bytes-refl m'.high)
 
   pub whole-EachDelivered : (k start : ℕ) (left : Memory) (xs : List RowTd) (logs : List (List Record)) → EachFit xs → EachDelivered bytes m log k start left xs logs

@@ -1,5 +1,6 @@
 -- No torn frame, of a row. The account of each TD says that no write comes behind its event; the bytes of its writes are its part of the joined data, at its places;
 -- so carrying out the row's log up to that event, or to the end of the TD, lays the TD's frame on what the TDs ahead left. Assumes nothing.
+use Rattle.std.specs.Prelude.{Ok}
 use Prim.Native.Nat.{ℕ, suc, ◌+◌, ◌*◌, ◌≤◌}
 use mathlib.Core.Bool.{Bool, true, false, cond}
 use mathlib.Core.Path.{◌≡◌, refl, sym, ap, ◌∙◌, subst}
@@ -8,7 +9,6 @@ use native.Mathlib.Omega.{arith}
 use lib.ListN.{length, take, length-append}
 use lib.Seq.{take_all, take-append-add, take-append-le}
 use Rattle.trb.specs.Limits.{record_length}
-use Rattle.trb.specs.declared.Answer.TheVariants.{Accepted}
 use Rattle.trb.specs.declared.EndpointId.{EndpointId}
 use Rattle.trb.specs.declared.SlotId.{SlotId}
 use Rattle.trb.proofs.TestLaws.{and_left, and_right}
@@ -112,7 +112,7 @@ module _ (bytes : List ℕ) (m : Memory) (apart : share_an_address (regions_of m
   log = encode_all rs
 
   -- carry-out up to any record
-  carried : (k : ℕ) → Carried (first_records k log) bytes m Accepted (written bytes m (take k rs))
+  carried : (k : ℕ) → Carried (first_records k log) bytes m (Ok tt) (written bytes m (take k rs))
   carried k = carried_first bytes m apart k rs fits known inside
 
   -- one TD, behind the records `ahead`
@@ -147,10 +147,10 @@ module _ (bytes : List ℕ) (m : Memory) (apart : share_an_address (regions_of m
     delivered-td : AccountedTd start x own → DeliveredTd bytes m log (length ahead) start left x own
     delivered-td account = record {
       at_event = λ distinct isp last.
-          subst (Carried (first_records (length ahead + count_before own) log) bytes m Accepted)
+          subst (Carried (first_records (length ahead + count_before own) log) bytes m (Ok tt))
           (written-first (count_before own) (before-few own) ∙ written-before bytes left own (account distinct isp last).none_later ∙ framed)
           (carried (length ahead + count_before own));
-      at_end = subst (Carried (first_records (length ahead + length own) log) bytes m Accepted)
+      at_end = subst (Carried (first_records (length ahead + length own) log) bytes m (Ok tt))
           (written-first (length own) (omega arith) ∙ ap (written bytes left) (take_all (length own) own (omega arith)) ∙ framed)
           (carried (length ahead + length own));
       each = λ once i less. frame-each bytes left start x.given.length x.trbs (rw same places-inside) once i less;
@@ -196,8 +196,8 @@ module _ (bytes : List ℕ) (m : Memory) (apart : share_an_address (regions_of m
       split = records_of-encode_all rs fits ∙ split;
       count = count;
       at_events = each-delivered 0 [] xs logs split accounted placed;
-      at_end = subst (λ (l : List ℕ). Carried l bytes m Accepted (written bytes m rs)) (take_all (record_length * length rs) log (omega (arith, length-encode_all rs)))
-          (subst (λ (ss : List Record). Carried (first_records (length rs) log) bytes m Accepted (written bytes m ss)) (take_all (length rs) rs (omega arith)) (carried (length rs)));
+      at_end = subst (λ (l : List ℕ). Carried l bytes m (Ok tt) (written bytes m rs)) (take_all (record_length * length rs) log (omega (arith, length-encode_all rs)))
+          (subst (λ (ss : List Record). Carried (first_records (length rs) log) bytes m (Ok tt) (written bytes m ss)) (take_all (length rs) rs (omega arith)) (carried (length rs)));
       frames = subst (λ (k : ℕ). written bytes m rs ≡ frames_over bytes 0 (take k xs) m) count frames;
       each = λ once. rw (← count, frames) (frames-each bytes 0 (take (length logs) xs) m (each-inside 0 [] xs logs split placed) (rw (← count) at once));
       others = λ a none. rw frames (frames-unnamed bytes 0 (take (length logs) xs) m a (rw (← count) at none));

@@ -1,7 +1,6 @@
 -- No torn frame in a row, as a test that computes: guest memory at the event of each TD and at the end of its log, beside the frames that the device sent so far. Run
 -- on the logs of a row of two TDs over both regions, in either mode, and on logs of engines that would tear a frame. Assumes nothing.
-use Rattle.std.specs.Prelude.{ℕ, ◌+◌, ◌≡◌, refl, Bool, true, false, ◌&&◌, cond, List, [], ◌∷◌, ◌++◌, map, length, replicate}
-use Rattle.trb.specs.declared.Answer.TheVariants.{Accepted}
+use Rattle.std.specs.Prelude.{ℕ, ◌+◌, ◌≡◌, refl, Bool, true, false, ◌&&◌, cond, List, [], ◌∷◌, ◌++◌, map, length, replicate, Ok}
 use Rattle.trb.specs.declared.CompletionCode.TheVariants.{Success, ShortPacket}
 use Rattle.trb.specs.declared.EndpointId.{EndpointId}
 use Rattle.trb.specs.declared.InTrbProcessingStatus.{InTrbProcessingStatus}
@@ -35,8 +34,8 @@ unfoldable pub each_whole : List ℕ → Memory → List ℕ → ℕ → ℕ →
 each_whole bytes m log k start left xs [] = true
 each_whole bytes m log k start left [] (own ∷ logs) = false
 each_whole bytes m log k start left (x ∷ xs) (own ∷ logs) =
-    same_memory (memory_after Accepted (first_records (k + count_before own) log) bytes m) (frame_over bytes start x left)
-    && (same_memory (memory_after Accepted (first_records (k + length own) log) bytes m) (frame_over bytes start x left)
+    same_memory (memory_after (Ok tt) (first_records (k + count_before own) log) bytes m) (frame_over bytes start x left)
+    && (same_memory (memory_after (Ok tt) (first_records (k + length own) log) bytes m) (frame_over bytes start x left)
     && each_whole bytes m log (k + length own) (start + x.given.length) (frame_over bytes start x left) xs logs)
 
 -- ---- A row of two TDs

@@ -1,7 +1,6 @@
 -- No torn frame, of a row of TDs: what guest memory is at the event that the guest relies on in each TD that was started. Assumes nothing.
-use Rattle.std.specs.Prelude.{ℕ, ◌+◌, ◌*◌, ◌<◌, min, false, ◌≡◌, List, [], ◌∷◌, ◌++◌, length, take, get_or}
+use Rattle.std.specs.Prelude.{ℕ, ◌+◌, ◌*◌, ◌<◌, min, false, ◌≡◌, List, [], ◌∷◌, ◌++◌, length, take, get_or, Ok}
 use Rattle.trb.specs.Limits.{record_length}
-use Rattle.trb.specs.declared.Answer.TheVariants.{Accepted}
 use Rattle.call_log.specs.declared.Record.{Record}
 use Rattle.guest_memory.specs.Places.{Memory, regions_of}
 use Rattle.carry_out.specs.Writes.{records_of}
@@ -38,9 +37,9 @@ pub record DeliveredTd (bytes : List ℕ) (m : Memory) (log : List ℕ) (k start
   -- 00, demand 3's conditions: carry-out accepts the row's log up to the event that the guest relies on in this TD or, if there is none, up to its last event;
   -- then this TD's frame is laid on what the TDs ahead left
   pub at_event : Distinct x.trbs → IspOnNormals x.trbs → LastNormalWithIoc x.trbs
-      → Carried (first_records (k + count_before own) log) bytes m Accepted (frame_over bytes start x left)
+      → Carried (first_records (k + count_before own) log) bytes m (Ok tt) (frame_over bytes start x left)
   -- up to the end of this TD's log it leaves the same: what comes behind that event changes nothing
-  pub at_end : Carried (first_records (k + length own) log) bytes m Accepted (frame_over bytes start x left)
+  pub at_end : Carried (first_records (k + length own) log) bytes m (Ok tt) (frame_over bytes start x left)
   -- where the TD names no address twice, byte i is at place i
   pub each : NoneTwice (places_of x) → AtPlaces bytes (frame_over bytes start x left) start x
   -- every other byte is what the TDs ahead left
@@ -79,7 +78,7 @@ pub record RowDelivered (bytes : List ℕ) (m : Memory) (xs : List RowTd) (start
   -- at each TD's event, that TD's bytes are there
   pub at_events : EachDelivered bytes m log 0 0 m xs logs
   -- carry-out accepts the whole log, and leaves m'
-  pub at_end : Carried log bytes m Accepted m'
+  pub at_end : Carried log bytes m (Ok tt) m'
   -- m' is m with the frame of each TD that was started laid, one after the other
   pub frames : m' ≡ frames_over bytes 0 (take started xs) m
   -- where no address is named twice within the row, each TD's bytes are at their places to the end

@@ -1,11 +1,8 @@
 -- What the entry for a lent row does on its way: the questions, and the answer. Assumes nothing.
-use Rattle.std.specs.Prelude.{ℕ}
-use Rattle.trb.specs.Answers.{refusal_of}
+use Rattle.std.specs.Prelude.{ℕ, Err, None, Ok, Option, Some}
+use Rattle.trb.specs.Answers.{refusal_of, CompletionAnswer}
 use Rattle.trb.specs.Questions.{after_questions}
-use Rattle.trb.specs.declared.Answer.TheVariants.{Accepted, Refused}
 use Rattle.trb.specs.declared.EndpointId.{EndpointId}
-use Rattle.trb.specs.declared.InTrbProcessingResult.{InTrbProcessingResult}
-use Rattle.trb.specs.declared.InTrbProcessingResult.TheVariants.{NoneGiven, Given}
 use Rattle.trb.specs.declared.InTrbProcessingStatus.{InTrbProcessingStatus}
 use Rattle.trb.specs.declared.InTrbProcessingStatus.TheVariants.{Success}
 use Rattle.trb.specs.declared.SlotId.{SlotId}
@@ -17,7 +14,7 @@ use Rattle.in_endpoint.specs.Completion.{completion_answer}
 use Rattle.in_td.specs.Td.{in_td, unprocessed}
 use Rattle.in_td.specs.declared.InMode.{InMode}
 use Rattle.in_td.specs.declared.TdProcessed.{TdProcessed}
-use Rattle.row_plan.specs.declared.RowCompleted.{RowCompleted}
+use Rattle.trb.specs.declared.Logged.{Logged}
 use Rattle.row_plan.specs.declared.RowPlan.{RowPlan}
 
 -- ---- The questions
@@ -27,24 +24,24 @@ abbrev pub row_facts : EndpointId → SlotId → ℕ → HeldTest → BlockFacts
 row_facts e s k found = record { endpoint_id = e; slot_id = s; state = AwaitingRealTransfer; held = k; found = found }
 
 -- where no result is given, question 8 refuses the row
-abbrev pub status_of : InTrbProcessingResult → InTrbProcessingStatus
-status_of NoneGiven = Success
-status_of (Given st) = st
+abbrev pub status_of : Option InTrbProcessingStatus → InTrbProcessingStatus
+status_of None = Success
+status_of (Some st) = st
 
 -- nothing is walked
 abbrev pub refused_plan : EndpointId → SlotId → InMode → ℕ → RowPlan
-refused_plan e s mode n = record { asked = Refused (refusal_of n); td = in_td e s mode Success 0; start = unprocessed 0; count = 0 }
+refused_plan e s mode n = record { asked = Err (refusal_of n); td = in_td e s mode Success 0; start = unprocessed 0; count = 0 }
 
 -- every TRB of the row is walked
 abbrev pub accepted_plan : EndpointId → SlotId → InMode → ℕ → HeldTest → InTrbProcessingStatus → ℕ → RowPlan
-accepted_plan e s mode k found st n = record { asked = Accepted; td = in_td e s mode st n; start = unprocessed found.normals; count = k }
+accepted_plan e s mode k found st n = record { asked = Ok tt; td = in_td e s mode st n; start = unprocessed found.normals; count = k }
 
 -- with a log of l bytes, a row of k TRBs and n bytes of data
-unfoldable pub row_plan : ℕ → EndpointId → SlotId → InMode → ℕ → HeldTest → InTrbProcessingResult → ℕ → RowPlan
+unfoldable pub row_plan : ℕ → EndpointId → SlotId → InMode → ℕ → HeldTest → Option InTrbProcessingStatus → ℕ → RowPlan
 row_plan l e s mode k found r n =
     after_questions (completion_questions l (row_facts e s k found) r n) (refused_plan e s mode) (accepted_plan e s mode k found (status_of r) n)
 
 -- ---- The answer
 
-abbrev pub row_answer : RowPlan → TdProcessed → RowCompleted
+abbrev pub row_answer : RowPlan → TdProcessed → Logged CompletionAnswer
 row_answer plan p = record { answer = completion_answer plan.asked p.result; records = p.progress.records }

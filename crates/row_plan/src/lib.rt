@@ -7,15 +7,9 @@ ghost use Rattle.row_plan.specs.Plans.{status_of, row_plan, row_answer};
 use in_block::{BlockFacts, HeldTest};
 use in_td::{InMode, InTd, TdProcessed};
 use trb::{
-    Answer, CompletionAnswer, EndpointId, InTrbProcessingResult, InTrbProcessingStatus, SlotId,
+    Answer, CompletionAnswer, EndpointId, InTrbProcessingStatus, Logged, SlotId,
     TdBasedNormalSubmissionState,
 };
-
-#[derive(Clone, Copy)]
-pub struct RowCompleted {
-    pub answer: CompletionAnswer,
-    pub records: usize,
-}
 
 // What is to be done: how many TRBs of the row are walked, as which TD, and from which start.
 #[derive(Clone, Copy)]
@@ -27,12 +21,12 @@ pub struct RowPlan {
 }
 
 // The status of a device result; where none is given, question 8 refuses the row.
-fn status_of(res: InTrbProcessingResult) -> InTrbProcessingStatus
+fn status_of(res: Option<InTrbProcessingStatus>) -> InTrbProcessingStatus
     ensures { result ≡ status_of res }
 {
     match res {
-        InTrbProcessingResult::NoneGiven => InTrbProcessingStatus::Success,
-        InTrbProcessingResult::Given(status) => status,
+        None => InTrbProcessingStatus::Success,
+        Some(status) => status,
     }
 }
 
@@ -44,7 +38,7 @@ pub fn ask(
     mode: InMode,
     row_length: usize,
     found: HeldTest,
-    res: InTrbProcessingResult,
+    res: Option<InTrbProcessingStatus>,
     data_length: usize,
 ) -> RowPlan
     ensures { result ≡ row_plan log_length endpoint_id slot_id mode row_length found res data_length }
@@ -57,7 +51,7 @@ pub fn ask(
         found,
     };
     let asked = in_questions::ask_completion(log_length, facts, res, data_length);
-    if !trb::is_accepted(asked) {
+    if asked.is_err() {
         return RowPlan {
             asked,
             td: in_td::td_of(
@@ -86,10 +80,10 @@ pub fn ask(
 }
 
 // The answer: the refusal, or what the walk came to. (A row that is refused is not walked.)
-pub fn answer(plan: RowPlan, processed: TdProcessed) -> RowCompleted
+pub fn answer(plan: RowPlan, processed: TdProcessed) -> Logged<CompletionAnswer>
     ensures { result ≡ row_answer plan processed }
 {
-    RowCompleted {
+    Logged {
         answer: in_endpoint::completion_answer(plan.asked, processed.result),
         records: processed.progress.records,
     }

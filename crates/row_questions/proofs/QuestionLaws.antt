@@ -12,7 +12,7 @@ use Rattle.trb.specs.Answers.{number_of, is_accepted}
 use Rattle.trb.specs.Limits.{max_held, max_transfer_length, max_data, max_row, min_row_log}
 use Rattle.trb.specs.Questions.{first_no, after_questions, asked_if}
 use Rattle.trb.specs.Trbs.{transfer_length, immediate_of, chain_of}
-use Rattle.trb.specs.declared.Answer.{Answer}
+use Rattle.trb.specs.Answers.{Answer}
 use Rattle.trb.specs.declared.TransferTrb.{TransferTrb}
 use Rattle.trb.specs.declared.TransferTrbVariant.{TransferTrbVariant}
 use Rattle.trb.proofs.AnswerLaws.{answered-yes, answered-no}

@@ -1,4 +1,5 @@
 -- What the loop over a row finds is what the questions ask: each field of the test, TRB by TRB, is its question over the TDs. Assumes nothing.
+use Rattle.std.specs.Prelude.{Err, Ok}
 use Prim.Native.Nat.{ℕ, suc, ◌+◌, ◌*◌, ◌<◌, ◌≤◌, ◌^◌}
 use mathlib.Core.Path.{◌≡◌, refl, sym, ap, ◌∙◌}
 use mathlib.Core.Bool.{Bool, true, false, not, cond, ◌&&◌, ◌||◌, and_assoc, and-true, or_assoc, or-false, true≢false}
@@ -14,8 +15,7 @@ use Rattle.trb.specs.Answers.{number_of, is_accepted, refusal_of}
 use Rattle.trb.specs.Limits.{max_held, max_transfer_length}
 use Rattle.trb.specs.Questions.{first_no, after_questions, asked_if}
 use Rattle.trb.specs.Trbs.{transfer_length, immediate_of, chain_of}
-use Rattle.trb.specs.declared.Answer.{Answer}
-use Rattle.trb.specs.declared.Answer.TheVariants.{Accepted, Refused}
+use Rattle.trb.specs.Answers.{Answer}
 use Rattle.trb.specs.declared.TransferTrb.{TransferTrb}
 use Rattle.trb.proofs.AnswerLaws.{accepted-is, refused-is, answered-yes, answered-no}
 use Rattle.walks.specs.All.{all}
@@ -39,17 +39,17 @@ pub answered-is : (qs : List (Bool × ℕ)) (a : Answer) → number_of a ≡ fir
 unfolding answered
 answered-is qs a e = by_answer (is_accepted a) refl
   where
-    by_answer : (b : Bool) → is_accepted a ≡ b → a ≡ after_questions qs (λ n. Refused (refusal_of n)) Accepted
-    by_answer true h = accepted-is a h ∙ sym (answered-yes qs (λ n. Refused (refusal_of n)) Accepted a e h)
-    by_answer false h = sym (refused-is a h) ∙ sym (answered-no qs (λ n. Refused (refusal_of n)) Accepted a e h)
+    by_answer : (b : Bool) → is_accepted a ≡ b → a ≡ after_questions qs (λ n. Err (refusal_of n)) (Ok tt)
+    by_answer true h = accepted-is a h ∙ sym (answered-yes qs (λ n. Err (refusal_of n)) (Ok tt) a e h)
+    by_answer false h = sym (refused-is a h) ∙ sym (answered-no qs (λ n. Err (refusal_of n)) (Ok tt) a e h)
 
 -- a no stands; behind a yes these questions are asked
 pub also-yes : (a : Answer) (qs : List (Bool × ℕ)) → is_accepted a ≡ true → asked_also a qs ≡ answered qs
 also-yes a qs h = ap (λ (x : Answer). asked_also x qs) (accepted-is a h)
 
 pub also-no : (a : Answer) (qs : List (Bool × ℕ)) → is_accepted a ≡ false → asked_also a qs ≡ a
-also-no Accepted qs h = absurd (true≢false h)
-also-no (Refused r) qs h = refl
+also-no (Ok tt) qs h = absurd (true≢false h)
+also-no (Err r) qs h = refl
 
 -- ---- The loop
 
@@ -135,13 +135,13 @@ module _ (regions : Regions) (rs : List TdResult) where
 
   number_by : (a : Answer) (p q r x : Bool) (rest : List (Bool × ℕ)) → let qs : List (Bool × ℕ) = (p, 4) ∷ (q, 21) ∷ (r, 5) ∷ (x, 6) ∷ [] in
       cond (is_accepted (asked_also a qs)) (first_no rest) (number_of (asked_also a qs)) ≡ cond (is_accepted a) (first_no (qs ++ rest)) (number_of a)
-  number_by Accepted p q r x rest = first_by p q r x rest
-  number_by (Refused n) p q r x rest = refl
+  number_by (Ok tt) p q r x rest = first_by p q r x rest
+  number_by (Err n) p q r x rest = refl
 
   none-by : (a : Answer) → number_of a ≡ cond (is_accepted a) (first_no []) (number_of a)
   unfolding first_no
-  none-by Accepted = refl
-  none-by (Refused r) = refl
+  none-by (Ok tt) = refl
+  none-by (Err r) = refl
 
   pub found_number : (a : RowTest) (ts : List TransferTrb) → number_of (found a ts).asked ≡ cond (is_accepted a.asked) (first_no (each_trb regions a.held ts)) (number_of a.asked)
   unfolding tested_row each_trb

@@ -1,11 +1,10 @@
 -- What one loop over a row finds, and the questions over it. `QuestionLaws` proves that these are the questions of the row. Assumes nothing.
-use Rattle.std.specs.Prelude.{ℕ, ◌+◌, Bool, true, false, not, cond, ◌&&◌, ◌||◌, List, [], ◌∷◌, leb, eqb, get_or}
+use Rattle.std.specs.Prelude.{ℕ, ◌+◌, Bool, true, false, not, cond, ◌&&◌, ◌||◌, List, [], ◌∷◌, leb, eqb, get_or, Err, Ok}
 use Rattle.trb.specs.Answers.{number_of, is_accepted, refusal_of}
 use Rattle.trb.specs.Limits.{max_data, max_row, min_row_log}
 use Rattle.trb.specs.Questions.{after_questions}
 use Rattle.trb.specs.Trbs.{chain_of}
-use Rattle.trb.specs.declared.Answer.{Answer}
-use Rattle.trb.specs.declared.Answer.TheVariants.{Accepted, Refused}
+use Rattle.trb.specs.Answers.{Answer}
 use Rattle.trb.specs.declared.TransferTrb.{TransferTrb}
 use Rattle.guest_memory.specs.declared.Regions.{Regions}
 use Rattle.guest_memory.specs.Regions.{share_an_address}
@@ -20,16 +19,16 @@ use Rattle.row_questions.specs.Questions.{in_supported, may_be_given, row_due}
 
 -- the answer to these questions
 unfoldable pub answered : List (Bool × ℕ) → Answer
-answered qs = after_questions qs (λ n. Refused (refusal_of n)) Accepted
+answered qs = after_questions qs (λ n. Err (refusal_of n)) (Ok tt)
 
 -- a no that was found before stands
 abbrev pub asked_also : Answer → List (Bool × ℕ) → Answer
-asked_also Accepted qs = answered qs
-asked_also (Refused r) qs = Refused r
+asked_also (Ok tt) qs = answered qs
+asked_also (Err r) qs = Err r
 
 -- before the first TRB
 abbrev pub untested : RowTest
-untested = record { asked = Accepted; held = 0; supported = true; tds = 0; has_normal = false; given_rightly = true; given = 0 }
+untested = record { asked = Ok tt; held = 0; supported = true; tds = 0; has_normal = false; given_rightly = true; given = 0 }
 
 -- with one TRB more, and the result of the TD that it ends, if it ends one
 abbrev pub tested_trb : Regions → RowTest → TransferTrb → TdResult → RowTest

@@ -6,7 +6,7 @@ ghost use Rattle.trb.specs.Answers.{number_of};
 ghost use Rattle.trb.specs.Limits.{max_row};
 ghost use Rattle.trb.specs.Questions.{first_no};
 ghost use Rattle.in_questions.specs.Questions.{trb_questions};
-ghost use Rattle.row_questions.specs.Questions.{is_success, may_be_given, row_due};
+ghost use Rattle.row_questions.specs.Questions.{may_be_given, row_due};
 ghost use Rattle.row_questions.specs.Tests.{asked_also, untested, tested_trb, shaped_as, asked_as};
 
 use guest_memory::Regions;
@@ -40,7 +40,7 @@ pub fn untested() -> RowTest
     ensures { result ≡ untested }
 {
     RowTest {
-        asked: Answer::Accepted,
+        asked: Ok(()),
         held: 0,
         supported: true,
         tds: 0,
@@ -50,17 +50,11 @@ pub fn untested() -> RowTest
     }
 }
 
-fn is_success(status: InTrbProcessingStatus) -> bool
-    ensures { result ≡ is_success status }
-{
-    matches!(status, InTrbProcessingStatus::Success)
-}
-
 // May a TD, with a Normal or without, be given this?
 fn may_be_given(normal: bool, given: TdResult) -> bool
     ensures { result ≡ may_be_given normal given }
 {
-    normal || is_success(given.status) && given.length == 0
+    normal || (matches!(given.status, InTrbProcessingStatus::Success) && given.length == 0)
 }
 
 // The no that was found before, or the answer to questions 4, 21, 5 and 6 of a TRB behind `held` others of its TD.
@@ -68,11 +62,8 @@ fn ask_also(asked: Answer, held: usize, variant: TransferTrbVariant, regions: Re
     requires { held ≤ max_row }
     ensures { result ≡ asked_also asked (trb_questions held variant regions) }
 {
-    if trb::is_accepted(asked) {
-        in_questions::ask_of_trb(held, variant, regions)
-    } else {
-        asked
-    }
+    asked?;
+    in_questions::ask_of_trb(held, variant, regions)
 }
 
 // With one TRB more, and what was given for the TD that it ends, if it ends one.
@@ -80,10 +71,11 @@ pub fn test_trb(test: RowTest, t: TransferTrb, given: TdResult, regions: Regions
     requires { (test.held ≤ max_row) × ((test.tds ≤ max_row) × (test.given ≤ max_row * 2 ^ 32)) }
     ensures { (result ≡ tested_trb regions test t given) × (result.given ≤ test.given + 2 ^ 32) }
 {
-    let asked = ask_also(test.asked, test.held, t.variant, regions);
-    let supported = test.supported && held::supports(EndpointKind::In, t.variant);
-    let has_normal = test.has_normal || in_block::is_normal(t.variant);
-    if trb::chain_of(t.variant) {
+    let variant = t.variant;
+    let asked = ask_also(test.asked, test.held, variant, regions);
+    let supported = test.supported && held::supports(EndpointKind::In, variant);
+    let has_normal = test.has_normal || in_block::is_normal(variant);
+    if trb::chain_of(variant) {
         return RowTest {
             asked,
             held: test.held + 1,
@@ -99,7 +91,7 @@ pub fn test_trb(test: RowTest, t: TransferTrb, given: TdResult, regions: Regions
         tds: test.tds + 1,
         has_normal: false,
         given_rightly: test.given_rightly && may_be_given(has_normal, given),
-        given: test.given + given.length as u64,
+        given: test.given + (given.length as u64),
     }
 }
 
@@ -124,6 +116,7 @@ fn is_due(facts: BlockFacts) -> bool
 
 // Questions 1, 13, 2, 3, 15, then 4, 21, 5 and 6 TRB by TRB, last 9: of a row of `count` TRBs, of which this was found, with so many results
 // and so many bytes of data.
+#[tactic(auto, unfolding(trb::specs::Questions::first_no, crate::specs::Tests::asked_as))]
 pub fn ask_row(
     log_length: usize,
     regions: Regions,
@@ -135,26 +128,17 @@ pub fn ask_row(
 ) -> Answer
     ensures { number_of result ≡ first_no (asked_as log_length regions facts count test tds data_length) }
 {
-    if log_length < trb::MIN_ROW_LOG {
-        return Answer::Refused(Refusal::BufferTooShort);
-    }
-    if guest_memory::share_an_address(regions) {
-        return Answer::Refused(Refusal::RegionsOverlap);
-    }
-    if !in_block::is_sound(facts) {
-        return Answer::Refused(Refusal::UnsoundBlock);
-    }
-    if !is_due(facts) {
-        return Answer::Refused(Refusal::OutOfTurn);
-    }
-    if !is_shaped(count, test, tds, data_length) {
-        return Answer::Refused(Refusal::MalformedRow);
-    }
-    if !trb::is_accepted(test.asked) {
-        return test.asked;
-    }
-    if trb::MAX_DATA < data_length {
-        return Answer::Refused(Refusal::DataTooLong);
-    }
-    Answer::Accepted
+    trb::ask(trb::MIN_ROW_LOG <= log_length, Refusal::BufferTooShort)?;
+    trb::ask(
+        !guest_memory::share_an_address(regions),
+        Refusal::RegionsOverlap,
+    )?;
+    trb::ask(in_block::is_sound(facts), Refusal::UnsoundBlock)?;
+    trb::ask(is_due(facts), Refusal::OutOfTurn)?;
+    trb::ask(
+        is_shaped(count, test, tds, data_length),
+        Refusal::MalformedRow,
+    )?;
+    test.asked?;
+    trb::ask(data_length <= trb::MAX_DATA, Refusal::DataTooLong)
 }

@@ -168,9 +168,8 @@ pub fn walk_row(
         let mut more = true;
         while more {
             let t = row[end];
-            let variant = t.variant;
             asked = asked_more(asked, t);
-            more = trb::chain_of(variant);
+            more = trb::chain_of(t.variant);
             end += 1;
         }
         let head = row[first];
@@ -185,8 +184,7 @@ pub fn walk_row(
             let t = row[at];
             processed = in_turn::process_trb(log, td, processed, t);
             j += 1;
-            let result = processed.result;
-            if in_td::is_error(result) {
+            if in_td::is_error(processed.result) {
                 so_far = td_done(so_far, given, processed);
                 break 'row;
             }

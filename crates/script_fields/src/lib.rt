@@ -36,6 +36,7 @@ pub fn read_fields(line: &[u8]) -> Option<Fields>
         count: 0,
         numbers: [0; MAX_NUMBERS],
     };
+    // A number ends where its digits do: each turn goes on behind the last.
     while let Some((space, behind)) = rest.split_first() {
         if *space != b' ' || fields.count == MAX_NUMBERS {
             return None;

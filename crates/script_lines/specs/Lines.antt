@@ -1,5 +1,5 @@
 -- The lines of an input, and the bytes of an unfinished one. Assumes nothing.
-use Rattle.std.specs.Prelude.{ℕ, ◌+◌, ◌-◌, ◌^◌, ◌<◌, ◌≤◌, min, ◌≡◌, Bool, cond, List, [], ◌∷◌, ◌++◌, eqb, leb, length, take, drop, codes, decimal, Option}
+use Rattle.std.specs.Prelude.{ℕ, ◌+◌, ◌-◌, ◌^◌, ◌≤◌, min, ◌≡◌, Bool, cond, List, [], ◌∷◌, ◌++◌, eqb, leb, length, take, drop, codes, decimal, Option}
 use Rattle.std.specs.Io.KnownBytes.{Appends}
 use Rattle.numerals.specs.Widths.{hex_places}
 use Rattle.call_number.specs.RawBytes.{raw_places}
@@ -36,11 +36,6 @@ pub record ReadBehind (n r : ℕ) (l l' : List ℕ) : Type 0 where
 -- a number of lines, or where 64 bits do not hold it, their largest number
 abbrev pub counted : ℕ → ℕ
 counted n = min n (2 ^ 64 - 1)
-
--- of a loop that goes on, or does not, so many turns are left
-pub record TurnsLeft (turns : ℕ) (more : Bool) (r : ℕ) : Type 0 where
-  pub left : r ≡ cond more (turns - 1) 0
-  pub less : r < turns
 
 -- behind a text of n characters, in a buffer of so many, an answer of at most so many starts at r: behind it, or anew where there may be no room
 pub record MakesRoom (size n most r : ℕ) : Type 0 where

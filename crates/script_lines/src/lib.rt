@@ -4,7 +4,7 @@
 ghost use Rattle.std.specs.Prelude.{◌≡◌, ◌+◌, ◌-◌, ◌≤◌, ◌<◌, min, not, eqb, [], ◌++◌, length, take, drop, IfOk, OnOk};
 ghost use Rattle.std.specs.List.{take_while};
 ghost use Rattle.std.specs.Io.KnownBytes.{Appends, Consumes, IsAtEnd};
-ghost use Rattle.script_lines.specs.Lines.{max_line, line_feed, LineEnd, MovedToFront, ReadBehind, MakesRoom, KeepsText, bad_line_text, counted, TurnsLeft};
+ghost use Rattle.script_lines.specs.Lines.{max_line, line_feed, LineEnd, MovedToFront, ReadBehind, MakesRoom, KeepsText, bad_line_text, counted};
 ghost use Rattle.script_lines.specs.Steps.{no_line, at_end, Refills, refill_bytes, step_of, step_bytes, NextLine};
 
 use std::io;
@@ -168,14 +168,6 @@ pub fn next_line<R: Read>(
     }
     let refilled = refill(reader, input, from, filled)?;
     Ok(step_of(refilled))
-}
-
-// A proved loop has to end, and nothing says that the input does: so a loop over lines counts its turns down, from a number that no run uses up.
-pub fn turns_left(turns: u64, more: bool) -> u64
-    requires { 0 < turns }
-    ensures { TurnsLeft turns more result }
-{
-    if more { turns - 1 } else { 0 }
 }
 
 // ---- Text out

@@ -37,53 +37,40 @@ pub fn take_lines(
     ensures { TakesLines «data».now input.now from (state_of session log.old collect.old low.old high.old) result text.new (state_of result.session log.new collect.new low.new high.new) }
 {
     let room = text.len() - state_text::MAX_ANSWER;
-    let mut reached = session;
-    let mut next = from;
-    let mut lines: usize = 0;
-    let mut end: usize = 0;
-    let mut good = true;
-    while good {
-        let stop = script_lines::line_end(input, next);
+    let mut taken = Taken {
+        session,
+        next: from,
+        lines: 0,
+        end: 0,
+        good: true,
+    };
+    // A line ends where its line feed is, and a bad one ends the run.
+    while taken.good {
+        let stop = script_lines::line_end(input, taken.next);
         if input.len() <= stop {
-            return Taken {
-                session: reached,
-                next: next,
-                lines: lines,
-                end: end,
-                good: good,
-            };
+            return taken;
         }
-        if room < end {
-            return Taken {
-                session: reached,
-                next: next,
-                lines: lines,
-                end: end,
-                good: good,
-            };
+        if room < taken.end {
+            return taken;
         }
         let ran = script_run::take_line(
             text,
-            end,
-            reached,
-            &input[next..stop],
+            taken.end,
+            taken.session,
+            &input[taken.next..stop],
             log,
             collect,
             data,
             low,
             high,
         );
-        reached = ran.session;
-        next = stop + 1;
-        lines += 1;
-        end = ran.end;
-        good = ran.good;
+        taken = Taken {
+            session: ran.session,
+            next: stop + 1,
+            lines: taken.lines + 1,
+            end: ran.end,
+            good: ran.good,
+        };
     }
-    Taken {
-        session: reached,
-        next: next,
-        lines: lines,
-        end: end,
-        good: good,
-    }
+    taken
 }

@@ -36,6 +36,15 @@ pub fn take_line(
     requires log_len_bound { length log.old ≤ min_row_log }
     ensures { TakesLine «data».now line.now (state_of session log.old collect.old low.old high.old) text.old at result text.new (state_of result.session log.new collect.new low.new high.new) }
 {
-    let call = read_line(line);
-    session_calls::run_call(text, at, session, call, log, collect, data, low, high)
+    session_calls::run_call(
+        text,
+        at,
+        session,
+        read_line(line),
+        log,
+        collect,
+        data,
+        low,
+        high,
+    )
 }

@@ -1,5 +1,5 @@
 -- What a call script says from line to line, and each change of it. Assumes nothing.
-use Rattle.std.specs.Prelude.{ℕ, Bool, true, false, List, replicate}
+use Rattle.std.specs.Prelude.{ℕ, Bool, true, false, List, replicate, None, Option, Some}
 use Rattle.trb.specs.Limits.{max_row, max_collected}
 use Rattle.trb.specs.declared.InTrbProcessingStatus.TheVariants.{Success}
 use Rattle.trb.specs.declared.TransferTrb.{TransferTrb}
@@ -12,11 +12,10 @@ use Rattle.control_block.specs.declared.ControlBlock.{ControlBlock}
 use Rattle.control_block.specs.declared.GuestRelease.TheVariants.{Release4}
 use Rattle.row_walk.specs.declared.TdResult.{TdResult}
 use Rattle.call_script.specs.Limits.{max_lent_log}
-use Rattle.in_calls.specs.declared.InRan.{InRan}
-use Rattle.control_calls.specs.declared.ControlRan.{ControlRan}
+use Rattle.call_answer.specs.declared.EndpointRan.{EndpointRan}
 use Rattle.lent_calls.specs.declared.Lent.{Lent}
-use Rattle.session.specs.declared.Endpoint.{Endpoint}
-use Rattle.session.specs.declared.Endpoint.TheVariants.{Nothing, In, Control}
+use Rattle.held.specs.declared.EndpointKind.{EndpointKind}
+use Rattle.held.specs.declared.EndpointKind.TheVariants.{In, Control}
 use Rattle.session.specs.declared.Ran.{Ran}
 use Rattle.session.specs.declared.Session.{Session}
 
@@ -30,7 +29,7 @@ first_length = 0x40000
 -- docs/CALLS.md: at the start `w 8000 40000` and `b c000 ffff`. There is no endpoint, and no row is written down
 abbrev pub new_session : Session
 new_session = record {
-  endpoint = Nothing;
+  endpoint = None;
   in_block = fresh_block (record { 0 = 0 }) (record { 0 = 0 }) AsPorted;
   control_block = fresh_control_block (record { 0 = 0 }) (record { 0 = 0 }) Release4;
   low_base = first_base;
@@ -45,15 +44,15 @@ new_session = record {
   result_count = 0;
 }
 
-abbrev pub is_in_endpoint : Endpoint → Bool
-is_in_endpoint Nothing = false
-is_in_endpoint In = true
-is_in_endpoint Control = false
+abbrev pub is_in_endpoint : Option EndpointKind → Bool
+is_in_endpoint None = false
+is_in_endpoint (Some In) = true
+is_in_endpoint (Some Control) = false
 
 -- ---- Each change
 
 -- another endpoint, or another block of it
-abbrev pub with_endpoint : Session → Endpoint → InBlock → ControlBlock → Session
+abbrev pub with_endpoint : Session → Option EndpointKind → InBlock → ControlBlock → Session
 with_endpoint s e a b = record {
   endpoint = e;
   in_block = a;
@@ -72,11 +71,11 @@ with_endpoint s e a b = record {
 
 -- calls are made on an IN endpoint with this block
 abbrev pub with_in_block : Session → InBlock → Session
-with_in_block s b = with_endpoint s In b s.control_block
+with_in_block s b = with_endpoint s (Some In) b s.control_block
 
 -- calls are made on a control endpoint with this block
 abbrev pub with_control_block : Session → ControlBlock → Session
-with_control_block s b = with_endpoint s Control s.in_block b
+with_control_block s b = with_endpoint s (Some Control) s.in_block b
 
 -- other regions, by base and length
 abbrev pub with_regions : Session → ℕ → ℕ → ℕ → ℕ → Session
@@ -166,8 +165,8 @@ abbrev pub quiet_ran : Quiet → ℕ → Ran
 quiet_ran o at = record { session = o.session; end = at; records = 0; good = o.good }
 
 -- what a call on an endpoint left
-abbrev pub in_ran : Session → InRan → Ran
+abbrev pub in_ran : Session → EndpointRan InBlock → Ran
 in_ran s r = record { session = with_in_block s r.block; end = r.end; records = r.records; good = r.good }
 
-abbrev pub control_ran : Session → ControlRan → Ran
+abbrev pub control_ran : Session → EndpointRan ControlBlock → Ran
 control_ran s r = record { session = with_control_block s r.block; end = r.end; records = r.records; good = r.good }

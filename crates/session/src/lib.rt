@@ -4,10 +4,10 @@
 ghost use Rattle.std.specs.Prelude.{◌≡◌};
 ghost use Rattle.session.specs.Sessions.{new_session, is_in_endpoint, with_in_block, with_control_block, without_row, lent_of, quiet_ran, bad_quiet, good_quiet, in_ran, control_ran};
 
+use call_answer::EndpointRan;
 use control_block::{ControlBlock, GuestRelease};
-use control_calls::ControlRan;
+use held::EndpointKind;
 use in_block::InBlock;
-use in_calls::InRan;
 use in_td::InMode;
 use lent_calls::Lent;
 use row_walk::TdResult;
@@ -18,19 +18,12 @@ pub const FIRST_BASE: u64 = 0x8000;
 
 pub const FIRST_LENGTH: usize = 0x40000;
 
-// Which endpoint calls are made on.
-#[derive(Clone, Copy)]
-pub enum Endpoint {
-    Nothing,
-    In,
-    Control,
-}
-
 // What a script has come to. The row that is being written down has one TRB or result more than the places at most: what is behind the
 // places is counted, not kept, since such a row is refused.
 #[derive(Clone, Copy)]
 pub struct Session {
-    pub endpoint: Endpoint,
+    // Calls are made on an endpoint of this kind, if on any.
+    pub endpoint: Option<EndpointKind>,
     pub in_block: InBlock,
     pub control_block: ControlBlock,
     pub low_base: u64,
@@ -58,41 +51,33 @@ pub struct Ran {
 pub fn new_session() -> Session
     ensures { result ≡ new_session }
 {
-    let in_block = in_block::fresh(EndpointId(0), SlotId(0), InMode::AsPorted);
-    let control_block = control_block::fresh(EndpointId(0), SlotId(0), GuestRelease::Release4);
     let blank = held::blank();
     let nothing = TdResult {
         status: InTrbProcessingStatus::Success,
         length: 0,
     };
-    let row = [blank; trb::MAX_ROW];
-    let results = [nothing; trb::MAX_ROW];
     Session {
-        endpoint: Endpoint::Nothing,
-        in_block: in_block,
-        control_block: control_block,
+        endpoint: None,
+        in_block: in_block::fresh(EndpointId(0), SlotId(0), InMode::AsPorted),
+        control_block: control_block::fresh(EndpointId(0), SlotId(0), GuestRelease::Release4),
         low_base: FIRST_BASE,
         low_length: FIRST_LENGTH,
         high_base: 0,
         high_length: 0,
         log_length: call_script::MAX_LENT_LOG,
         collect_length: trb::MAX_COLLECTED,
-        row: row,
+        row: [blank; trb::MAX_ROW],
         row_count: 0,
-        results: results,
+        results: [nothing; trb::MAX_ROW],
         result_count: 0,
     }
 }
 
 // Are calls made on an IN endpoint?
-pub fn is_in(endpoint: Endpoint) -> bool
+pub fn is_in(endpoint: Option<EndpointKind>) -> bool
     ensures { result ≡ is_in_endpoint endpoint }
 {
-    match endpoint {
-        Endpoint::Nothing => false,
-        Endpoint::In => true,
-        Endpoint::Control => false,
-    }
+    matches!(endpoint, Some(EndpointKind::In))
 }
 
 // A bad line: nothing is done and nothing printed.
@@ -100,7 +85,7 @@ pub fn bad(session: Session, at: usize) -> Ran
     ensures { result ≡ quiet_ran (bad_quiet session) at }
 {
     Ran {
-        session: session,
+        session,
         end: at,
         records: 0,
         good: false,
@@ -112,7 +97,7 @@ pub fn silent(session: Session, at: usize) -> Ran
     ensures { result ≡ quiet_ran (good_quiet session) at }
 {
     Ran {
-        session: session,
+        session,
         end: at,
         records: 0,
         good: true,
@@ -120,30 +105,15 @@ pub fn silent(session: Session, at: usize) -> Ran
 }
 
 // What a call on an IN endpoint leaves, which calls are made on from here on.
-pub fn after_in(session: Session, ran: InRan) -> Ran
+pub fn after_in(session: Session, ran: EndpointRan<InBlock>) -> Ran
     ensures { result ≡ in_ran session ran }
 {
-    let in_block = ran.block;
-    let control_block = session.control_block;
-    let row = session.row;
-    let results = session.results;
-    let next = Session {
-        endpoint: Endpoint::In,
-        in_block: in_block,
-        control_block: control_block,
-        low_base: session.low_base,
-        low_length: session.low_length,
-        high_base: session.high_base,
-        high_length: session.high_length,
-        log_length: session.log_length,
-        collect_length: session.collect_length,
-        row: row,
-        row_count: session.row_count,
-        results: results,
-        result_count: session.result_count,
-    };
     Ran {
-        session: next,
+        session: Session {
+            endpoint: Some(EndpointKind::In),
+            in_block: ran.block,
+            ..session
+        },
         end: ran.end,
         records: ran.records,
         good: ran.good,
@@ -151,30 +121,15 @@ pub fn after_in(session: Session, ran: InRan) -> Ran
 }
 
 // What a call on a control endpoint leaves, likewise.
-pub fn after_control(session: Session, ran: ControlRan) -> Ran
+pub fn after_control(session: Session, ran: EndpointRan<ControlBlock>) -> Ran
     ensures { result ≡ control_ran session ran }
 {
-    let in_block = session.in_block;
-    let control_block = ran.block;
-    let row = session.row;
-    let results = session.results;
-    let next = Session {
-        endpoint: Endpoint::Control,
-        in_block: in_block,
-        control_block: control_block,
-        low_base: session.low_base,
-        low_length: session.low_length,
-        high_base: session.high_base,
-        high_length: session.high_length,
-        log_length: session.log_length,
-        collect_length: session.collect_length,
-        row: row,
-        row_count: session.row_count,
-        results: results,
-        result_count: session.result_count,
-    };
     Ran {
-        session: next,
+        session: Session {
+            endpoint: Some(EndpointKind::Control),
+            control_block: ran.block,
+            ..session
+        },
         end: ran.end,
         records: ran.records,
         good: ran.good,

@@ -1,4 +1,5 @@
 -- What each kind of line promises, from what its callee promises. Assumes nothing.
+use Rattle.std.specs.Prelude.{None, Option, Some}
 use Prim.Native.Nat.{ℕ}
 use mathlib.Core.Path.{◌≡◌, refl, sym, subst}
 use mathlib.Core.List.{List}
@@ -11,17 +12,16 @@ use Rattle.in_td.specs.declared.InMode.{InMode}
 use Rattle.in_block.specs.declared.InBlock.{InBlock}
 use Rattle.control_block.specs.declared.ControlBlock.{ControlBlock}
 use Rattle.control_block.specs.declared.GuestRelease.{GuestRelease}
-use Rattle.call_answer.specs.Called.{Called}
+use Rattle.call_answer.specs.Called.{Called, Says}
 use Rattle.call_script.specs.declared.Call.{Call}
-use Rattle.in_calls.specs.Calls.{in_call, row_call, create_call, Says}
-use Rattle.in_calls.specs.declared.InRan.{InRan}
-use Rattle.control_calls.specs.Calls.{control_call, collect_behind, create_call as create_control_call, Says as ControlSays}
-use Rattle.control_calls.specs.declared.ControlRan.{ControlRan}
+use Rattle.in_calls.specs.Calls.{in_call, row_call, create_call}
+use Rattle.call_answer.specs.declared.EndpointRan.{EndpointRan}
+use Rattle.control_calls.specs.Calls.{control_call, collect_behind, create_call as create_control_call}
 use Rattle.lent_calls.specs.Lent.{lent_memory, RunsLent, RunsControlLent}
 use Rattle.lent_calls.specs.declared.Lent.{Lent}
 use Rattle.session.specs.Sessions.{Quiet, bad_quiet, quiet_ran, in_ran, control_ran, with_in_block, with_control_block, without_row, lent_of}
-use Rattle.session.specs.declared.Endpoint.{Endpoint}
-use Rattle.session.specs.declared.Endpoint.TheVariants.{Nothing, In, Control}
+use Rattle.held.specs.declared.EndpointKind.{EndpointKind}
+use Rattle.held.specs.declared.EndpointKind.TheVariants.{In, Control}
 use Rattle.session.specs.declared.Ran.{Ran}
 use Rattle.session.specs.declared.Session.{Session}
 use Rattle.session_lines.specs.Lines.{MovesWindow}
@@ -50,7 +50,7 @@ module _ {r : Ran} (s : State) (t : List ℕ) (at : ℕ) where
 -- ---- Calls on an endpoint, made on the session x, with what s lends
 
 module _ (s : State) (x : Session) {r : Ran} {t t' log' low' high' : List ℕ} {at : ℕ} where
-  called-in : {o : Called InBlock} {ran : InRan} → RunsLent o (lent_of s.session) t at ran t' s.log log' s.low low' s.high high' → r ≡ in_ran x ran
+  called-in : {o : Called InBlock} {ran : EndpointRan InBlock} → RunsLent o (lent_of s.session) t at ran t' s.log log' s.low low' s.high high' → r ≡ in_ran x ran
       → Answers (saying o.said (called_state s (with_in_block x o.said.block) o s.collect)) t at r t' (state_of r.session log' s.collect low' high')
   called-in run e = rw e (record {
     state = rw (run.says.block, run.leaves.log, run.leaves.low, run.leaves.high);
@@ -59,7 +59,7 @@ module _ (s : State) (x : Session) {r : Ran} {t t' log' low' high' : List ℕ} {
     text = run.says.text;
   })
 
-  called-control : {o : Called ControlBlock} {collect collect' : List ℕ} {ran : ControlRan}
+  called-control : {o : Called ControlBlock} {collect collect' : List ℕ} {ran : EndpointRan ControlBlock}
       → RunsControlLent o collect (lent_of s.session) t at ran t' s.log log' collect' s.low low' s.high high' → r ≡ control_ran x ran
       → Answers (saying o.said (called_state s (with_control_block x o.said.block) o collect)) t at r t' (state_of r.session log' collect' low' high')
   called-control run e = rw e (record {
@@ -70,7 +70,7 @@ module _ (s : State) (x : Session) {r : Ran} {t t' log' low' high' : List ℕ} {
   })
 
 module _ (x : Session) (log collect low high : List ℕ) {l : Lent} {t t' log' low' high' : List ℕ} {at : ℕ} {r : Ran} (lent : l ≡ lent_of x) where
-  pub answers-in : {ran : InRan} (bytes : List ℕ) (c : Call)
+  pub answers-in : {ran : EndpointRan InBlock} (bytes : List ℕ) (c : Call)
       → RunsLent (in_call x.in_block c bytes (take l.log log) (lent_memory l low high)) l t at ran t' log log' low low' high high' → r ≡ in_ran x ran
       → Answers (in_answer bytes (state_of x log collect low high) c) t at r t' (state_of r.session log' collect low' high')
   unfolding in_answer
@@ -80,7 +80,7 @@ module _ (x : Session) (log collect low high : List ℕ) {l : Lent} {t t' log' l
       (λ (y : Lent). RunsLent (in_call x.in_block c bytes (take y.log log) (lent_memory y low high)) y t at ran t' log log' low low' high high')
       lent run) e
 
-  pub answers-row : {ran : InRan} {y : Session} (bytes : List ℕ) (n : ℕ)
+  pub answers-row : {ran : EndpointRan InBlock} {y : Session} (bytes : List ℕ) (n : ℕ)
       → RunsLent (row_call x.in_block x.row x.row_count x.results x.result_count (take n bytes) (take l.log log) (lent_memory l low high))
       l t at ran t' log log' low low' high high' → y ≡ without_row x → r ≡ in_ran y ran
       → Answers (row_answer bytes (state_of x log collect low high) n) t at r t' (state_of r.session log' collect low' high')
@@ -93,7 +93,7 @@ module _ (x : Session) (log collect low high : List ℕ) {l : Lent} {t t' log' l
       lent run)
       (subst (λ (z : Session). r ≡ in_ran z ran) emptied e)
 
-  pub answers-control : {ran : ControlRan} {collect' : List ℕ} (bytes : List ℕ) (c : Call)
+  pub answers-control : {ran : EndpointRan ControlBlock} {collect' : List ℕ} (bytes : List ℕ) (c : Call)
       → RunsControlLent (control_call x.control_block c bytes l.collect collect (take l.log log) (lent_memory l low high))
       (collect_behind x.control_block c l.collect collect (take l.log log) (lent_memory l low high)) l t at ran t' log log' collect' low low' high high'
       → r ≡ control_ran x ran
@@ -107,42 +107,42 @@ module _ (x : Session) (log collect low high : List ℕ) {l : Lent} {t t' log' l
       lent run) e
 
 -- on the endpoint that there is
-module _ {e : Endpoint} (bytes : List ℕ) (s : State) where
+module _ {e : Option EndpointKind} (bytes : List ℕ) (s : State) where
   module _ (c : Call) where
-    pub answer-nowhere : e ≡ Nothing → endpoint_answer e bytes s c ≡ quietly s (bad_quiet s.session)
+    pub answer-nowhere : e ≡ None → endpoint_answer e bytes s c ≡ quietly s (bad_quiet s.session)
     unfolding endpoint_answer
     answer-nowhere h = rw h
 
-    pub answer-in : e ≡ In → endpoint_answer e bytes s c ≡ in_answer bytes s c
+    pub answer-in : e ≡ Some In → endpoint_answer e bytes s c ≡ in_answer bytes s c
     unfolding endpoint_answer
     answer-in h = rw h
 
-    pub answer-control : e ≡ Control → endpoint_answer e bytes s c ≡ control_answer bytes s c
+    pub answer-control : e ≡ Some Control → endpoint_answer e bytes s c ≡ control_answer bytes s c
     unfolding endpoint_answer
     answer-control h = rw h
 
   module _ (n : ℕ) where
-    pub row-nowhere : e ≡ Nothing → endpoint_row_answer e bytes s n ≡ quietly s (bad_quiet s.session)
+    pub row-nowhere : e ≡ None → endpoint_row_answer e bytes s n ≡ quietly s (bad_quiet s.session)
     unfolding endpoint_row_answer
     row-nowhere h = rw h
 
-    pub row_in : e ≡ In → endpoint_row_answer e bytes s n ≡ row_answer bytes s n
+    pub row_in : e ≡ Some In → endpoint_row_answer e bytes s n ≡ row_answer bytes s n
     unfolding endpoint_row_answer
     row_in h = rw h
 
-    pub row-control : e ≡ Control → endpoint_row_answer e bytes s n ≡ quietly s (bad_quiet s.session)
+    pub row-control : e ≡ Some Control → endpoint_row_answer e bytes s n ≡ quietly s (bad_quiet s.session)
     unfolding endpoint_row_answer
     row-control h = rw h
 
 -- ---- Creation
 
 module _ (x : Session) {y : Session} (log collect low high : List ℕ) {t t' : List ℕ} {at : ℕ} {r : Ran} (emptied : y ≡ without_row x) (e : EndpointId) (i : SlotId) where
-  pub answers-in-creation : {ran : InRan} (mode : InMode) → Says (create_call e i mode) t at ran t' → r ≡ in_ran y ran
+  pub answers-in-creation : {ran : EndpointRan InBlock} (mode : InMode) → Says (create_call e i mode) t at ran t' → r ≡ in_ran y ran
       → Answers (in_creation (state_of x log collect low high) e i mode) t at r t' (state_of r.session log collect low high)
   unfolding in_creation
   answers-in-creation mode says made = rw (made, emptied) (record { state = rw says.block; records = says.records; good = says.good; text = says.text })
 
-  pub answers-control-creation : {ran : ControlRan} (release : GuestRelease) → ControlSays (create_control_call e i release collect) t at ran t' → r ≡ control_ran y ran
+  pub answers-control-creation : {ran : EndpointRan ControlBlock} (release : GuestRelease) → Says (create_control_call e i release collect) t at ran t' → r ≡ control_ran y ran
       → Answers (control_creation (state_of x log collect low high) e i release) t at r t' (state_of r.session log collect low high)
   unfolding control_creation
   answers-control-creation release says made = rw (made, emptied) (record { state = rw says.block; records = says.records; good = says.good; text = says.text })

@@ -1,5 +1,5 @@
 -- What a call makes of a script's state, and what it prints. Assumes nothing.
-use Rattle.std.specs.Prelude.{ℕ, ◌≡◌, Bool, true, List, [], take}
+use Rattle.std.specs.Prelude.{ℕ, ◌≡◌, Bool, true, List, [], take, None, Option, Some}
 use Rattle.trb.specs.declared.EndpointId.{EndpointId}
 use Rattle.trb.specs.declared.SlotId.{SlotId}
 use Rattle.guest_memory.specs.Places.{Memory}
@@ -14,8 +14,8 @@ use Rattle.in_calls.specs.Calls.{in_call, row_call, create_call}
 use Rattle.control_calls.specs.Calls.{control_call, collect_behind, create_call as create_control_call}
 use Rattle.lent_calls.specs.Lent.{lent_memory, behind_lent}
 use Rattle.session.specs.Sessions.{Quiet, bad_quiet, good_quiet, with_in_block, with_control_block, with_lengths, without_row, lent_of}
-use Rattle.session.specs.declared.Endpoint.{Endpoint}
-use Rattle.session.specs.declared.Endpoint.TheVariants.{Nothing, In, Control}
+use Rattle.held.specs.declared.EndpointKind.{EndpointKind}
+use Rattle.held.specs.declared.EndpointKind.TheVariants.{In, Control}
 use Rattle.session.specs.declared.Ran.{Ran}
 use Rattle.session.specs.declared.Session.{Session}
 use Rattle.session_lines.specs.Lines.{region_filled, window_moved, append_trb, append_result}
@@ -86,16 +86,16 @@ control_answer bytes s c =
     (called_state s (with_control_block s.session o.said.block) o (collect_behind b c n s.collect (lent_log s) (memory_of_state s)))
 
 -- before the first creation a call is a bad line
-unfoldable pub endpoint_answer : Endpoint → List ℕ → State → Call → Answer
-endpoint_answer Nothing bytes s c = quietly s (bad_quiet s.session)
-endpoint_answer In bytes s c = in_answer bytes s c
-endpoint_answer Control bytes s c = control_answer bytes s c
+unfoldable pub endpoint_answer : Option EndpointKind → List ℕ → State → Call → Answer
+endpoint_answer None bytes s c = quietly s (bad_quiet s.session)
+endpoint_answer (Some In) bytes s c = in_answer bytes s c
+endpoint_answer (Some Control) bytes s c = control_answer bytes s c
 
 -- so is a row on control
-unfoldable pub endpoint_row_answer : Endpoint → List ℕ → State → ℕ → Answer
-endpoint_row_answer Nothing bytes s n = quietly s (bad_quiet s.session)
-endpoint_row_answer In bytes s n = row_answer bytes s n
-endpoint_row_answer Control bytes s n = quietly s (bad_quiet s.session)
+unfoldable pub endpoint_row_answer : Option EndpointKind → List ℕ → State → ℕ → Answer
+endpoint_row_answer None bytes s n = quietly s (bad_quiet s.session)
+endpoint_row_answer (Some In) bytes s n = row_answer bytes s n
+endpoint_row_answer (Some Control) bytes s n = quietly s (bad_quiet s.session)
 
 -- ---- Creation: it takes the place of the endpoint there was, and empties the row written down; guest memory stays
 

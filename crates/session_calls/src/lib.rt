@@ -8,9 +8,10 @@ ghost use Rattle.session_calls.specs.Answers.{state_of, in_answer, control_answe
 
 use call_script::Call;
 use control_block::GuestRelease;
+use held::EndpointKind;
 use in_td::InMode;
 use row_walk::TdResult;
-use session::{Endpoint, Ran, Session};
+use session::{Ran, Session};
 use trb::{EndpointId, SlotId};
 
 // A call on an IN endpoint. It does not touch the collect buffer.
@@ -28,12 +29,11 @@ fn run_in(
     requires log_len_bound { length log.old ≤ min_row_log }
     ensures { (collect : List ℕ) → Answers (in_answer «data».now (state_of session log.old collect low.old high.old) call) text.old at result text.new (state_of result.session log.new collect low.new high.new) }
 {
-    let block = session.in_block;
     let ran = lent_calls::run_in(
         text,
         at,
         session::lent_of(session),
-        block,
+        session.in_block,
         call,
         log,
         data,
@@ -58,17 +58,14 @@ fn run_row(
     requires log_len_bound { length log.old ≤ min_row_log }
     ensures { (collect : List ℕ) → Answers (row_answer «data».now (state_of session log.old collect low.old high.old) bytes) text.old at result text.new (state_of result.session log.new collect low.new high.new) }
 {
-    let block = session.in_block;
-    let row = session.row;
-    let results = session.results;
     let ran = lent_calls::run_row(
         text,
         at,
         session::lent_of(session),
-        block,
-        row,
+        session.in_block,
+        session.row,
         session.row_count,
-        results,
+        session.results,
         session.result_count,
         bytes,
         log,
@@ -95,12 +92,11 @@ fn run_control(
     requires log_len_bound { length log.old ≤ min_row_log }
     ensures { Answers (control_answer «data».now (state_of session log.old collect.old low.old high.old) call) text.old at result text.new (state_of result.session log.new collect.new low.new high.new) }
 {
-    let block = session.control_block;
     let ran = lent_calls::run_control(
         text,
         at,
         session::lent_of(session),
-        block,
+        session.control_block,
         call,
         log,
         collect,
@@ -127,11 +123,14 @@ fn run_on_endpoint(
     requires log_len_bound { length log.old ≤ min_row_log }
     ensures { Answers (endpoint_answer session.endpoint «data».now (state_of session log.old collect.old low.old high.old) call) text.old at result text.new (state_of result.session log.new collect.new low.new high.new) }
 {
-    let endpoint = session.endpoint;
+    let Some(endpoint) = session.endpoint else {
+        return session::bad(session, at);
+    };
     match endpoint {
-        Endpoint::Nothing => session::bad(session, at),
-        Endpoint::In => run_in(text, at, session, call, log, data, low, high),
-        Endpoint::Control => run_control(text, at, session, call, log, collect, data, low, high),
+        EndpointKind::In => run_in(text, at, session, call, log, data, low, high),
+        EndpointKind::Control => run_control(
+            text, at, session, call, log, collect, data, low, high,
+        ),
     }
 }
 
@@ -150,11 +149,12 @@ fn run_row_on_endpoint(
     requires log_len_bound { length log.old ≤ min_row_log }
     ensures { (collect : List ℕ) → Answers (endpoint_row_answer session.endpoint «data».now (state_of session log.old collect low.old high.old) bytes) text.old at result text.new (state_of result.session log.new collect low.new high.new) }
 {
-    let endpoint = session.endpoint;
+    let Some(endpoint) = session.endpoint else {
+        return session::bad(session, at);
+    };
     match endpoint {
-        Endpoint::Nothing => session::bad(session, at),
-        Endpoint::In => run_row(text, at, session, bytes, log, data, low, high),
-        Endpoint::Control => session::bad(session, at),
+        EndpointKind::In => run_row(text, at, session, bytes, log, data, low, high),
+        EndpointKind::Control => session::bad(session, at),
     }
 }
 
@@ -247,11 +247,7 @@ pub fn run_call(
         ),
         Call::AppendTrb(t) => session_lines::append_trb(session, at, t),
         Call::AppendResult(status, length) => {
-            let given = TdResult {
-                status: status,
-                length: length,
-            };
-            session_lines::append_result(session, at, given)
+            session_lines::append_result(session, at, TdResult { status, length })
         }
         Call::CompleteRow(length) => run_row_on_endpoint(
             text, at, session, length, log, data, low, high,

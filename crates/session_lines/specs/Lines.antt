@@ -1,12 +1,12 @@
 -- The lines of a call script that print nothing. Assumes nothing.
-use Rattle.std.specs.Prelude.{ℕ, ◌+◌, min, ◌≡◌, Bool, ◌&&◌, cond, List, leb, length, set}
+use Rattle.std.specs.Prelude.{ℕ, ◌+◌, min, ◌≡◌, Bool, ◌&&◌, cond, List, leb, length, set, Option}
 use Rattle.trb.specs.Limits.{max_row}
 use Rattle.trb.specs.declared.TransferTrb.{TransferTrb}
 use Rattle.row_walk.specs.declared.TdResult.{TdResult}
 use Rattle.script_bytes.specs.Bytes.{guest_bytes}
 use Rattle.lent_calls.specs.Lent.{behind_lent}
 use Rattle.session.specs.Sessions.{Quiet, bad_quiet, good_quiet, quiet_ran, is_in_endpoint, with_regions, with_row}
-use Rattle.session.specs.declared.Endpoint.{Endpoint}
+use Rattle.held.specs.declared.EndpointKind.{EndpointKind}
 use Rattle.session.specs.declared.Ran.{Ran}
 use Rattle.session.specs.declared.Session.{Session}
 
@@ -38,7 +38,7 @@ pub record MovesWindow (s : Session) (at low_base low_length high_base high_leng
 -- ---- `q` and `e`: the row that is being written down
 
 -- a row, of which there is so much, may have one more than its places; on an IN endpoint alone
-abbrev pub may_append : Endpoint → ℕ → Bool
+abbrev pub may_append : Option EndpointKind → ℕ → Bool
 may_append e n = leb n max_row && is_in_endpoint e
 
 -- what stands behind the places is counted, not kept

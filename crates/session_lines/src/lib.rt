@@ -16,7 +16,7 @@ use trb::TransferTrb;
 fn fill_region(memory: &mut [u8], base: u64, length: usize) -> usize
     ensures { FillsRegion base length result memory.old memory.new }
 {
-    let end = call_script::least(length, memory.len());
+    let end = length.min(memory.len());
     script_bytes::fill_guest(&mut memory[..end], base);
     end
 }
@@ -36,11 +36,13 @@ pub fn move_window(
 {
     let low_end = fill_region(low, low_base, low_length);
     let high_end = fill_region(high, high_base, high_length);
-    let mut next = session;
-    next.low_base = low_base;
-    next.low_length = low_end;
-    next.high_base = high_base;
-    next.high_length = high_end;
+    let next = Session {
+        low_base,
+        low_length: low_end,
+        high_base,
+        high_length: high_end,
+        ..session
+    };
     session::silent(next, at)
 }
 
@@ -48,9 +50,11 @@ pub fn move_window(
 pub fn lend_buffers(session: Session, at: usize, log_length: usize, collect_length: usize) -> Ran
     ensures { result ≡ quiet_ran (good_quiet (with_lengths session log_length collect_length)) at }
 {
-    let mut next = session;
-    next.log_length = log_length;
-    next.collect_length = collect_length;
+    let next = Session {
+        log_length,
+        collect_length,
+        ..session
+    };
     session::silent(next, at)
 }
 
@@ -64,22 +68,18 @@ fn with_trb(session: Session, t: TransferTrb) -> Session
     let place = session.row_count;
     let mut next = session;
     next.row_count = place + 1;
-    if trb::MAX_ROW <= place {
-        return next;
+    if place < trb::MAX_ROW {
+        next.row[place] = t;
     }
-    next.row[place] = t;
     next
 }
 
 // `q`: the TRB goes to the row's end.
+#[tactic(auto, unfolding(crate::specs::Lines::append_trb))]
 pub fn append_trb(session: Session, at: usize, t: TransferTrb) -> Ran
     ensures { result ≡ quiet_ran (append_trb session t) at }
 {
-    if trb::MAX_ROW < session.row_count {
-        return session::bad(session, at);
-    }
-    let endpoint = session.endpoint;
-    if !session::is_in(endpoint) {
+    if trb::MAX_ROW < session.row_count || !session::is_in(session.endpoint) {
         return session::bad(session, at);
     }
     session::silent(with_trb(session, t), at)
@@ -93,22 +93,18 @@ fn with_result(session: Session, given: TdResult) -> Session
     let place = session.result_count;
     let mut next = session;
     next.result_count = place + 1;
-    if trb::MAX_ROW <= place {
-        return next;
+    if place < trb::MAX_ROW {
+        next.results[place] = given;
     }
-    next.results[place] = given;
     next
 }
 
 // `e`: the device result of the row's next TD.
+#[tactic(auto, unfolding(crate::specs::Lines::append_result))]
 pub fn append_result(session: Session, at: usize, given: TdResult) -> Ran
     ensures { result ≡ quiet_ran (append_result session given) at }
 {
-    if trb::MAX_ROW < session.result_count {
-        return session::bad(session, at);
-    }
-    let endpoint = session.endpoint;
-    if !session::is_in(endpoint) {
+    if trb::MAX_ROW < session.result_count || !session::is_in(session.endpoint) {
         return session::bad(session, at);
     }
     session::silent(with_result(session, given), at)

@@ -15,7 +15,7 @@ fn refused(refusal: Refusal) -> Answered
     ensures { result ≡ record { number = refusal_number refusal; count = 0 } }
 {
     Answered {
-        number: trb::refusal_number(refusal) as u32,
+        number: u8::from(refusal) as u32,
         count: 0,
     }
 }
@@ -27,7 +27,7 @@ pub fn check(log: &[u8]) -> u32
     if log_check::well_formed(log) {
         0
     } else {
-        trb::refusal_number(Refusal::MalformedLog) as u32
+        u8::from(Refusal::MalformedLog) as u32
     }
 }
 

@@ -1,4 +1,5 @@
 -- The entry for a lent row answers as completion does for a block that holds the row and awaits the device. Assumes nothing.
+use Rattle.std.specs.Prelude.{None, Option, Some}
 use Prim.Native.Nat.{ℕ, ◌≤◌}
 use mathlib.Core.Path.{◌≡◌, refl, sym, ap, ◌∙◌, subst}
 use mathlib.Core.Bool.{Bool, true, false, true≢false}
@@ -8,12 +9,11 @@ use lib.Dec.{leb, eqb}
 use lib.ListN.{length, take, replicate}
 use lib.Seq.{take-length, take-take, take-append_seam}
 use borrow.Author.Tests.{leb-true, eqb-true}
-use Rattle.trb.specs.Answers.{completion_number}
+use Rattle.trb.specs.Answers.{completion_number, CompletionAnswer}
 use Rattle.trb.specs.Limits.{max_held}
 use Rattle.trb.specs.Questions.{first_no, agree}
 use Rattle.trb.specs.declared.EndpointId.{EndpointId}
-use Rattle.trb.specs.declared.InTrbProcessingResult.{InTrbProcessingResult}
-use Rattle.trb.specs.declared.InTrbProcessingResult.TheVariants.{NoneGiven, Given}
+use Rattle.trb.specs.declared.InTrbProcessingStatus.{InTrbProcessingStatus}
 use Rattle.trb.specs.declared.SlotId.{SlotId}
 use Rattle.trb.specs.declared.TdBasedNormalSubmissionState.TheVariants.{AwaitingRealTransfer}
 use Rattle.trb.specs.declared.TransferTrb.{TransferTrb}
@@ -36,11 +36,11 @@ use Rattle.in_block.proofs.TestLaws.{all-counted}
 use Rattle.in_questions.specs.Questions.{is_given, completion_questions}
 use Rattle.in_questions.proofs.PassedLaws.{PassedCompletion, passed-completion}
 use Rattle.in_endpoint.specs.Completion.{transferred, completed_as, completion, is_accepted}
-use Rattle.in_endpoint.specs.declared.Completed.{Completed}
+use Rattle.in_endpoint.specs.Returned.{Completed}
 use Rattle.in_endpoint.proofs.CompletionLaws.{process_td-counts, accepted-none, accounted-completion, completion-number}
 use Rattle.row_plan.specs.Plans.{row_facts, status_of, refused_plan, accepted_plan, row_plan, row_answer}
 use Rattle.row_plan.specs.Rows.{row_block, row_completion, CompletesRow, AccountedRow}
-use Rattle.row_plan.specs.declared.RowCompleted.{RowCompleted}
+use Rattle.trb.specs.declared.Logged.{Logged}
 use Rattle.row_plan.specs.declared.RowPlan.{RowPlan}
 use Rattle.td_row.specs.Walkable.{Walkable}
 
@@ -61,7 +61,7 @@ module _ (e : EndpointId) (s : SlotId) (mode : InMode) (ts : List TransferTrb) w
       by_length true few = rw (held_of-row_block (leb-true _ _ few))
       by_length false many = rw many
 
-  module _ (l : List ℕ) (res : InTrbProcessingResult) (n : ℕ) where
+  module _ (l : List ℕ) (res : Option InTrbProcessingStatus) (n : ℕ) where
     abbrev out : Out Completed
     out = completion (length l) block res n
 
@@ -88,9 +88,9 @@ module _ (e : EndpointId) (s : SlotId) (mode : InMode) (ts : List TransferTrb) w
     unfolding walk completion
     answers-refused some p l' m = rw (asked-block, some, m.state) (record { state = refl; log = m.log; fits = tt })
 
-    walked-of : (r : InTrbProcessingResult) → agree (is_given r) true ≡ true → completed_as (ending_of AwaitingRealTransfer r n) block ≡ transferred block (status_of r) n
-    walked-of NoneGiven agreed = absurd (true≢false (sym agreed))
-    walked-of (Given st) agreed = refl
+    walked-of : (r : Option InTrbProcessingStatus) → agree (is_given r) true ≡ true → completed_as (ending_of AwaitingRealTransfer r n) block ≡ transferred block (status_of r) n
+    walked-of None agreed = absurd (true≢false (sym agreed))
+    walked-of (Some st) agreed = refl
 
     answers-accepted : asked ≡ 0 → Answers (accepted_plan e s mode (length ts) (held_test ts) (status_of res) n)
     unfolding completion transferred
@@ -121,12 +121,12 @@ module _ (e : EndpointId) (s : SlotId) (mode : InMode) (ts : List TransferTrb) w
 
     -- ---- Demand 3
 
-    module _ (r : RowCompleted) (l' : List ℕ) (m : Meets (row_completion (length l) e s mode ts res n) 0 l r l') where
+    module _ (r : Logged CompletionAnswer) (l' : List ℕ) (m : Meets (row_completion (length l) e s mode ts res n) 0 l r l') where
       abbrev whole : Completed
       whole = record { answer = r.answer; records = r.records; block = out.state.block }
 
       whole-met : Meets out 0 l whole l'
-      whole-met = record { state = ap (λ (x : RowCompleted). record { answer = x.answer; records = x.records; block = out.state.block }) m.state; log = m.log; fits = m.fits }
+      whole-met = record { state = ap (λ (x : Logged CompletionAnswer). record { answer = x.answer; records = x.records; block = out.state.block }) m.state; log = m.log; fits = m.fits }
 
       accounted-few : length ts ≤ max_held → AccountedRow ts n r.answer (records_in r.records l')
       accounted-few most accepted =
@@ -136,16 +136,16 @@ module _ (e : EndpointId) (s : SlotId) (mode : InMode) (ts : List TransferTrb) w
       -- an accepted row is no longer than a block holds
       accounted-row : AccountedRow ts n r.answer (records_in r.records l')
       accounted-row accepted =
-          accounted-few (few (sym asked-block ∙ accepted-none (length l) block res n (ap (λ (x : RowCompleted). is_accepted x.answer) (sym m.state) ∙ accepted))) accepted
+          accounted-few (few (sym asked-block ∙ accepted-none (length l) block res n (ap (λ (x : Logged CompletionAnswer). is_accepted x.answer) (sym m.state) ∙ accepted))) accepted
 
     -- what the entry's contract says, of the plan, of what the walk made of the log, and of the answer
-    pub row-answered : (t : HeldTest) (plan : RowPlan) (p : TdProcessed) (r : RowCompleted) (l' : List ℕ) → t ≡ held_test ts → plan ≡ row_plan (length l) e s mode (length ts) t res n
+    pub row-answered : (t : HeldTest) (plan : RowPlan) (p : TdProcessed) (r : Logged CompletionAnswer) (l' : List ℕ) → t ≡ held_test ts → plan ≡ row_plan (length l) e s mode (length ts) t res n
         → Meets (process_td plan.td (take plan.count ts)) 0 l p l' → r ≡ row_answer plan p
         → CompletesRow e s mode ts res n l r l' × AccountedRow ts n r.answer (records_in r.records l')
     row-answered t plan p r l' tested planned walked answered =
         let plan-is : plan ≡ row_plan (length l) e s mode (length ts) (held_test ts) res n = planned ∙ ap (λ (x : HeldTest). row_plan (length l) e s mode (length ts) x res n) tested in
         let m : Meets (row_completion (length l) e s mode ts res n) 0 l r l' = rw answered (subst Answers (sym plan-is) answers-plan p l' walked) in
-        (record { number = ap (λ (x : RowCompleted). completion_number x.answer) m.state ∙ completion-number (length l) block res n; met = m }, accounted-row r l' m)
+        (record { number = ap (λ (x : Logged CompletionAnswer). completion_number x.answer) m.state ∙ completion-number (length l) block res n; met = m }, accounted-row r l' m)
 
     pub walkable : (t : HeldTest) (plan : RowPlan) → t ≡ held_test ts → plan ≡ row_plan (length l) e s mode (length ts) t res n → Walkable plan ts (length l)
     walkable t plan tested planned =

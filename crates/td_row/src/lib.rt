@@ -9,8 +9,8 @@ ghost use Rattle.row_plan.specs.Rows.{CompletesRow, AccountedRow};
 ghost use Rattle.td_row.specs.Walkable.{Walkable};
 
 use in_td::{InMode, TdProcessed};
-use row_plan::{RowCompleted, RowPlan};
-use trb::{EndpointId, InTrbProcessingResult, SlotId, TransferTrb};
+use row_plan::RowPlan;
+use trb::{CompletionAnswer, EndpointId, InTrbProcessingStatus, Logged, SlotId, TransferTrb};
 
 // The walk over as many TRBs of the row as the plan says.
 fn walk_row(log: &mut [u8], row: &[TransferTrb], plan: RowPlan) -> TdProcessed
@@ -28,9 +28,9 @@ pub fn complete_row(
     slot_id: SlotId,
     mode: InMode,
     row: &[TransferTrb],
-    res: InTrbProcessingResult,
+    res: Option<InTrbProcessingStatus>,
     data: &[u8],
-) -> RowCompleted
+) -> Logged<CompletionAnswer>
     ensures met { CompletesRow endpoint_id slot_id mode row.now res (length «data».now) log.old result log.new }
     ensures account { AccountedRow row.now (length «data».now) result.answer (records_in result.records log.new) }
 {

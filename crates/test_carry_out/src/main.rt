@@ -15,9 +15,9 @@ fn print(rt: &impl Print, text: &[u8]) -> io::Result<()> {
 
 fn print_answer(rt: &impl Print, answer: Answer) -> io::Result<()> {
     match answer {
-        Answer::Accepted => print(rt, b"accepted "),
-        Answer::Refused(refusal) => {
-            let number = trb::refusal_number(refusal);
+        Ok(()) => print(rt, b"accepted "),
+        Err(refusal) => {
+            let number = u8::from(refusal);
             print!(rt; "refused {number} ")
         }
     }

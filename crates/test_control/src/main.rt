@@ -23,8 +23,8 @@ const ROW: usize = 5;
 
 fn at(addr: u64, variant: TransferTrbVariant) -> TransferTrb {
     TransferTrb {
-        variant: variant,
-        addr: addr,
+        variant,
+        addr,
         cycle_bit: true,
     }
 }
@@ -33,12 +33,12 @@ fn setup(addr: u64, request_type: u8, interrupt_on_completion: bool) -> Transfer
     at(
         addr,
         TransferTrbVariant::SetupStage(SetupStageTrb {
-            request_type: request_type,
+            request_type,
             request: 6,
             value: 0x100,
             index: 0,
             length: 64,
-            interrupt_on_completion: interrupt_on_completion,
+            interrupt_on_completion,
         }),
     )
 }
@@ -49,7 +49,7 @@ fn data_stage(addr: u64, length: u32, chain: bool) -> TransferTrb {
         TransferTrbVariant::DataStage(DataStageTrb {
             data_pointer: 0,
             transfer_length: length,
-            chain: chain,
+            chain,
             interrupt_on_completion: false,
             interrupt_on_short: false,
             immediate_data: false,
@@ -65,7 +65,7 @@ fn normal(addr: u64, length: u32, chain: bool) -> TransferTrb {
             data_pointer: 0,
             transfer_length: length,
             interrupt_on_short: false,
-            chain: chain,
+            chain,
             interrupt_on_completion: false,
             immediate_data: false,
         }),
@@ -99,7 +99,7 @@ fn print_number(rt: &impl Print, number: u64) -> io::Result<()> {
 }
 
 fn print_refusal(rt: &impl Print, refusal: Refusal) -> io::Result<()> {
-    let number = trb::refusal_number(refusal);
+    let number = u8::from(refusal);
     print(rt, b"refused")?;
     print_number(rt, number as u64)
 }
@@ -109,8 +109,8 @@ fn print_answer(rt: &impl Print, addr: u64, answer: Answer) -> io::Result<()> {
     print_number(rt, addr)?;
     print(rt, b": ")?;
     match answer {
-        Answer::Accepted => print(rt, b"accepted")?,
-        Answer::Refused(refusal) => print_refusal(rt, refusal)?,
+        Ok(()) => print(rt, b"accepted")?,
+        Err(refusal) => print_refusal(rt, refusal)?,
     }
     print(rt, b"\n")
 }
@@ -133,8 +133,8 @@ fn print_result(rt: &impl Print, res: TrbProcessingResult) -> io::Result<()> {
 fn print_completion(rt: &impl Print, answer: CompletionAnswer) -> io::Result<()> {
     print(rt, b"  completed: ")?;
     match answer {
-        CompletionAnswer::Completed(result) => print_result(rt, result)?,
-        CompletionAnswer::Refused(refusal) => print_refusal(rt, refusal)?,
+        Ok(result) => print_result(rt, result)?,
+        Err(refusal) => print_refusal(rt, refusal)?,
     }
     print(rt, b"\n")
 }
@@ -166,14 +166,14 @@ fn print_records(rt: &impl Print, log: &[u8], records: usize) -> io::Result<()> 
 // ---- Calls
 
 // What the device answers, where the endpoint awaits it.
-fn device_result(state: ControlSubmissionState) -> ControlRequestProcessingResult {
+fn device_result(state: ControlSubmissionState) -> Option<ControlRequestProcessingResult> {
     match state {
-        ControlSubmissionState::NoTrbSubmitted => ControlRequestProcessingResult::NoneGiven,
-        ControlSubmissionState::CollectingTd => ControlRequestProcessingResult::NoneGiven,
-        ControlSubmissionState::ParserError(_) => ControlRequestProcessingResult::NoneGiven,
-        ControlSubmissionState::UnexpectedTrb(_) => ControlRequestProcessingResult::NoneGiven,
+        ControlSubmissionState::NoTrbSubmitted => None,
+        ControlSubmissionState::CollectingTd => None,
+        ControlSubmissionState::ParserError(_) => None,
+        ControlSubmissionState::UnexpectedTrb(_) => None,
         ControlSubmissionState::AwaitingControlRequest => {
-            ControlRequestProcessingResult::SuccessfulControlIn
+            Some(ControlRequestProcessingResult::SuccessfulControlIn)
         }
     }
 }
@@ -262,12 +262,7 @@ fn pass(window: &[u8], block: ControlBlock, t: TransferTrb) -> ControlBlock {
         b"",
     );
     let between = submitted.block;
-    let completed = control_completion::next_completion(
-        &mut log,
-        between,
-        ControlRequestProcessingResult::NoneGiven,
-        b"",
-    );
+    let completed = control_completion::next_completion(&mut log, between, None, b"");
     let next = completed.block;
     next
 }

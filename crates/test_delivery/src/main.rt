@@ -7,7 +7,7 @@ use in_endpoint::Completed;
 use in_td::InMode;
 use std::io;
 use trb::{
-    CompletionAnswer, EndpointId, InTrbProcessingResult, InTrbProcessingStatus, NormalTrb, SlotId,
+    CompletionAnswer, EndpointId, InTrbProcessingStatus, NormalTrb, SlotId,
     TdBasedNormalSubmissionState, TransferTrb, TransferTrbVariant,
 };
 
@@ -24,12 +24,12 @@ fn print(rt: &impl Print, text: &[u8]) -> io::Result<()> {
 fn print_answer(rt: &impl Print, done: Completed) -> io::Result<()> {
     let answer = done.answer;
     match answer {
-        CompletionAnswer::Completed(_) => {
+        Ok(_) => {
             let records = done.records;
             print!(rt; "accepted, {records} records ")
         }
-        CompletionAnswer::Refused(refusal) => {
-            let number = trb::refusal_number(refusal);
+        Err(refusal) => {
+            let number = u8::from(refusal);
             print!(rt; "refused {number} ")
         }
     }
@@ -41,7 +41,7 @@ fn case_with_log(
     name: &[u8],
     log: &mut [u8],
     block: InBlock,
-    res: InTrbProcessingResult,
+    res: Option<InTrbProcessingStatus>,
     data: &[u8],
     low_base: u64,
     high_base: u64,
@@ -64,7 +64,7 @@ fn case(
     rt: &impl Print,
     name: &[u8],
     block: InBlock,
-    res: InTrbProcessingResult,
+    res: Option<InTrbProcessingStatus>,
     data: &[u8],
     low_base: u64,
     high_base: u64,
@@ -84,7 +84,7 @@ fn normal(addr: u64, pointer: u64, length: u32, last: bool) -> TransferTrb {
             interrupt_on_completion: last,
             immediate_data: false,
         }),
-        addr: addr,
+        addr,
         cycle_bit: true,
     }
 }
@@ -98,10 +98,10 @@ fn awaiting(mode: InMode, first: u64, second: u64, third: u64) -> InBlock {
     InBlock {
         endpoint_id: EndpointId(3),
         slot_id: SlotId(2),
-        mode: mode,
+        mode,
         state: TdBasedNormalSubmissionState::AwaitingRealTransfer,
         held: 3,
-        trbs: trbs,
+        trbs,
     }
 }
 
@@ -116,15 +116,7 @@ fn given(
     status: InTrbProcessingStatus,
     data: &[u8],
 ) -> io::Result<()> {
-    case(
-        rt,
-        name,
-        block,
-        InTrbProcessingResult::Given(status),
-        data,
-        LOW,
-        HIGH,
-    )
+    case(rt, name, block, Some(status), data, LOW, HIGH)
 }
 
 fn frames(rt: &impl Print) -> io::Result<()> {
@@ -177,7 +169,7 @@ fn frames(rt: &impl Print) -> io::Result<()> {
 
 fn questions(rt: &impl Print) -> io::Result<()> {
     let ported = frame(InMode::AsPorted);
-    let success = InTrbProcessingResult::Given(InTrbProcessingStatus::Success);
+    let success = Some(InTrbProcessingStatus::Success);
     let fresh = in_block::fresh(EndpointId(3), SlotId(2), InMode::AsPorted);
     let unsound = in_block::fresh(EndpointId(0), SlotId(0), InMode::AsPorted);
     let mut short = [0u8; SHORT_LOG];
@@ -210,15 +202,7 @@ fn questions(rt: &impl Print) -> io::Result<()> {
         HIGH,
     )?;
     case(rt, b"out of turn", fresh, success, b"abcdef", LOW, HIGH)?;
-    case(
-        rt,
-        b"no device result",
-        ported,
-        InTrbProcessingResult::NoneGiven,
-        b"abcdef",
-        LOW,
-        HIGH,
-    )
+    case(rt, b"no device result", ported, None, b"abcdef", LOW, HIGH)
 }
 
 fn ranges(rt: &impl Print) -> io::Result<()> {
@@ -226,7 +210,7 @@ fn ranges(rt: &impl Print) -> io::Result<()> {
     let across = awaiting(InMode::AsPorted, 0x8000, 0x8006, 0x800c);
     let beside = awaiting(InMode::AsPorted, 0x8000, 0x8004, 0x8008);
     let twice = awaiting(InMode::AsPorted, 0x8000, 0x8002, HIGH);
-    let success = InTrbProcessingResult::Given(InTrbProcessingStatus::Success);
+    let success = Some(InTrbProcessingStatus::Success);
     given(
         rt,
         b"a Normal outside, reached",

@@ -18,8 +18,7 @@ fn ones() -> [u8; trb::MAX_PRINTED_LOG + trb::RECORD_LENGTH]
 fn show(rt: &impl Print, name: &[u8], log: &[u8]) -> io::Result<()> {
     rt.write_all(name)?;
     let mut text = log_print::text_buffer();
-    let printed = log_print::print_log(log, &mut text);
-    let end = printed.length;
+    let end = log_print::print_log(log, &mut text).unwrap_or(0);
     if end < 100 {
         rt.write_all(&text[..end])
     } else {
@@ -54,13 +53,12 @@ fn kind_four(rt: &impl Print) -> io::Result<()> {
 fn short_buffer(rt: &impl Print) -> io::Result<()> {
     let log = [1u8; 32];
     let mut text = [b'.'; 80];
-    let printed = log_print::print_log(&log, &mut text);
-    match printed.answer {
-        Answer::Accepted => {
+    match log_print::print_log(&log, &mut text) {
+        Ok(_) => {
             rt.print("accepted")?;
         }
-        Answer::Refused(refusal) => {
-            let number = trb::refusal_number(refusal);
+        Err(refusal) => {
+            let number = u8::from(refusal);
             print!(rt; "a text buffer of 80 bytes\nrefused {number}")?;
         }
     }

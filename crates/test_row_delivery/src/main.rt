@@ -35,13 +35,13 @@ fn print(rt: &impl Print, text: &[u8]) -> io::Result<()> {
 fn print_answer(rt: &impl Print, done: TdsCompleted) -> io::Result<()> {
     let answer = done.answer;
     match answer {
-        CompletionAnswer::Completed(_) => {
+        Ok(_) => {
             let records = done.records;
             let finished = done.finished;
             print!(rt; "accepted, {records} records, {finished} finished ")
         }
-        CompletionAnswer::Refused(refusal) => {
-            let number = trb::refusal_number(refusal);
+        Err(refusal) => {
+            let number = u8::from(refusal);
             print!(rt; "refused {number} ")
         }
     }
@@ -110,7 +110,7 @@ fn normal(addr: u64, pointer: u64, length: u32, last: bool, immediate: bool) -> 
             interrupt_on_completion: last,
             immediate_data: immediate,
         }),
-        addr: addr,
+        addr,
         cycle_bit: true,
     }
 }
@@ -121,16 +121,13 @@ fn no_op(addr: u64) -> TransferTrb {
             interrupt_on_completion: true,
             chain: false,
         }),
-        addr: addr,
+        addr,
         cycle_bit: true,
     }
 }
 
 fn gave(status: InTrbProcessingStatus, length: u32) -> TdResult {
-    TdResult {
-        status: status,
-        length: length,
-    }
+    TdResult { status, length }
 }
 
 // Two TDs: Normals of 2 and 2 bytes, and of 3 and 1. The third pointer is given.

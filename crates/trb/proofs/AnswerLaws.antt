@@ -1,4 +1,6 @@
 -- Laws of the numbers of answers, and of a call by its answer to the questions. Assumes nothing.
+use Rattle.std.specs.Prelude.{Err, Ok}
+use Rattle.std.specs.Result.{is_ok, is_err}
 use Prim.Native.Nat.{ℕ}
 use mathlib.Core.Path.{◌≡◌, refl, sym, ap, ◌∙◌}
 use mathlib.Core.Bool.{Bool, true, false, true≢false}
@@ -7,8 +9,7 @@ use lib.Dec.{eqb}
 use Rattle.trb.specs.Answers.{number_of, is_accepted, refusal_of}
 use Rattle.trb.specs.Questions.{first_no, after_questions}
 use Rattle.trb.specs.Refusals.{refusal_number}
-use Rattle.trb.specs.declared.Answer.{Answer}
-use Rattle.trb.specs.declared.Answer.TheVariants.{Accepted, Refused}
+use Rattle.trb.specs.Answers.{Answer}
 use Rattle.trb.specs.declared.Refusal.{Refusal}
 use Rattle.trb.specs.declared.Refusal.TheVariants.{BufferTooShort, UnsoundBlock, OutOfTurn, TransferTooLong, TooManyHeld, OutsideGuestMemory, TooMuchCollected, DeviceResultMismatch, DataTooLong, MalformedLog, WriteOutOfRange, IdOutOfRange, RegionsOverlap, OutputTooShort, MalformedRow, NotACapture, NotConvertible, LinkTypesDiffer, TimesGoBackwards, ImmediateInput, NotEncodable}
 
@@ -65,23 +66,36 @@ refusal_number-positive TimesGoBackwards = refl
 refusal_number-positive ImmediateInput = refl
 refusal_number-positive NotEncodable = refl
 
-pub accepted-is : (a : Answer) → is_accepted a ≡ true → a ≡ Accepted
-accepted-is Accepted e = refl
-accepted-is (Refused r) e = absurd (true≢false (sym e))
+pub accepted-is : (a : Answer) → is_accepted a ≡ true → a ≡ Ok tt
+accepted-is (Ok tt) e = refl
+accepted-is (Err r) e = absurd (true≢false (sym e))
 
-pub refused-is : (a : Answer) → is_accepted a ≡ false → Refused (refusal_of (number_of a)) ≡ a
-refused-is Accepted e = absurd (true≢false e)
-refused-is (Refused r) e = ap (λ (q : Refusal). Refused q) (refusal_of-number r)
+pub refused-is : (a : Answer) → is_accepted a ≡ false → Err (refusal_of (number_of a)) ≡ a
+refused-is (Ok tt) e = absurd (true≢false e)
+refused-is (Err r) e = ap (λ (q : Refusal). Err q) (refusal_of-number r)
+
+-- by what the library says of a result
+pub accepted-if : (a : Answer) → is_err a ≡ false → is_accepted a ≡ true
+accepted-if (Ok tt) e = refl
+accepted-if (Err r) e = absurd (true≢false e)
+
+pub refused-if : (a : Answer) → is_err a ≡ true → is_accepted a ≡ false
+refused-if (Ok tt) e = absurd (true≢false (sym e))
+refused-if (Err r) e = refl
+
+pub accepted-ok : (a : Answer) → is_ok a ≡ true → is_accepted a ≡ true
+accepted-ok (Ok tt) e = refl
+accepted-ok (Err r) e = absurd (true≢false (sym e))
 
 -- a call whose questions were answered so
 module _ {A : Type 0} (qs : List (Bool × ℕ)) (refused : ℕ → A) (accepted : A) where
   pub answered-yes : (a : Answer) → number_of a ≡ first_no qs → is_accepted a ≡ true → after_questions qs refused accepted ≡ accepted
-  answered-yes Accepted e passed = rw (← e)
-  answered-yes (Refused r) e passed = absurd (true≢false (sym passed))
+  answered-yes (Ok tt) e passed = rw (← e)
+  answered-yes (Err r) e passed = absurd (true≢false (sym passed))
 
   pub answered-no : (a : Answer) → number_of a ≡ first_no qs → is_accepted a ≡ false → after_questions qs refused accepted ≡ refused (number_of a)
-  answered-no Accepted e failed = absurd (true≢false failed)
-  answered-no (Refused r) e failed = rw (← e, refusal_number-positive r)
+  answered-no (Ok tt) e failed = absurd (true≢false failed)
+  answered-no (Err r) e failed = rw (← e, refusal_number-positive r)
 
 -- every question was answered with yes
 pub answered-all : (a : Answer) (qs : List (Bool × ℕ)) → number_of a ≡ first_no qs → is_accepted a ≡ true → first_no qs ≡ 0

@@ -1,33 +1,39 @@
 -- The number and the values that document 01 gives to each case of an answer. Assumes nothing.
-use Rattle.std.specs.Prelude.{ℕ, Bool, true, false, cond, List, [], ◌∷◌, eqb}
+use Rattle.std.specs.Prelude.{ℕ, Bool, true, false, cond, List, [], ◌∷◌, eqb, Result, Ok, Err}
 use Rattle.trb.specs.Codes.{code_number}
 use Rattle.trb.specs.Refusals.{refusal_number}
-use Rattle.trb.specs.declared.Answer.{Answer}
-use Rattle.trb.specs.declared.Answer.TheVariants as answer
-use Rattle.trb.specs.declared.CompletionAnswer.{CompletionAnswer}
-use Rattle.trb.specs.declared.CompletionAnswer.TheVariants as completion
 use Rattle.trb.specs.declared.CompletionCode.TheVariants as code
 use Rattle.trb.specs.declared.Refusal.{Refusal}
 use Rattle.trb.specs.declared.Refusal.TheVariants.{BufferTooShort, UnsoundBlock, OutOfTurn, TransferTooLong, TooManyHeld, OutsideGuestMemory, TooMuchCollected, DeviceResultMismatch, DataTooLong, MalformedLog, WriteOutOfRange, IdOutOfRange, RegionsOverlap, OutputTooShort, MalformedRow, NotACapture, NotConvertible, LinkTypesDiffer, TimesGoBackwards, ImmediateInput, NotEncodable}
 use Rattle.trb.specs.declared.TrbProcessingResult.{TrbProcessingResult}
 use Rattle.trb.specs.declared.TrbProcessingResult.TheVariants as result
 
+-- ---- Answers
+
+-- of creation, submission and carry-out
+abbrev pub Answer : Type 0
+Answer = Result Unit Refusal
+
+-- of a completion
+abbrev pub CompletionAnswer : Type 0
+CompletionAnswer = Result TrbProcessingResult Refusal
+
 -- ---- Numbers
 
 -- of creation, submission and carry-out: 0 where the call is accepted
 abbrev pub number_of : Answer → ℕ
-number_of answer.Accepted = 0
-number_of (answer.Refused r) = refusal_number r
+number_of (Ok tt) = 0
+number_of (Err r) = refusal_number r
 
 -- every question was answered yes
 abbrev pub is_accepted : Answer → Bool
-is_accepted answer.Accepted = true
-is_accepted (answer.Refused r) = false
+is_accepted (Ok tt) = true
+is_accepted (Err r) = false
 
 -- of a completion
 abbrev pub completion_number : CompletionAnswer → ℕ
-completion_number (completion.Completed r) = 0
-completion_number (completion.Refused r) = refusal_number r
+completion_number (Ok r) = 0
+completion_number (Err r) = refusal_number r
 
 -- ---- The refusal with a number
 
@@ -76,5 +82,5 @@ pub record Said : Type 0 where
   pub carried : List Carried
 
 abbrev pub said : CompletionAnswer → List Said
-said (completion.Completed r) = record { code = result_code r; carried = carried_by r } ∷ []
-said (completion.Refused q) = []
+said (Ok r) = record { code = result_code r; carried = carried_by r } ∷ []
+said (Err q) = []

@@ -2,13 +2,9 @@
 // Ports trb.rs, real_endpoint_handle.rs and usbrequest.rs, and the result and state enums of endpoint_handle.rs.
 #![tactic(auto)]
 
-ghost use Rattle.std.specs.Prelude.{◌≡◌};
-ghost use Rattle.trb.specs.Answers.{is_accepted};
-ghost use Rattle.trb.specs.Codes.{code_number};
+ghost use Rattle.std.specs.Prelude.{◌≡◌, cond, Ok, Err};
 ghost use Rattle.trb.specs.Ids.{ids_in_range};
 ghost use Rattle.trb.specs.Limits.{limit_table};
-ghost use Rattle.trb.specs.Questions.{agree};
-ghost use Rattle.trb.specs.Refusals.{refusal_number};
 ghost use Rattle.trb.specs.Trbs.{transfer_length, immediate_of, chain_of};
 
 // ---- Limits: each has this name here and one in specs/Limits.antt; `limits` ties the two.
@@ -49,7 +45,7 @@ pub const MIN_ROW_LOG: usize = RECORD_LENGTH * MAX_ROW_RECORDS;
 // Bytes of the longest log that is printed.
 pub const MAX_PRINTED_LOG: usize = 65536;
 
-#[derive(Clone, Copy)]
+#[derive(Clone, Copy, Debug, PartialEq, Eq)]
 pub struct LimitTable {
     pub held: usize,
     pub transfer_length: u32,
@@ -87,29 +83,24 @@ pub fn limits() -> LimitTable
 
 // ---- Ids: two types, so that neither can be handed over as the other.
 
-#[derive(Clone, Copy)]
+#[derive(Clone, Copy, Debug, PartialEq, Eq)]
 pub struct EndpointId(pub u8);
 
-#[derive(Clone, Copy)]
+#[derive(Clone, Copy, Debug, PartialEq, Eq)]
 pub struct SlotId(pub u8);
 
 // Is the endpoint id 1 to 31 and the slot id 1 to 255?
+#[tactic(auto, unfolding(crate::specs::Ids::ids_in_range))]
 pub fn ids_in_range(endpoint_id: EndpointId, slot_id: SlotId) -> bool
     ensures { result ≡ ids_in_range endpoint_id slot_id }
 {
-    if endpoint_id.0 < 1 {
-        return false;
-    }
-    if MAX_ENDPOINT_ID < endpoint_id.0 {
-        return false;
-    }
-    1 <= slot_id.0
+    (1 <= endpoint_id.0) && (endpoint_id.0 <= MAX_ENDPOINT_ID) && (1 <= slot_id.0)
 }
 
 // ---- TRBs
 
 // xHCI 1.2, 6.4.1.1
-#[derive(Clone, Copy)]
+#[derive(Clone, Copy, Debug, PartialEq, Eq)]
 pub struct NormalTrb {
     pub data_pointer: u64,
     pub transfer_length: u32,
@@ -120,7 +111,7 @@ pub struct NormalTrb {
 }
 
 // xHCI 1.2, 6.4.1.2.1; `length` is the setup packet's wLength, which nothing here uses.
-#[derive(Clone, Copy)]
+#[derive(Clone, Copy, Debug, PartialEq, Eq)]
 pub struct SetupStageTrb {
     pub request_type: u8,
     pub request: u8,
@@ -131,7 +122,7 @@ pub struct SetupStageTrb {
 }
 
 // xHCI 1.2, 6.4.1.2.2
-#[derive(Clone, Copy)]
+#[derive(Clone, Copy, Debug, PartialEq, Eq)]
 pub struct DataStageTrb {
     pub data_pointer: u64,
     pub transfer_length: u32,
@@ -143,7 +134,7 @@ pub struct DataStageTrb {
 }
 
 // xHCI 1.2, 6.4.1.2.3
-#[derive(Clone, Copy)]
+#[derive(Clone, Copy, Debug, PartialEq, Eq)]
 pub struct StatusStageTrb {
     pub chain: bool,
     pub interrupt_on_completion: bool,
@@ -151,7 +142,7 @@ pub struct StatusStageTrb {
 }
 
 // xHCI 1.2, 6.4.4.2
-#[derive(Clone, Copy)]
+#[derive(Clone, Copy, Debug, PartialEq, Eq)]
 pub struct EventDataTrb {
     pub event_data: u64,
     pub chain: bool,
@@ -159,13 +150,13 @@ pub struct EventDataTrb {
 }
 
 // xHCI 1.2, 6.4.1.4
-#[derive(Clone, Copy)]
+#[derive(Clone, Copy, Debug, PartialEq, Eq)]
 pub struct NoOpTrb {
     pub chain: bool,
     pub interrupt_on_completion: bool,
 }
 
-#[derive(Clone, Copy)]
+#[derive(Clone, Copy, Debug, PartialEq, Eq)]
 pub enum TransferTrbVariant {
     SetupStage(SetupStageTrb),
     DataStage(DataStageTrb),
@@ -178,7 +169,7 @@ pub enum TransferTrbVariant {
 }
 
 // A decoded TRB with its guest address and cycle bit: the Rust's `SupportedEndpointTrb`, of any kind.
-#[derive(Clone, Copy)]
+#[derive(Clone, Copy, Debug, PartialEq, Eq)]
 pub struct TransferTrb {
     pub variant: TransferTrbVariant,
     pub addr: u64,
@@ -190,14 +181,9 @@ pub fn transfer_length(variant: TransferTrbVariant) -> u32
     ensures { result ≡ transfer_length variant }
 {
     match variant {
-        TransferTrbVariant::SetupStage(_) => 0,
         TransferTrbVariant::DataStage(data_stage) => data_stage.transfer_length,
-        TransferTrbVariant::StatusStage(_) => 0,
         TransferTrbVariant::Normal(normal) => normal.transfer_length,
-        TransferTrbVariant::EventData(_) => 0,
-        TransferTrbVariant::NoOp(_) => 0,
-        TransferTrbVariant::Isoch => 0,
-        TransferTrbVariant::Unrecognized => 0,
+        _ => 0,
     }
 }
 
@@ -206,14 +192,9 @@ pub fn immediate_data(variant: TransferTrbVariant) -> bool
     ensures { result ≡ immediate_of variant }
 {
     match variant {
-        TransferTrbVariant::SetupStage(_) => false,
         TransferTrbVariant::DataStage(data_stage) => data_stage.immediate_data,
-        TransferTrbVariant::StatusStage(_) => false,
         TransferTrbVariant::Normal(normal) => normal.immediate_data,
-        TransferTrbVariant::EventData(_) => false,
-        TransferTrbVariant::NoOp(_) => false,
-        TransferTrbVariant::Isoch => false,
-        TransferTrbVariant::Unrecognized => false,
+        _ => false,
     }
 }
 
@@ -222,44 +203,41 @@ pub fn chain_of(variant: TransferTrbVariant) -> bool
     ensures { result ≡ chain_of variant }
 {
     match variant {
-        TransferTrbVariant::SetupStage(_) => false,
         TransferTrbVariant::DataStage(data_stage) => data_stage.chain,
         TransferTrbVariant::StatusStage(status_stage) => status_stage.chain,
         TransferTrbVariant::Normal(normal) => normal.chain,
         TransferTrbVariant::EventData(event_data) => event_data.chain,
         TransferTrbVariant::NoOp(no_op) => no_op.chain,
-        TransferTrbVariant::Isoch => false,
-        TransferTrbVariant::Unrecognized => false,
+        _ => false,
     }
 }
 
 // ---- Completion codes (xHCI 1.2, table 6-90): those that the engine reports.
 
-#[derive(Clone, Copy)]
+#[derive(Clone, Copy, Debug, PartialEq, Eq)]
 pub enum CompletionCode {
-    Success,
-    UsbTransactionError,
-    TrbError,
-    StallError,
-    ShortPacket,
+    Success = 1,
+    UsbTransactionError = 4,
+    TrbError = 5,
+    StallError = 6,
+    ShortPacket = 13,
 }
 
 // The number that xHCI gives a completion code.
-pub fn code_number(code: CompletionCode) -> u8
-    ensures { result ≡ code_number code }
-{
-    match code {
-        CompletionCode::Success => 1,
-        CompletionCode::UsbTransactionError => 4,
-        CompletionCode::TrbError => 5,
-        CompletionCode::StallError => 6,
-        CompletionCode::ShortPacket => 13,
+impl From<CompletionCode> for u8 {
+    ghost use Rattle.std.specs.Prelude.{◌≡◌};
+    ghost use Rattle.trb.specs.Codes.{code_number};
+
+    ghost from_gives = { λ code number. number ≡ code_number code };
+
+    fn from(code: CompletionCode) -> u8 {
+        code as u8
     }
 }
 
-// ---- Device results: the bytes themselves are lent beside them.
+// ---- Device results: the bytes themselves are lent beside them. A call takes an `Option` of one, since none may be given.
 
-#[derive(Clone, Copy)]
+#[derive(Clone, Copy, Debug, PartialEq, Eq)]
 pub enum InTrbProcessingStatus {
     Disconnect,
     Stall,
@@ -267,15 +245,8 @@ pub enum InTrbProcessingStatus {
     Success,
 }
 
-#[derive(Clone, Copy)]
-pub enum InTrbProcessingResult {
-    NoneGiven,
-    Given(InTrbProcessingStatus),
-}
-
-#[derive(Clone, Copy)]
+#[derive(Clone, Copy, Debug, PartialEq, Eq)]
 pub enum ControlRequestProcessingResult {
-    NoneGiven,
     Disconnect,
     Stall,
     TransactionError,
@@ -284,7 +255,7 @@ pub enum ControlRequestProcessingResult {
 }
 
 // A control request for the device (USB 2.0, 9.3), with the address of its Setup TRB.
-#[derive(Clone, Copy)]
+#[derive(Clone, Copy, Debug, PartialEq, Eq)]
 pub struct UsbRequest {
     pub address: u64,
     pub request_type: u8,
@@ -296,7 +267,7 @@ pub struct UsbRequest {
 
 // ---- Results of a completion: the Rust's `Option<(u64, bool)>` is a case with and one without address and cycle bit.
 
-#[derive(Clone, Copy)]
+#[derive(Clone, Copy, Debug, PartialEq, Eq)]
 pub enum TrbProcessingResult {
     Ok,
     Stall,
@@ -310,7 +281,7 @@ pub enum TrbProcessingResult {
 // ---- States
 
 // How far a control transfer has come.
-#[derive(Clone, Copy)]
+#[derive(Clone, Copy, Debug, PartialEq, Eq)]
 pub enum ControlTransferState {
     ExpectSetupStageTrb,
     MaybeDataStageTrb,
@@ -320,7 +291,7 @@ pub enum ControlTransferState {
 }
 
 // What a control endpoint is at. A submission is due in the first alone, a completion in the others.
-#[derive(Clone, Copy)]
+#[derive(Clone, Copy, Debug, PartialEq, Eq)]
 pub enum ControlSubmissionState {
     NoTrbSubmitted,
     CollectingTd,
@@ -330,7 +301,7 @@ pub enum ControlSubmissionState {
 }
 
 // What an IN endpoint is at. A submission is due in the first alone, a completion in the others.
-#[derive(Clone, Copy)]
+#[derive(Clone, Copy, Debug, PartialEq, Eq)]
 pub enum TdBasedNormalSubmissionState {
     SubmissionDue,
     CollectingTd,
@@ -341,88 +312,79 @@ pub enum TdBasedNormalSubmissionState {
 
 // ---- Answers
 
-// The questions of documents 01 and 02: a case for each no.
-#[derive(Clone, Copy)]
+// The questions of documents 01 and 02: a case for each no, with the number that they give it.
+#[derive(Clone, Copy, Debug, PartialEq, Eq)]
 pub enum Refusal {
-    BufferTooShort,
-    UnsoundBlock,
-    OutOfTurn,
-    TransferTooLong,
-    TooManyHeld,
-    OutsideGuestMemory,
-    TooMuchCollected,
-    DeviceResultMismatch,
-    DataTooLong,
-    MalformedLog,
-    WriteOutOfRange,
-    IdOutOfRange,
-    RegionsOverlap,
-    OutputTooShort,
-    MalformedRow,
-    NotACapture,
-    NotConvertible,
-    LinkTypesDiffer,
-    TimesGoBackwards,
-    ImmediateInput,
-    NotEncodable,
+    BufferTooShort = 1,
+    UnsoundBlock = 2,
+    OutOfTurn = 3,
+    TransferTooLong = 4,
+    TooManyHeld = 5,
+    OutsideGuestMemory = 6,
+    TooMuchCollected = 7,
+    DeviceResultMismatch = 8,
+    DataTooLong = 9,
+    MalformedLog = 10,
+    WriteOutOfRange = 11,
+    IdOutOfRange = 12,
+    RegionsOverlap = 13,
+    OutputTooShort = 14,
+    MalformedRow = 15,
+    NotACapture = 17,
+    NotConvertible = 18,
+    LinkTypesDiffer = 19,
+    TimesGoBackwards = 20,
+    ImmediateInput = 21,
+    NotEncodable = 23,
 }
 
 // The number that documents 01 and 02 give a refusal.
-pub fn refusal_number(refusal: Refusal) -> u8
-    ensures { result ≡ refusal_number refusal }
-{
-    match refusal {
-        Refusal::BufferTooShort => 1,
-        Refusal::UnsoundBlock => 2,
-        Refusal::OutOfTurn => 3,
-        Refusal::TransferTooLong => 4,
-        Refusal::TooManyHeld => 5,
-        Refusal::OutsideGuestMemory => 6,
-        Refusal::TooMuchCollected => 7,
-        Refusal::DeviceResultMismatch => 8,
-        Refusal::DataTooLong => 9,
-        Refusal::MalformedLog => 10,
-        Refusal::WriteOutOfRange => 11,
-        Refusal::IdOutOfRange => 12,
-        Refusal::RegionsOverlap => 13,
-        Refusal::OutputTooShort => 14,
-        Refusal::MalformedRow => 15,
-        Refusal::NotACapture => 17,
-        Refusal::NotConvertible => 18,
-        Refusal::LinkTypesDiffer => 19,
-        Refusal::TimesGoBackwards => 20,
-        Refusal::ImmediateInput => 21,
-        Refusal::NotEncodable => 23,
+impl From<Refusal> for u8 {
+    ghost use Rattle.std.specs.Prelude.{◌≡◌};
+    ghost use Rattle.trb.specs.Refusals.{refusal_number};
+
+    ghost from_gives = { λ refusal number. number ≡ refusal_number refusal };
+
+    fn from(refusal: Refusal) -> u8 {
+        refusal as u8
     }
 }
 
-// What creation, submission and carry-out answer.
-#[derive(Clone, Copy)]
-pub enum Answer {
-    Accepted,
-    Refused(Refusal),
-}
+// What creation, submission and carry-out answer: accepted, or the question that said no.
+pub type Answer = Result<(), Refusal>;
 
-// Was every question answered yes?
-pub fn is_accepted(answer: Answer) -> bool
-    ensures { result ≡ is_accepted answer }
+// A question that is answered so: a no ends the call with its refusal.
+pub fn ask(yes: bool, refusal: Refusal) -> Answer
+    ensures { result ≡ cond yes (Ok tt) (Err refusal) }
 {
-    match answer {
-        Answer::Accepted => true,
-        Answer::Refused(_) => false,
-    }
-}
-
-// Question 8: both or neither?
-pub fn agree(given: bool, awaited: bool) -> bool
-    ensures { result ≡ agree given awaited }
-{
-    if given { awaited } else { !awaited }
+    if yes { Ok(()) } else { Err(refusal) }
 }
 
 // What completion answers.
+pub type CompletionAnswer = Result<TrbProcessingResult, Refusal>;
+
+// What creation returns: the answer, and the block.
 #[derive(Clone, Copy)]
-pub enum CompletionAnswer {
-    Completed(TrbProcessingResult),
-    Refused(Refusal),
+pub struct Created<B> {
+    pub answer: Answer,
+    pub block: B,
 }
+
+// What a call returns: its answer, how many records it logged, and the block behind it.
+#[derive(Clone, Copy)]
+pub struct Returned<A, B> {
+    pub answer: A,
+    pub records: usize,
+    pub block: B,
+}
+
+// What a call on a block that is lent returns: the same but for the block, which is behind it where it was lent.
+#[derive(Clone, Copy)]
+pub struct Logged<A> {
+    pub answer: A,
+    pub records: usize,
+}
+
+pub type Submitted<B> = Returned<Answer, B>;
+
+pub type Completed<B> = Returned<CompletionAnswer, B>;

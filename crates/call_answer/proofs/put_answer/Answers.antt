@@ -5,12 +5,12 @@ use Rattle.numerals.proofs.WrittenLaws.{written-append, written-within}
 use Rattle.call_answer.specs.Answers.{answer_text}
 use Rattle.call_answer.proofs.put_answer.Goals as goal
 
-pub returns-in-Accepted : goal.returns-in-Accepted
+pub returns-in-Ok : goal.returns-in-Ok
 unfolding answer_text
-returns-in-Accepted c =
-    rw c.in-Accepted.is
+returns-in-Ok c =
+    rw c.in-Ok.is
     (written-append c.args.at (omega (arith, c.requires.max_record_lines_in_bounds)) (rw c.count.ensures at c.put_accepted-next.ensures) c.put_first_records.ensures)
 
-pub returns-in-Refused : goal.returns-in-Refused
+pub returns-in-Err : goal.returns-in-Err
 unfolding answer_text
-returns-in-Refused c = rw c.in-Refused.is (written-within (lit≤ tt) (rw c.refusal_number.ensures at c.put_refused.ensures))
+returns-in-Err c = rw c.in-Err.is (written-within (lit≤ tt) (rw c.from.ensures at c.put_refused.ensures))

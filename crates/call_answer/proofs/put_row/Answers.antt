@@ -6,19 +6,19 @@ use Rattle.numerals.proofs.WrittenLaws.{written-append, written-within}
 use Rattle.call_answer.specs.Answers.{row_text, completion_memory}
 use Rattle.call_answer.proofs.put_row.Goals as goal
 
-pub returns-in-Completed : goal.returns-in-Completed
+pub returns-in-Ok : goal.returns-in-Ok
 unfolding row_text completion_memory
-returns-in-Completed c =
-    rw c.in-Completed.is
+returns-in-Ok c =
+    rw c.in-Ok.is
     (record {
       text = written-append c.args.at (omega (arith, c.requires.max_carried_out_in_bounds))
-          (written-append c.args.at (omega (arith, c.requires.max_carried_out_in_bounds)) (rw (c.count.ensures, c.count-in-Completed.ensures) at c.put_row_completed-next.ensures) c.put_first_records-end.ensures)
+          (written-append c.args.at (omega (arith, c.requires.max_carried_out_in_bounds)) (rw (c.count.ensures, c.count-in-Ok.ensures) at c.put_row_completed-next.ensures) c.put_first_records-end.ensures)
           c.put_carry_out.ensures.text;
       after = c.put_carry_out.ensures.after;
     })
 
-pub returns-in-Refused : goal.returns-in-Refused
+pub returns-in-Err : goal.returns-in-Err
 unfolding row_text completion_memory
-returns-in-Refused c =
-    rw c.in-Refused.is
-    (record { text = written-within (lit≤ tt) (rw c.refusal_number.ensures at c.put_refused.ensures); after = refl })
+returns-in-Err c =
+    rw c.in-Err.is
+    (record { text = written-within (lit≤ tt) (rw c.from.ensures at c.put_refused.ensures); after = refl })

@@ -1,7 +1,8 @@
 -- `call_captures::put_result` meets its contract: on no endpoint nothing is laid. Assumes nothing.
 use Rattle.std.proofs.Common.{arith}
 use Rattle.captured_calls.proofs.WrittenLaws.{lays-none}
+use Rattle.session.proofs.EndpointLaws.{on-none}
 use Rattle.call_captures.proofs.put_result.Goals as goal
 
-pub returns-in-Nothing : goal.returns-in-Nothing
-returns-in-Nothing c = rw c.in-Nothing.is (lays-none c.args.output.now 0 (omega arith))
+pub returns-in_default : goal.returns-in_default
+returns-in_default c = rw (on-none _ c.in_default.not-Some) (lays-none c.args.output.now 0 (omega arith))

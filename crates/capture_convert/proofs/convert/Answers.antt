@@ -1,6 +1,7 @@
 -- `capture_convert::convert` meets its contract: a refused length is refused, a buffer too short for it is 14, and otherwise the file is written.
 -- Assumes nothing.
-use Rattle.std.proofs.Common.{◌≡◌, arith}
+use Rattle.std.proofs.Common.{◌≡◌, ◌≤◌, ◌<◌, Err, length, arith, rules}
+use Rattle.trb.specs.declared.Refusal.TheVariants.{OutputTooShort}
 use Rattle.capture_convert.proofs.ConvertingLaws.{Measured, measured, measured-refused, converts, converts-not}
 use Rattle.capture_convert.proofs.convert.Goals.{In_ok-length}
 use Rattle.capture_convert.proofs.convert.Goals as goal
@@ -14,15 +15,19 @@ returns-in_err-length c =
     let same : c.from_residual.result ≡ c.converted_length.result = grind arith in
     rw (same, c.in_err-length.was) (measured-refused _ _ _ (rw c.in_err-length.was at c.converted_length.ensures))
 
-pub returns-then-dst-length : goal.returns-then-dst-length
-returns-then-dst-length c = converts-not c.args.src.now c.args.dst.now c.in_ok-length.length (size (goal.at.returns-then-dst-length c).In_ok-length) (omega (arith, c.if-dst-length.true))
+pub returns-in_err-ask : goal.returns-in_err-ask
+returns-in_err-ask c =
+    let short : length c.args.dst.now < c.in_ok-length.length = search rules in
+    let refused : c.from_residual-in_err-ask.result ≡ Err OutputTooShort = grind arith in
+    rw refused (converts-not c.args.src.now c.args.dst.now c.in_ok-length.length (size (goal.at.returns-in_err-ask c).In_ok-length) short)
 
 pub write_file-requires : goal.write_file-requires
 write_file-requires c =
     let m = size (goal.at.write_file-requires c).In_ok-length in
-    (m.whole, omega (arith, m.size, c.if-dst-length.false))
+    let fits : c.in_ok-length.length ≤ length c.args.dst.now = search rules in
+    (m.whole, omega (arith, m.size, fits))
 
 pub returns : goal.returns
 returns c =
-    rw c.write_file.ensures
-    (converts c.args.src.now c.args.dst.now c.in_ok-length.length (size (goal.at.returns c).In_ok-length) (omega (arith, c.if-dst-length.false)))
+    let fits : c.in_ok-length.length ≤ length c.args.dst.now = search rules in
+    rw c.write_file.ensures (converts c.args.src.now c.args.dst.now c.in_ok-length.length (size (goal.at.returns c).In_ok-length) fits)

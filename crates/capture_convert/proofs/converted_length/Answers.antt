@@ -1,10 +1,9 @@
 -- `capture_convert::converted_length` meets its contract: what the pass over the file found answers both questions, and its number of records gives the length.
 -- Assumes nothing.
-use Rattle.std.proofs.Common.{◌≡◌, ◌∙◌, Ok, Err, false, length, sym, ap, arith, rules}
-use borrow.Author.Tests.{not-true, not-false}
+use Rattle.std.proofs.Common.{◌≡◌, ◌∙◌, Ok, Err, true, false, length, sym, ap, arith, rules}
 use Rattle.trb.specs.Answers.{refusal_of}
 use Rattle.trb.specs.Questions.{first_no}
-use Rattle.trb.specs.declared.Refusal.TheVariants.{NotACapture}
+use Rattle.trb.specs.declared.Refusal.TheVariants.{NotACapture, NotConvertible}
 use Rattle.capture_file.specs.Files.{whole_file}
 use Rattle.capture_file.proofs.FileLaws.{file-headed}
 use Rattle.capture_file.proofs.SurveyLaws.{Surveyed, survey-none, survey-some, few-records}
@@ -24,12 +23,14 @@ returns-in_err-survey c =
     let refused : c.from_residual.result ≡ Err NotACapture = grind arith in
     rw refused (record { number = rw no; answer = rw no })
 
-pub returns-then-not-survey : goal.returns-then-not-survey
+pub returns-in_err-ask : goal.returns-in_err-ask
 unfolding first_no refusal_of
-returns-then-not-survey c =
-    let s = found (goal.at.returns-then-not-survey c).In_ok-survey in
-    let no = sym s.convertible ∙ not-true _ c.if-not-survey.true in
-    record { number = rw (s.whole, no); answer = rw (s.whole, no) }
+returns-in_err-ask c =
+    let s = found (goal.at.returns-in_err-ask c).In_ok-survey in
+    let asked : c.in_ok-survey.survey.convertible ≡ false = search rules in
+    let no = sym s.convertible ∙ asked in
+    let refused : c.from_residual-in_err-ask.result ≡ Err NotConvertible = grind arith in
+    rw refused (record { number = rw (s.whole, no); answer = rw (s.whole, no) })
 
 pub le32-requires : goal.le32-requires
 le32-requires c = omega (arith, (file-headed added_length _ (found (goal.at.le32-requires c).In_ok-survey).whole).long)
@@ -44,7 +45,8 @@ unfolding first_no
 returns c =
     let s = found (goal.at.returns c).In_ok-survey in
     let l = c.args.src.now in
-    let plain = sym s.convertible ∙ not-false _ c.if-not-survey.false in
+    let asked : c.in_ok-survey.survey.convertible ≡ true = search rules in
+    let plain = sym s.convertible ∙ asked in
     let moved = rw (s.count, c.le32.ensures) at c.resized_length.ensures in
     let size : c.resized_length.result ≡ length (converted_bytes l) = omega (arith, moved, length-moves l s.whole) in
     record { number = rw (s.whole, plain); answer = rw (s.whole, plain) (ap Ok size) }

@@ -1,6 +1,7 @@
 -- `capture_merge::merge` meets its contract: a refused length is refused, a buffer too short for it is 14, and otherwise the file is written.
 -- Assumes nothing.
-use Rattle.std.proofs.Common.{◌≡◌, arith}
+use Rattle.std.proofs.Common.{◌≡◌, ◌≤◌, ◌<◌, Err, length, arith, rules}
+use Rattle.trb.specs.declared.Refusal.TheVariants.{OutputTooShort}
 use borrow.Author.Tests.{eqb-true}
 use Rattle.buffers.proofs.LittleEndianLaws.{AllBytes-each}
 use Rattle.capture_merge.proofs.FileMerging.{Measured, measured, measured-refused, merges, merges-not, length_merged}
@@ -16,8 +17,11 @@ returns-in_err-length c =
     let same : c.from_residual.result ≡ c.merged_length.result = grind arith in
     rw (same, c.in_err-length.was) (measured-refused _ _ _ _ (rw c.in_err-length.was at c.merged_length.ensures))
 
-pub returns-then-dst-length : goal.returns-then-dst-length
-returns-then-dst-length c = merges-not c.args.a.now c.args.b.now c.args.dst.now c.in_ok-length.length (size (goal.at.returns-then-dst-length c).In_ok-length) (omega (arith, c.if-dst-length.true))
+pub returns-in_err-ask : goal.returns-in_err-ask
+returns-in_err-ask c =
+    let short : length c.args.dst.now < c.in_ok-length.length = search rules in
+    let refused : c.from_residual-in_err-ask.result ≡ Err OutputTooShort = grind arith in
+    rw refused (merges-not c.args.a.now c.args.b.now c.args.dst.now c.in_ok-length.length (size (goal.at.returns-in_err-ask c).In_ok-length) short)
 
 pub write_merged-requires : goal.write_merged-requires
 write_merged-requires c =
@@ -27,9 +31,11 @@ write_merged-requires c =
     length_merged c.args.a.now c.args.b.now link m.first m.second
     (AllBytes-each c.args.a.now (λ i. omega (arith, c.shared_slice_known-1.given i)))
     (AllBytes-each c.args.b.now (λ i. omega (arith, c.shared_slice_known-2-1.given i))) in
-    (m.first, m.second, link, omega (arith, m.size, long, c.if-dst-length.false))
+    let fits : c.in_ok-length.length ≤ length c.args.dst.now = search rules in
+    (m.first, m.second, link, omega (arith, m.size, long, fits))
 
 pub returns : goal.returns
 returns c =
+    let fits : c.in_ok-length.length ≤ length c.args.dst.now = search rules in
     rw c.write_merged.ensures
-    (merges c.args.a.now c.args.b.now c.args.dst.now c.in_ok-length.length (size (goal.at.returns c).In_ok-length) (omega (arith, c.if-dst-length.false)))
+    (merges c.args.a.now c.args.b.now c.args.dst.now c.in_ok-length.length (size (goal.at.returns c).In_ok-length) fits)

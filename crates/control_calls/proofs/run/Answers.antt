@@ -3,30 +3,14 @@ use mathlib.Core.Path.{refl, sym}
 use native.Mathlib.Omega.{arith}
 use lib.Seq.{length-take-le}
 use Rattle.control_calls.specs.Calls.{control_call, collect_behind}
-use Rattle.control_calls.proofs.CallLaws.{says-silent, text-hold_call, take-least}
+use Rattle.control_calls.proofs.CallLaws.{says-silent, text-hold_call, take-least, bad-call, kept-collect}
 use Rattle.control_calls.proofs.run.Goals as goal
 
-pub slice_bounds-complete-end : goal.slice_bounds-complete-end
-slice_bounds-complete-end c = rw c.least-given.ensures (sym (length-take-le _ _ (omega arith)))
+pub slice_bounds-given-end : goal.slice_bounds-given-end
+slice_bounds-given-end c = rw c.min.ensures (sym (length-take-le _ _ (omega arith)))
 
-pub slice_bounds-complete-end-in-CompleteWithout : goal.slice_bounds-complete-end-in-CompleteWithout
-slice_bounds-complete-end-in-CompleteWithout c = rw c.least-given-in-CompleteWithout.ensures (sym (length-take-le _ _ (omega arith)))
-
-pub returns-in-Window : goal.returns-in-Window
-unfolding control_call collect_behind
-returns-in-Window c = rw c.in-Window.is (record { runs = record { says = says-silent _ _ _ _ refl c.bad.ensures; log = refl; memory = refl }; collected = refl })
-
-pub returns-in-Buffers : goal.returns-in-Buffers
-unfolding control_call collect_behind
-returns-in-Buffers c = rw c.in-Buffers.is (record { runs = record { says = says-silent _ _ _ _ refl c.bad-in-Buffers.ensures; log = refl; memory = refl }; collected = refl })
-
-pub returns-in-CreateIn : goal.returns-in-CreateIn
-unfolding control_call collect_behind
-returns-in-CreateIn c = rw c.in-CreateIn.is (record { runs = record { says = says-silent _ _ _ _ refl c.bad-in-CreateIn.ensures; log = refl; memory = refl }; collected = refl })
-
-pub returns-in-CreateControl : goal.returns-in-CreateControl
-unfolding control_call collect_behind
-returns-in-CreateControl c = rw c.in-CreateControl.is (record { runs = record { says = says-silent _ _ _ _ refl c.bad-in-CreateControl.ensures; log = refl; memory = refl }; collected = refl })
+pub slice_bounds-given-end-in-CompleteWithout : goal.slice_bounds-given-end-in-CompleteWithout
+slice_bounds-given-end-in-CompleteWithout c = rw c.min-in-CompleteWithout.ensures (sym (length-take-le _ _ (omega arith)))
 
 pub returns-in-Submit : goal.returns-in-Submit
 unfolding control_call collect_behind
@@ -34,11 +18,11 @@ returns-in-Submit c = rw c.in-Submit.is c.submit.ensures
 
 pub returns-in-CompleteWithResult : goal.returns-in-CompleteWithResult
 unfolding control_call collect_behind
-returns-in-CompleteWithResult c = rw (c.in-CompleteWithResult.is, ← c.result_of.ensures, ← take-least _ _ c.least-given.ensures) (record { runs = c.complete.ensures; collected = refl })
+returns-in-CompleteWithResult c = rw (c.in-CompleteWithResult.is, ← c.result_of.ensures, ← take-least _ _ c.min.ensures) (record { runs = c.complete.ensures; collected = refl })
 
 pub returns-in-CompleteWithout : goal.returns-in-CompleteWithout
 unfolding control_call collect_behind
-returns-in-CompleteWithout c = rw (c.in-CompleteWithout.is, ← take-least _ _ c.least-given-in-CompleteWithout.ensures) (record { runs = c.complete-in-CompleteWithout.ensures; collected = refl })
+returns-in-CompleteWithout c = rw (c.in-CompleteWithout.is, ← take-least _ _ c.min-in-CompleteWithout.ensures) (record { runs = c.complete-in-CompleteWithout.ensures; collected = refl })
 
 pub returns-in-Cancel : goal.returns-in-Cancel
 unfolding control_call collect_behind
@@ -48,34 +32,12 @@ pub returns-in-Hold : goal.returns-in-Hold
 unfolding control_call collect_behind
 returns-in-Hold c = rw c.in-Hold.is (record { runs = record { says = says-silent _ _ _ _ (text-hold_call _ _) c.hold.ensures; log = refl; memory = refl }; collected = refl })
 
-pub returns-in-MakeUpIn : goal.returns-in-MakeUpIn
-unfolding control_call collect_behind
-returns-in-MakeUpIn c = rw c.in-MakeUpIn.is (record { runs = record { says = says-silent _ _ _ _ refl c.bad-in-MakeUpIn.ensures; log = refl; memory = refl }; collected = refl })
-
 pub returns-in-MakeUpControl : goal.returns-in-MakeUpControl
 unfolding control_call collect_behind
 returns-in-MakeUpControl c = rw c.in-MakeUpControl.is (record { runs = record { says = says-silent _ _ _ _ refl c.make_up.ensures; log = refl; memory = refl }; collected = refl })
 
-pub returns-in-AppendTrb : goal.returns-in-AppendTrb
-unfolding control_call collect_behind
-returns-in-AppendTrb c = rw c.in-AppendTrb.is (record { runs = record { says = says-silent _ _ _ _ refl c.bad-in-AppendTrb.ensures; log = refl; memory = refl }; collected = refl })
-
-pub returns-in-AppendResult : goal.returns-in-AppendResult
-unfolding control_call collect_behind
-returns-in-AppendResult c = rw c.in-AppendResult.is (record { runs = record { says = says-silent _ _ _ _ refl c.bad-in-AppendResult.ensures; log = refl; memory = refl }; collected = refl })
-
-pub returns-in-CompleteRow : goal.returns-in-CompleteRow
-unfolding control_call collect_behind
-returns-in-CompleteRow c = rw c.in-CompleteRow.is (record { runs = record { says = says-silent _ _ _ _ refl c.bad-in-CompleteRow.ensures; log = refl; memory = refl }; collected = refl })
-
-pub returns-in-Time : goal.returns-in-Time
-unfolding control_call collect_behind
-returns-in-Time c = rw c.in-Time.is (record { runs = record { says = says-silent _ _ _ _ refl c.bad-in-Time.ensures; log = refl; memory = refl }; collected = refl })
-
-pub returns-in-Captured : goal.returns-in-Captured
-unfolding control_call collect_behind
-returns-in-Captured c = rw c.in-Captured.is (record { runs = record { says = says-silent _ _ _ _ refl c.bad-in-Captured.ensures; log = refl; memory = refl }; collected = refl })
-
-pub returns-in-Bad : goal.returns-in-Bad
-unfolding control_call collect_behind
-returns-in-Bad c = rw c.in-Bad.is (record { runs = record { says = says-silent _ _ _ _ refl c.bad-in-Bad.ensures; log = refl; memory = refl }; collected = refl })
+pub returns-in_default : goal.returns-in_default
+returns-in_default c =
+    let no = c.in_default in
+    rw (bad-call _ _ _ _ _ _ c.args.call no.not-Submit no.not-CompleteWithResult no.not-CompleteWithout no.not-Cancel no.not-Hold no.not-MakeUpControl, kept-collect _ _ _ _ _ c.args.call no.not-Submit)
+    (record { runs = record { says = says-silent _ _ _ _ refl c.bad.ensures; log = refl; memory = refl }; collected = refl })

@@ -6,16 +6,16 @@ use Rattle.control_calls.proofs.CallLaws.{runs-submitted, take-least, collected-
 use Rattle.control_calls.proofs.submit.Goals as goal
 
 pub slice_bounds-submit_trb-end : goal.slice_bounds-submit_trb-end
-slice_bounds-submit_trb-end c = rw c.least-end.ensures (omega arith)
+slice_bounds-submit_trb-end c = rw c.min-end.ensures (omega arith)
 
 pub slice_bounds-submit_trb-end-2 : goal.slice_bounds-submit_trb-end-2
-slice_bounds-submit_trb-end-2 c = rw c.least-end.ensures (sym (length-take-le _ _ (omega arith)))
+slice_bounds-submit_trb-end-2 c = rw c.min-end.ensures (sym (length-take-le _ _ (omega arith)))
 
 pub returns : goal.returns
 returns c =
-    let kept = collected-behind c.args.block c.args.t c.args.lent c.args.collect.now _ _ c.least-end.ensures c.submit_trb-submitted.ensures.collect in
+    let kept = collected-behind c.args.block c.args.t c.args.lent c.args.collect.now _ _ c.min-end.ensures c.submit_trb-submitted.ensures.collect in
     record {
-      runs = runs-submitted c.args.at c.args.block _ c.requires.max_answer_in_bounds _ c.args.lent c.args.collect.now (take-least _ _ c.least-end.ensures)
+      runs = runs-submitted c.args.at c.args.block _ c.requires.max_answer_in_bounds _ c.args.lent c.args.collect.now (take-least _ _ c.min-end.ensures)
           c.submit_trb-submitted.ensures.met kept c.put_answer-next.ensures c.answered.ensures;
       collected = kept;
     }

@@ -2,11 +2,10 @@
 -- asked, and to their stage; the second to the walk over those that the completion frees, with the places behind it blank; one event may
 -- follow.
 -- Assumes nothing.
-use Rattle.std.proofs.Common.{◌≡◌, ℕ, ◌+◌, ◌*◌, ◌≤◌, List, length, sym, ap, ◌∙◌, subst, arith, rules}
+use Rattle.std.proofs.Common.{◌≡◌, ℕ, ◌+◌, ◌*◌, ◌≤◌, List, length, sym, ap, ◌∙◌, subst, arith, rules, Ok}
 use Rattle.trb.specs.Answers.{number_of}
 use Rattle.trb.specs.Limits.{max_held, max_records, record_length}
 use Rattle.trb.specs.Questions.{first_no}
-use Rattle.trb.specs.declared.Answer.TheVariants.{Accepted}
 use Rattle.trb.specs.declared.TransferTrb.{TransferTrb}
 use Rattle.call_log.specs.declared.Record.{Record}
 use Rattle.call_log.specs.Calls.{Put, Meets, counted}
@@ -35,11 +34,11 @@ numbered : (k : After-ask_completion-asked) → let s = k.args in
     number_of k.ask_completion-asked.result ≡ first_no (completion_questions (length s.log.now) (facts_of s.block) s.res (length s.data.now))
 numbered k = rw k.facts_of-facts.ensures at k.ask_completion-asked.ensures
 
-none : (k : After-ask_completion-asked) → k.ask_completion-asked.result ≡ Accepted → let s = k.args in
+none : (k : After-ask_completion-asked) → k.ask_completion-asked.result ≡ Ok tt → let s = k.args in
     first_no (completion_questions (length s.log.now) (facts_of s.block) s.res (length s.data.now)) ≡ 0
 none k told = sym (numbered k) ∙ ap number_of told
 
-pass : (k : After-ask_completion-asked) → k.ask_completion-asked.result ≡ Accepted → let s = k.args in Passed (length s.log.now) (facts_of s.block) (length s.data.now)
+pass : (k : After-ask_completion-asked) → k.ask_completion-asked.result ≡ Ok tt → let s = k.args in Passed (length s.log.now) (facts_of s.block) (length s.data.now)
 pass k told = let s = k.args in passed (facts_of s.block) s.res (length s.data.now) (length s.log.now) (none k told)
 
 -- ---- The places that are freed
@@ -77,7 +76,7 @@ module _ (b : ControlBlock) (x : Ending) (info : TdInfo) (l₀ : List ℕ) (n d 
 -- ---- The goals
 
 pub overflow_cast-data : goal.overflow_cast-data
-overflow_cast-data c = let few = (pass (goal.at.overflow_cast-data c).After-ask_completion-asked c.in-Accepted.is).data-short in search rules
+overflow_cast-data c = let few = (pass (goal.at.overflow_cast-data c).After-ask_completion-asked c.in-Ok.is).data-short in search rules
 
 pub loop-j-init : goal.loop-j-init
 loop-j-init c =
@@ -88,21 +87,21 @@ loop-j-init c =
 pub offset_bounds-trbs-j : goal.offset_bounds-trbs-j
 offset_bounds-trbs-j c =
     let s = c.args in
-    let p = pass (goal.at.offset_bounds-trbs-j c).After-ask_completion-asked c.in-Accepted.is in
+    let p = pass (goal.at.offset_bounds-trbs-j c).After-ask_completion-asked c.in-Ok.is in
     let few = freed-places s.block c.ending_of-ending.result c.info_of-info.result s.log.now (length s.data.now) c.places_freed-freed.result p c.info_of-info.ensures c.places_freed-freed.ensures in
     search rules
 
 pub bounds-trbs-j : goal.bounds-trbs-j
 bounds-trbs-j c =
     let s = c.args in
-    let p = pass (goal.at.bounds-trbs-j c).After-ask_completion-asked c.in-Accepted.is in
+    let p = pass (goal.at.bounds-trbs-j c).After-ask_completion-asked c.in-Ok.is in
     let few = freed-places s.block c.ending_of-ending.result c.info_of-info.result s.log.now (length s.data.now) c.places_freed-freed.result p c.info_of-info.ensures c.places_freed-freed.ensures in
     search rules
 
 pub next_trb-progress-requires : goal.next_trb-progress-requires
 next_trb-progress-requires c =
     let s = c.args in
-    let p = pass (goal.at.next_trb-progress-requires c).After-ask_completion-asked c.in-Accepted.is in
+    let p = pass (goal.at.next_trb-progress-requires c).After-ask_completion-asked c.in-Ok.is in
     let b = s.block in
     let x = c.ending_of-ending.result in
     let info = c.info_of-info.result in
@@ -115,21 +114,21 @@ next_trb-progress-requires c =
 pub offset_bounds-trbs-j-in-loop-j : goal.offset_bounds-trbs-j-in-loop-j
 offset_bounds-trbs-j-in-loop-j c =
     let s = c.args in
-    let p = pass (goal.at.offset_bounds-trbs-j-in-loop-j c).After-ask_completion-asked c.in-Accepted.is in
+    let p = pass (goal.at.offset_bounds-trbs-j-in-loop-j c).After-ask_completion-asked c.in-Ok.is in
     let few = freed-places s.block c.ending_of-ending.result c.info_of-info.result s.log.now (length s.data.now) c.places_freed-freed.result p c.info_of-info.ensures c.places_freed-freed.ensures in
     search rules
 
 pub bounds-trbs-j-in-loop-j : goal.bounds-trbs-j-in-loop-j
 bounds-trbs-j-in-loop-j c =
     let s = c.args in
-    let p = pass (goal.at.bounds-trbs-j-in-loop-j c).After-ask_completion-asked c.in-Accepted.is in
+    let p = pass (goal.at.bounds-trbs-j-in-loop-j c).After-ask_completion-asked c.in-Ok.is in
     let few = freed-places s.block c.ending_of-ending.result c.info_of-info.result s.log.now (length s.data.now) c.places_freed-freed.result p c.info_of-info.ensures c.places_freed-freed.ensures in
     search rules
 
 pub loop-j-preserved : goal.loop-j-preserved
 loop-j-preserved c =
     let s = c.args in
-    let p = pass (goal.at.loop-j-preserved c).After-ask_completion-asked c.in-Accepted.is in
+    let p = pass (goal.at.loop-j-preserved c).After-ask_completion-asked c.in-Ok.is in
     let b = s.block in
     let x = c.ending_of-ending.result in
     let info = c.info_of-info.result in
@@ -144,22 +143,22 @@ loop-j-preserved c =
 pub log_ending-records-requires : goal.log_ending-records-requires
 log_ending-records-requires c =
     let s = c.args in
-    let p = pass (goal.at.log_ending-records-requires c).After-ask_completion-asked c.in-Accepted.is in
+    let p = pass (goal.at.log_ending-records-requires c).After-ask_completion-asked c.in-Ok.is in
     let l = c.loop-j in
     let places : length s.block.trbs ≡ max_held = omega arith in
     let few = total s.block c.ending_of-ending.result c.info_of-info.result s.log.now (length s.data.now) c.places_freed-freed.result p c.info_of-info.ensures c.places_freed-freed.ensures places l.log l.progress l.trbs l.j l.invariant c.loop-j-test.false in
     rw c.error_address-error_address.ensures (omega (arith, few, l.auto.log, p.log-long))
 
-pub returns-in-Refused : goal.returns-in-Refused
-returns-in-Refused c =
+pub returns-in-Err : goal.returns-in-Err
+returns-in-Err c =
     let s = c.args in
-    completes-refused s.block s.res (length s.data.now) s.log.now _ (ap number_of (sym c.in-Refused.is) ∙ numbered (goal.at.returns-in-Refused c).After-ask_completion-asked)
+    completes-refused s.block s.res (length s.data.now) s.log.now _ (ap number_of (sym c.in-Err.is) ∙ numbered (goal.at.returns-in-Err c).After-ask_completion-asked)
 
 pub returns-after-loop-j : goal.returns-after-loop-j
 returns-after-loop-j c =
     let s = c.args in
     let k = (goal.at.returns-after-loop-j c).After-ask_completion-asked in
-    let p = pass k c.in-Accepted.is in
+    let p = pass k c.in-Ok.is in
     let b = s.block in
     let x = c.ending_of-ending.result in
     let info = c.info_of-info.result in
@@ -169,6 +168,6 @@ returns-after-loop-j c =
     let empty = blank b x info s.log.now (length s.data.now) d p c.info_of-info.ensures c.places_freed-freed.ensures places l.log l.progress l.trbs l.j l.invariant c.loop-j-test.false in
     let written = logged b x info s.log.now (length s.data.now) d p c.info_of-info.ensures c.places_freed-freed.ensures places l.log l.progress l.trbs l.j l.invariant c.loop-j-test.false c.log_ending-records.result c.log_ending-records.new.log
     (rw c.error_address-error_address.ensures at c.log_ending-records.ensures) in
-    completes-accepted b s.res (length s.data.now) s.log.now x c.ending_of-ending.ensures (none k c.in-Accepted.is) _ _
+    completes-accepted b s.res (length s.data.now) s.log.now x c.ending_of-ending.ensures (none k c.in-Ok.is) _ _
     (completed-by b x c.result_of.result c.log_ending-records.result c.phase_behind-phase.result d l.trbs c.result_of.ensures written.1 c.phase_behind-phase.ensures c.places_freed-freed.ensures empty)
     written.0

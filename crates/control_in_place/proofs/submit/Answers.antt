@@ -1,8 +1,8 @@
 -- `control_in_place::submit` meets its contract: by the answer to the questions. Assumes nothing.
+use Rattle.std.specs.Prelude.{Ok}
 use mathlib.Core.Path.{◌≡◌, sym, ap, ◌∙◌, subst}
 use lib.ListN.{length}
 use Rattle.trb.specs.Answers.{number_of}
-use Rattle.trb.specs.declared.Answer.TheVariants.{Accepted}
 use Rattle.held_bytes.specs.Numbers.{trb_of}
 use Rattle.guest_memory.specs.declared.Regions.{Regions}
 use Rattle.guest_memory.specs.Places.{memory_of, regions_of}
@@ -18,20 +18,20 @@ asked_by k =
     let a = k.args in
     subst (λ (rs : Regions). Asked (length a.log.now) (length a.collect.now) a.block.now (trb_of a.numbers) rs k.ask_submission-asked.result) k.guest_regions-regions.ensures k.ask_submission-asked.ensures
 
-acceptable : (k : After-ask_submission-asked) → k.ask_submission-asked.result.answer ≡ Accepted → let a = k.args in
+acceptable : (k : After-ask_submission-asked) → k.ask_submission-asked.result.answer ≡ Ok tt → let a = k.args in
     Acceptable a.log.now a.collect.now a.block.now (trb_of a.numbers) (memory_of a.low_base a.low.now a.high_base a.high.now) k.ask_submission-asked.result.outcome
 acceptable k told = record { long = k.requires; outcome = (asked_by k).outcome; none = sym (asked_by k).number ∙ ap number_of told }
 
 pub accept_trb-records-requires : goal.accept_trb-records-requires
-accept_trb-records-requires c = record { data_value = c.data_of-data.ensures; acceptable = acceptable (goal.at.accept_trb-records-requires c).After-ask_submission-asked c.in-Accepted.is }
+accept_trb-records-requires c = record { data_value = c.data_of-data.ensures; acceptable = acceptable (goal.at.accept_trb-records-requires c).After-ask_submission-asked c.in-Ok.is }
 
-pub returns-in-Refused : goal.returns-in-Refused
-returns-in-Refused c =
+pub returns-in-Err : goal.returns-in-Err
+returns-in-Err c =
     let a = c.args in
-    refused-in-place a.block.now (trb_of a.numbers) (memory_of a.low_base a.low.now a.high_base a.high.now) a.log.now a.collect.now _ (ap number_of (sym c.in-Refused.is) ∙ (asked_by (goal.at.returns-in-Refused c).After-ask_submission-asked).number)
+    refused-in-place a.block.now (trb_of a.numbers) (memory_of a.low_base a.low.now a.high_base a.high.now) a.log.now a.collect.now _ (ap number_of (sym c.in-Err.is) ∙ (asked_by (goal.at.returns-in-Err c).After-ask_submission-asked).number)
 
-pub returns-in-Accepted : goal.returns-in-Accepted
-returns-in-Accepted c =
+pub returns-in-Ok : goal.returns-in-Ok
+returns-in-Ok c =
     let a = c.args in
     accepted-in-place a.block.now (trb_of a.numbers) (memory_of a.low_base a.low.now a.high_base a.high.now) a.log.now a.collect.now c.ask_submission-asked.result.outcome c.accept_trb-records.result _ _ _
-    (acceptable (goal.at.returns-in-Accepted c).After-ask_submission-asked c.in-Accepted.is) c.accept_trb-records.ensures
+    (acceptable (goal.at.returns-in-Ok c).After-ask_submission-asked c.in-Ok.is) c.accept_trb-records.ensures

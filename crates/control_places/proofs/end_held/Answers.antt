@@ -1,5 +1,5 @@
 -- `control_places::end_held` meets its contract: the loop keeps to the walk. Assumes nothing.
-use Prim.Native.Nat.{◌+◌, ◌*◌, ◌≤◌, ◌-◌}
+use Prim.Native.Nat.{◌+◌, ◌*◌, ◌≤◌}
 use mathlib.Core.Path.{refl, sym, ap, ◌∙◌}
 use native.Mathlib.Omega.{arith}
 use lib.ListN.{length, take}
@@ -13,7 +13,6 @@ use Rattle.control_chain.specs.Endings.{next_trb}
 use Rattle.control_chain.proofs.EndingLaws.{ending_walker}
 use Rattle.control_bytes.specs.Layout.{block_of}
 use Rattle.control_bytes.proofs.FactLaws.{length-trbs, trb-held}
-use borrow.Author.Rules.{rules}
 use Rattle.control_places.proofs.end_held.Goals.{Start}
 use Rattle.control_places.proofs.end_held.Goals as goal
 

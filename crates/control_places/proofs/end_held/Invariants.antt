@@ -1,4 +1,3 @@
-use Prim.Native.Nat.{◌≤◌, ◌-◌}
 use lib.ListN.{take}
 use Rattle.td_part.specs.Parts.{at_start}
 use Rattle.walks.proofs.WalkLaws.{Walked}

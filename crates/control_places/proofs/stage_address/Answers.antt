@@ -1,5 +1,5 @@
 -- `control_places::stage_address` meets its contract: the loop keeps to the stage of the TRBs held. Assumes nothing.
-use Prim.Native.Nat.{ℕ, ◌-◌, min}
+use Prim.Native.Nat.{ℕ, min}
 use mathlib.Core.Path.{◌≡◌, sym, ap, ◌∙◌}
 use native.Mathlib.Omega.{arith}
 use lib.ListN.{take}
@@ -11,7 +11,6 @@ use Rattle.control_block.specs.Stages.{stage_with}
 use Rattle.control_block.proofs.StageLaws.{looked-none, looked-turn, stage-found}
 use Rattle.control_bytes.specs.Layout.{block_of}
 use Rattle.control_bytes.proofs.FactLaws.{length-trbs, trb-held}
-use borrow.Author.Rules.{rules}
 use Rattle.control_places.proofs.stage_address.Goals.{After-places_held-places}
 use Rattle.control_places.proofs.stage_address.Goals as goal
 

@@ -1,4 +1,3 @@
-use Prim.Native.Nat.{◌≤◌, ◌-◌}
 use lib.ListN.{take}
 use Rattle.control_block.proofs.StageLaws.{Looked}
 use Rattle.control_bytes.specs.Layout.{block_of}

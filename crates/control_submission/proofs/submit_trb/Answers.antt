@@ -1,10 +1,9 @@
 -- `control_submission::submit_trb` meets its contract: the loop keeps to the walk over the TRBs that are dropped, with the places behind it blank; the TRB is then held, if it is taken.
 -- Assumes nothing.
-use Rattle.std.proofs.Common.{◌≡◌, ℕ, ◌+◌, ◌*◌, ◌-◌, ◌<◌, ◌≤◌, Bool, true, List, length, set, sym, ap, ◌∙◌, subst, arith, rules}
+use Rattle.std.proofs.Common.{◌≡◌, ℕ, ◌+◌, ◌*◌, ◌-◌, ◌<◌, ◌≤◌, Bool, true, List, length, set, sym, ap, ◌∙◌, subst, arith, rules, Ok}
 use Rattle.trb.specs.Answers.{number_of}
 use Rattle.trb.specs.Limits.{max_held, record_length}
 use Rattle.trb.specs.Questions.{first_no}
-use Rattle.trb.specs.declared.Answer.TheVariants.{Accepted}
 use Rattle.trb.specs.declared.TransferTrb.{TransferTrb}
 use Rattle.call_log.specs.declared.Record.{Record}
 use Rattle.call_log.specs.Calls.{Put, Meets, counted}
@@ -45,7 +44,7 @@ numbered k =
     numbered-by k
     ∙ ap (λ (o : Outcome). first_no (submission_questions (length s.log.now) (length s.collect.now) (facts_of s.block) o s.t (regions_of (memory_of s.low_base s.low.now s.high_base s.high.now)))) k.trb_outcome-outcome.ensures
 
-pass : (k : After-ask_submission-answer) → k.ask_submission-answer.result ≡ Accepted → let s = k.args in
+pass : (k : After-ask_submission-answer) → k.ask_submission-answer.result ≡ Ok tt → let s = k.args in
     Passed (length s.log.now) (length s.collect.now) (facts_of s.block) k.trb_outcome-outcome.result s.t
 pass k told =
     let s = k.args in
@@ -104,19 +103,19 @@ loop-j-init c =
 pub offset_bounds-trbs-j : goal.offset_bounds-trbs-j
 offset_bounds-trbs-j c =
     let s = c.args in
-    let few = dropped-places s.block s.t s.log.now s.collect.now c.trb_outcome-outcome.result c.places_dropped-dropped.result (pass (goal.at.offset_bounds-trbs-j c).After-ask_submission-answer c.in-Accepted.is) (dropped-by (goal.at.offset_bounds-trbs-j c).After-places_dropped-dropped) in
+    let few = dropped-places s.block s.t s.log.now s.collect.now c.trb_outcome-outcome.result c.places_dropped-dropped.result (pass (goal.at.offset_bounds-trbs-j c).After-ask_submission-answer c.in-Ok.is) (dropped-by (goal.at.offset_bounds-trbs-j c).After-places_dropped-dropped) in
     search rules
 
 pub bounds-trbs-j : goal.bounds-trbs-j
 bounds-trbs-j c =
     let s = c.args in
-    let few = dropped-places s.block s.t s.log.now s.collect.now c.trb_outcome-outcome.result c.places_dropped-dropped.result (pass (goal.at.bounds-trbs-j c).After-ask_submission-answer c.in-Accepted.is) (dropped-by (goal.at.bounds-trbs-j c).After-places_dropped-dropped) in
+    let few = dropped-places s.block s.t s.log.now s.collect.now c.trb_outcome-outcome.result c.places_dropped-dropped.result (pass (goal.at.bounds-trbs-j c).After-ask_submission-answer c.in-Ok.is) (dropped-by (goal.at.bounds-trbs-j c).After-places_dropped-dropped) in
     search rules
 
 pub report_dropped-progress-requires : goal.report_dropped-progress-requires
 report_dropped-progress-requires c =
     let s = c.args in
-    let p = pass (goal.at.report_dropped-progress-requires c).After-ask_submission-answer c.in-Accepted.is in
+    let p = pass (goal.at.report_dropped-progress-requires c).After-ask_submission-answer c.in-Ok.is in
     let drops = dropped-by (goal.at.report_dropped-progress-requires c).After-places_dropped-dropped in
     let b = s.block in
     let l = c.loop-j in
@@ -127,7 +126,7 @@ report_dropped-progress-requires c =
 pub offset_bounds-trbs-j-in-loop-j : goal.offset_bounds-trbs-j-in-loop-j
 offset_bounds-trbs-j-in-loop-j c =
     let s = c.args in
-    let p = pass (goal.at.offset_bounds-trbs-j-in-loop-j c).After-ask_submission-answer c.in-Accepted.is in
+    let p = pass (goal.at.offset_bounds-trbs-j-in-loop-j c).After-ask_submission-answer c.in-Ok.is in
     let drops = dropped-by (goal.at.offset_bounds-trbs-j-in-loop-j c).After-places_dropped-dropped in
     let few = dropped-places s.block s.t s.log.now s.collect.now c.trb_outcome-outcome.result c.places_dropped-dropped.result p drops in
     search rules
@@ -135,7 +134,7 @@ offset_bounds-trbs-j-in-loop-j c =
 pub bounds-trbs-j-in-loop-j : goal.bounds-trbs-j-in-loop-j
 bounds-trbs-j-in-loop-j c =
     let s = c.args in
-    let p = pass (goal.at.bounds-trbs-j-in-loop-j c).After-ask_submission-answer c.in-Accepted.is in
+    let p = pass (goal.at.bounds-trbs-j-in-loop-j c).After-ask_submission-answer c.in-Ok.is in
     let drops = dropped-by (goal.at.bounds-trbs-j-in-loop-j c).After-places_dropped-dropped in
     let few = dropped-places s.block s.t s.log.now s.collect.now c.trb_outcome-outcome.result c.places_dropped-dropped.result p drops in
     search rules
@@ -143,7 +142,7 @@ bounds-trbs-j-in-loop-j c =
 pub loop-j-preserved : goal.loop-j-preserved
 loop-j-preserved c =
     let s = c.args in
-    let p = pass (goal.at.loop-j-preserved c).After-ask_submission-answer c.in-Accepted.is in
+    let p = pass (goal.at.loop-j-preserved c).After-ask_submission-answer c.in-Ok.is in
     let drops = dropped-by (goal.at.loop-j-preserved c).After-places_dropped-dropped in
     let b = s.block in
     let l = c.loop-j in
@@ -159,17 +158,17 @@ log_request-records-requires c =
     let b = s.block in
     let l = c.loop-j in
     let places : length b.trbs ≡ max_held = omega arith in
-    let room = total b s.t s.log.now s.collect.now c.trb_outcome-outcome.result c.places_dropped-dropped.result (pass (goal.at.log_request-records-requires c).After-ask_submission-answer c.in-Accepted.is) (dropped-by (goal.at.log_request-records-requires c).After-places_dropped-dropped)
+    let room = total b s.t s.log.now s.collect.now c.trb_outcome-outcome.result c.places_dropped-dropped.result (pass (goal.at.log_request-records-requires c).After-ask_submission-answer c.in-Ok.is) (dropped-by (goal.at.log_request-records-requires c).After-places_dropped-dropped)
     places l.log l.progress l.trbs l.j l.invariant c.loop-j-test.false in
     omega (arith, room, l.auto.log)
 
 pub collect_trb-requires : goal.collect_trb-requires
-collect_trb-requires c = let p = pass (goal.at.collect_trb-requires c).After-ask_submission-answer c.in-Accepted.is in (p.collect-long, p.size)
+collect_trb-requires c = let p = pass (goal.at.collect_trb-requires c).After-ask_submission-answer c.in-Ok.is in (p.collect-long, p.size)
 
 pub offset_bounds-trbs-held : goal.offset_bounds-trbs-held
 offset_bounds-trbs-held c =
     let s = c.args in
-    let p = pass (goal.at.offset_bounds-trbs-held c).After-ask_submission-answer c.in-Accepted.is in
+    let p = pass (goal.at.offset_bounds-trbs-held c).After-ask_submission-answer c.in-Ok.is in
     let drops = dropped-by (goal.at.offset_bounds-trbs-held c).After-places_dropped-dropped in
     let place = free s.block s.t s.log.now s.collect.now c.trb_outcome-outcome.result c.places_dropped-dropped.result p drops (sym c.is_held.ensures ∙ c.if-is_held.true) in
     search rules
@@ -177,7 +176,7 @@ offset_bounds-trbs-held c =
 pub bounds-trbs-held : goal.bounds-trbs-held
 bounds-trbs-held c =
     let s = c.args in
-    let p = pass (goal.at.bounds-trbs-held c).After-ask_submission-answer c.in-Accepted.is in
+    let p = pass (goal.at.bounds-trbs-held c).After-ask_submission-answer c.in-Ok.is in
     let drops = dropped-by (goal.at.bounds-trbs-held c).After-places_dropped-dropped in
     let place = free s.block s.t s.log.now s.collect.now c.trb_outcome-outcome.result c.places_dropped-dropped.result p drops (sym c.is_held.ensures ∙ c.if-is_held.true) in
     search rules
@@ -185,30 +184,30 @@ bounds-trbs-held c =
 pub overflow_add-held : goal.overflow_add-held
 overflow_add-held c =
     let s = c.args in
-    let p = pass (goal.at.overflow_add-held c).After-ask_submission-answer c.in-Accepted.is in
+    let p = pass (goal.at.overflow_add-held c).After-ask_submission-answer c.in-Ok.is in
     let drops = dropped-by (goal.at.overflow_add-held c).After-places_dropped-dropped in
     let place = free s.block s.t s.log.now s.collect.now c.trb_outcome-outcome.result c.places_dropped-dropped.result p drops (sym c.is_held.ensures ∙ c.if-is_held.true) in
     search rules
 
 pub transfer_after-transfer-requires : goal.transfer_after-transfer-requires
-transfer_after-transfer-requires c = (pass (goal.at.transfer_after-transfer-requires c).After-ask_submission-answer c.in-Accepted.is).collected
+transfer_after-transfer-requires c = (pass (goal.at.transfer_after-transfer-requires c).After-ask_submission-answer c.in-Ok.is).collected
 
-pub returns-in-Refused : goal.returns-in-Refused
-returns-in-Refused c =
+pub returns-in-Err : goal.returns-in-Err
+returns-in-Err c =
     let s = c.args in
-    submits-refused s.block s.t (memory_of s.low_base s.low.now s.high_base s.high.now) s.log.now s.collect.now _ c.ask_submission-answer.result c.in-Refused.is (numbered (goal.at.returns-in-Refused c).After-ask_submission-answer)
+    submits-refused s.block s.t (memory_of s.low_base s.low.now s.high_base s.high.now) s.log.now s.collect.now _ c.ask_submission-answer.result c.in-Err.is (numbered (goal.at.returns-in-Err c).After-ask_submission-answer)
 
 pub returns-after-is_held : goal.returns-after-is_held
 returns-after-is_held c =
     let s = c.args in
-    let p = pass (goal.at.returns-after-is_held c).After-ask_submission-answer c.in-Accepted.is in
+    let p = pass (goal.at.returns-after-is_held c).After-ask_submission-answer c.in-Ok.is in
     let drops = dropped-by (goal.at.returns-after-is_held c).After-places_dropped-dropped in
     let k = goal.at.returns-after-is_held c in
     let b = s.block in
     let o = c.trb_outcome-outcome.result in
     let d = c.places_dropped-dropped.result in
     let l = c.loop-j in
-    let told = c.in-Accepted.is in
+    let told = c.in-Ok.is in
     let room : length b.trbs ≡ max_held = omega arith in
     let empty = blank b s.t s.log.now s.collect.now o d p drops room l.log l.progress l.trbs l.j l.invariant c.loop-j-test.false in
     let written = logged b s.t s.log.now s.collect.now o d p drops room l.log l.progress l.trbs l.j l.invariant c.loop-j-test.false c.log_request-records.result c.log_request-records.new.log c.log_request-records.ensures in

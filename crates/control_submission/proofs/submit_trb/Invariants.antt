@@ -1,4 +1,3 @@
-use Prim.Native.Nat.{◌-◌}
 use Rattle.control_chain.specs.Dropped.{report_dropped}
 use Rattle.control_chain.proofs.DroppedLaws.{kept-dropped}
 use Rattle.control_endpoint.proofs.FreeingLaws.{Freeing}
@@ -6,6 +5,3 @@ use Rattle.control_submission.proofs.submit_trb.Given as goal
 
 abbrev pub invariant-loop-j : goal.invariant-loop-j
 invariant-loop-j l = Freeing l.info (report_dropped l.info) (kept-dropped l.info) l.dropped l.initial.trbs l.initial.log l.log l.progress l.trbs l.j
-
-abbrev pub decreases-loop-j : goal.decreases-loop-j
-decreases-loop-j l = l.dropped - l.j

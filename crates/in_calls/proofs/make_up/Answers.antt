@@ -1,9 +1,8 @@
 -- `in_calls::make_up` meets its contract: the block has the state. Assumes nothing.
 use mathlib.Core.Path.{ap, ◌∙◌}
-use Rattle.call_answer.specs.Called.{silent_said}
+use Rattle.call_answer.specs.Called.{silent_said, silent_ran}
 use Rattle.in_block.specs.declared.InBlock.{InBlock}
-use Rattle.in_calls.specs.Calls.{silent_ran}
 use Rattle.in_calls.proofs.make_up.Goals as goal
 
 pub returns : goal.returns
-returns c = c.silent.ensures ∙ ap (λ (b : InBlock). silent_ran (silent_said b) c.args.at) c.with_state-after.ensures
+returns c = c.silent.ensures ∙ ap (λ (b : InBlock). silent_ran (silent_said b) c.args.at) c.with_state.ensures

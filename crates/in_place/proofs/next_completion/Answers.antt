@@ -1,7 +1,8 @@
 -- `in_place::next_completion` meets its contract. Assumes nothing.
+use Rattle.std.specs.Prelude.{Option}
 use mathlib.Core.Path.{◌≡◌, subst}
 use lib.ListN.{length}
-use Rattle.trb.specs.declared.InTrbProcessingResult.{InTrbProcessingResult}
+use Rattle.trb.specs.declared.InTrbProcessingStatus.{InTrbProcessingStatus}
 use Rattle.in_place.specs.InPlace.{result_of, CompletesInPlace}
 use Rattle.in_place_questions.specs.Lent.{lent_log}
 use Rattle.in_place_questions.proofs.LentLaws.{lent-long}
@@ -29,4 +30,4 @@ returns c =
     let l = s.log.now in
     let b = s.block.now in
     rw (long (goal.at.returns c).Else-block-lt-BLOCK)
-    (subst (λ (x : InTrbProcessingResult). CompletesInPlace (length l) x s.data_length l b c.complete.result c.complete.new.log c.complete.new.block) c.result_of.ensures c.complete.ensures)
+    (subst (λ (x : Option InTrbProcessingStatus). CompletesInPlace (length l) x s.data_length l b c.complete.result c.complete.new.log c.complete.new.block) c.result_of.ensures c.complete.ensures)

@@ -3,6 +3,7 @@ use Prim.Native.Nat.{◌*◌}
 use mathlib.Core.Path.{sym, ◌∙◌}
 use native.Mathlib.Omega.{arith}
 use lib.ListN.{drop, get_or}
+use Rattle.trb.proofs.AnswerLaws.{accepted-ok}
 use Rattle.held.specs.Places.{past_end}
 use Rattle.held_bytes.specs.Places.{place_length}
 use Rattle.row_walk.specs.Rows.{past_results}
@@ -24,7 +25,7 @@ returns-then-is_taken c =
       c.with_normal.ensures
           ∙ rw (trb-in row a.j past_end c.requires.0)
           (sym (tested-normal a.regions a.test (drop (place_length * a.j) row) (c.is_taken.ensures c.if-is_taken.true) (get_or (results_in a.results.now) a.test.tds past_results) c.requires.1.0
-          (sym c.is_accepted.ensures ∙ c.if-is_accepted.true))),
+          (accepted-ok _ (sym c.is_ok.ensures.value ∙ c.if-is_ok.true)))),
       rw c.with_normal.ensures (omega arith),
     )
 

@@ -6,7 +6,7 @@ use native.Mathlib.Omega.{arith}
 use borrow.Author.Tests.{not-true}
 use Rattle.trb.specs.Questions.{first_no}
 use Rattle.trb.specs.declared.TransferTrbVariant.TheVariants.{Normal}
-use Rattle.trb.proofs.AnswerLaws.{answered-all}
+use Rattle.trb.proofs.AnswerLaws.{answered-all, accepted-ok}
 use Rattle.in_block.specs.Facts.{facts_of}
 use Rattle.in_block.proofs.SoundLaws.{sound-held}
 use Rattle.in_questions.specs.Questions.{trb_questions}
@@ -48,4 +48,4 @@ returns c =
     collected s.block.now s.log_length n s.regions c.if-numbers-ne-NORMAL.false (sym c.bit.ensures ∙ c.if-not-bit.false) (in-state (goal.at.returns c).Else-not-is_sound_in) c.if-log_length-lt-MIN_LOG.false
     (not-true _ (sym c.share_none.ensures ∙ c.if-not-share_none.false))
     (ap (λ (held : ℕ). first_no (trb_questions held (Normal (normal_of n.flags n.value n.transfer_length)) s.regions)) (sym c.le16-held.ensures)
-    ∙ answered-all c.ask_of_normal-answer.result _ c.ask_of_normal-answer.ensures (sym c.is_accepted.ensures ∙ yes))
+    ∙ answered-all c.ask_of_normal-answer.result _ c.ask_of_normal-answer.ensures (accepted-ok _ (sym c.is_ok.ensures.value ∙ yes)))

@@ -7,6 +7,7 @@ use mathlib.Core.List.{List}
 use native.Mathlib.Omega.{arith}
 use lib.ListN.{length, take, length-take}
 use lib.Seq.{length-take-le}
+use Rattle.trb.proofs.AnswerLaws.{accepted-if, refused-if}
 use Rattle.trb.specs.Answers.{number_of, is_accepted}
 use Rattle.trb.specs.Limits.{max_row}
 use Rattle.trb.specs.Questions.{first_no}
@@ -71,12 +72,12 @@ number c =
     ∙ asked-as l regions (facts_of b) s.count ts s.tds s.results n few-trbs
     ∙ ap (λ (x : Regions). first_no (row_questions l x (facts_of b) s.count ts s.tds (take s.tds s.results) n)) c.guest_regions-regions.ensures
 
-pub returns-then-not-is_accepted : goal.returns-then-not-is_accepted
-returns-then-not-is_accepted c =
+pub returns-then-is_err : goal.returns-then-is_err
+returns-then-is_err c =
     let s = c.args in
-    let refuses : is_accepted c.ask_row-asked.result ≡ false = sym c.is_accepted.ensures ∙ c.if-not-is_accepted.true in
+    let refuses : is_accepted c.ask_row-asked.result ≡ false = refused-if _ (sym c.is_err.ensures.value ∙ c.if-is_err.true) in
     rw c.completion_answer.ensures
-    (refused-row s.block s.count (take s.count s.row) s.tds (take s.tds s.results) (length s.data.now) (guest_regions s.low_base (length s.low.now) s.high_base (length s.high.now)) s.log.now c.ask_row-asked.result (number (goal.at.returns-then-not-is_accepted c).After-ask_row-asked) refuses)
+    (refused-row s.block s.count (take s.count s.row) s.tds (take s.tds s.results) (length s.data.now) (guest_regions s.low_base (length s.low.now) s.high_base (length s.high.now)) s.log.now c.ask_row-asked.result (number (goal.at.returns-then-is_err c).After-ask_row-asked) refuses)
 
 -- ---- The walk
 
@@ -90,7 +91,7 @@ walk_row-walked-requires c =
     let regions = guest_regions s.low_base (length s.low.now) s.high_base (length s.high.now) in
     let results-long : length s.results ≡ max_row = omega arith in
     let short : length ts ≤ s.count = omega (arith, length-take s.count s.row) in
-    let accepts : is_accepted c.ask_row-asked.result ≡ true = sym c.is_accepted.ensures ∙ c.if-not-is_accepted.false in
+    let accepts : is_accepted c.ask_row-asked.result ≡ true = accepted-if _ (sym c.is_err.ensures.value ∙ c.if-is_err.false) in
     let known = known-row s.block s.count ts s.tds rs n regions s.log.now c.ask_row-asked.result (number (goal.at.walk_row-walked-requires c).After-ask_row-asked) accepts in
     let few = row-few l regions (facts_of s.block) s.count ts s.tds rs n known short in
     (known.few, (few, row-walkable l regions (facts_of s.block) s.count ts s.tds rs n known short (length-take-le s.tds s.results (omega (arith, few, results-long)))))
@@ -99,6 +100,6 @@ pub returns : goal.returns
 returns c =
     let s = c.args in
     let w = c.walk_row-walked in
-    let accepts : is_accepted c.ask_row-asked.result ≡ true = sym c.is_accepted.ensures ∙ c.if-not-is_accepted.false in
+    let accepts : is_accepted c.ask_row-asked.result ≡ true = accepted-if _ (sym c.is_err.ensures.value ∙ c.if-is_err.false) in
     rw c.completion_answer-2.ensures
     (accepted-row s.block s.count (take s.count s.row) s.tds (take s.tds s.results) (length s.data.now) (guest_regions s.low_base (length s.low.now) s.high_base (length s.high.now)) s.log.now c.ask_row-asked.result (number (goal.at.returns c).After-ask_row-asked) accepts w.result w.new.log w.ensures)

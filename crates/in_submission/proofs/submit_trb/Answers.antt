@@ -1,4 +1,5 @@
 -- `in_submission::submit_trb` meets its contract: a no leaves all as it was; each outcome leaves what the definition says of it. Assumes nothing.
+use Rattle.std.specs.Prelude.{Ok}
 use Prim.Native.Nat.{ℕ, ◌+◌, ◌<◌}
 use mathlib.Core.Path.{◌≡◌, refl, sym, ap, ◌∙◌}
 use mathlib.Core.Bool.{true}
@@ -8,11 +9,10 @@ use native.Mathlib.Omega.{arith}
 use Rattle.trb.specs.Answers.{number_of}
 use Rattle.trb.specs.Limits.{max_held}
 use Rattle.trb.specs.Questions.{first_no}
-use Rattle.trb.specs.declared.Answer.{Answer}
-use Rattle.trb.specs.declared.Answer.TheVariants.{Accepted}
+use Rattle.trb.specs.Answers.{Answer}
 use Rattle.trb.specs.declared.TransferTrb.{TransferTrb}
 use Rattle.call_log.specs.Calls.{Meets}
-use Rattle.trb.proofs.AnswerLaws.{accepted-is, refused-is, answered-yes, answered-no, answered-all}
+use Rattle.trb.proofs.AnswerLaws.{accepted-is, refused-is, accepted-if, refused-if, answered-yes, answered-no, answered-all}
 use Rattle.call_log.proofs.CallLaws.{meets, meets-silent}
 use Rattle.call_log.proofs.LogLaws.{logged_none}
 use Rattle.guest_memory.specs.Regions.{guest_regions}
@@ -24,7 +24,7 @@ use Rattle.in_block.specs.declared.Outcome.TheVariants.{Collect, CompleteLocally
 use Rattle.in_questions.specs.Questions.{submission_questions}
 use Rattle.in_questions.proofs.PassedLaws.{PassedSubmission, passed-submission}
 use Rattle.in_block.specs.declared.InBlock.{InBlock}
-use Rattle.in_endpoint.specs.declared.Submitted.{Submitted}
+use Rattle.in_endpoint.specs.Returned.{Submitted}
 use Rattle.in_endpoint.specs.Submission.{refused, accepted, submitted_as, submission}
 use Rattle.in_endpoint.proofs.SubmissionLaws.{requested-stored, holds, supported-held, submitted_as-by}
 use borrow.Author.Rules.{rules}
@@ -38,7 +38,7 @@ module _ (c : After-state_after-block) where
   number = rw (c.facts_of-facts.ensures, c.guest_regions-regions.ensures) at c.ask_submission-answer.ensures
 
   known : PassedSubmission (length c.args.log.now) (facts_of c.args.block) c.args.t
-  known = passed-submission _ _ _ _ (answered-all c.ask_submission-answer.result _ number (sym c.if-not-is_accepted.ensures))
+  known = passed-submission _ _ _ _ (answered-all c.ask_submission-answer.result _ number (accepted-if _ (sym c.if-is_err.ensures.value)))
 
   outcome-is : c.outcome_of-outcome.result ≡ outcome_of (held_test (held_of c.args.block)) c.args.t
   outcome-is = rw c.facts_of-facts.ensures at c.outcome_of-outcome.ensures
@@ -50,20 +50,20 @@ module _ (c : After-state_after-block) where
   taken =
       let b = c.args.block in
       let t = c.args.t in
-      answered-yes _ (refused b) (submitted_as (outcome_of (held_test (held_of b)) t) b t) c.ask_submission-answer.result number (sym c.if-not-is_accepted.ensures)
+      answered-yes _ (refused b) (submitted_as (outcome_of (held_test (held_of b)) t) b t) c.ask_submission-answer.result number (accepted-if _ (sym c.if-is_err.ensures.value))
       ∙ submitted_as-by b t (sym outcome-is)
 
   -- a TRB that is held has a place
   room : (o : Outcome) → c.outcome_of-outcome.result ≡ o → holds o ≡ true → c.args.block.held < max_held
   room o e h = known.room (supported-held (held_test (held_of c.args.block)) c.args.t o (sym outcome-is ∙ e) h)
 
-pub returns-then-not-is_accepted : goal.returns-then-not-is_accepted
+pub returns-then-is_err : goal.returns-then-is_err
 unfolding submission
-returns-then-not-is_accepted c =
+returns-then-is_err c =
     let s = c.args in
     let b = s.block in
     let number' = rw (c.facts_of-facts.ensures, c.guest_regions-regions.ensures) at c.ask_submission-answer.ensures in
-    let failed = sym c.if-not-is_accepted.ensures in
+    let failed = refused-if _ (sym c.if-is_err.ensures.value) in
     record {
       number = number';
       met = meets (answered-no _ (refused b) (submitted_as (outcome_of (held_test (held_of b)) s.t) b s.t) c.ask_submission-answer.result number' failed)
@@ -80,8 +80,8 @@ module _ (c : After-state_after-block) where
   abbrev t : TransferTrb
   t = c.args.t
 
-  yes : c.ask_submission-answer.result ≡ Accepted
-  yes = accepted-is c.ask_submission-answer.result (sym c.if-not-is_accepted.ensures)
+  yes : c.ask_submission-answer.result ≡ Ok tt
+  yes = accepted-is c.ask_submission-answer.result (accepted-if _ (sym c.if-is_err.ensures.value))
 
   -- of a TRB that is held, and that goes no further
   abbrev Stays : Type 0

@@ -5,34 +5,34 @@ use Rattle.lent_calls.proofs.LentLaws.{take-least, length-least, least-within, l
 use Rattle.lent_calls.proofs.run_row.Goals as goal
 
 pub slice_bounds-complete_row-end : goal.slice_bounds-complete_row-end
-slice_bounds-complete_row-end c = omega (arith, c.least-log_end.ensures)
+slice_bounds-complete_row-end c = omega (arith, c.min-log_end.ensures)
 
 pub slice_bounds-complete_row-end-2 : goal.slice_bounds-complete_row-end-2
-slice_bounds-complete_row-end-2 c = length-least _ _ c.least-log_end.ensures
+slice_bounds-complete_row-end-2 c = length-least _ _ c.min-log_end.ensures
 
 pub slice_bounds-complete_row-end-3 : goal.slice_bounds-complete_row-end-3
-slice_bounds-complete_row-end-3 c = length-least _ _ c.least-given.ensures
+slice_bounds-complete_row-end-3 c = length-least _ _ c.min-given.ensures
 
 pub slice_bounds-complete_row-end-4 : goal.slice_bounds-complete_row-end-4
-slice_bounds-complete_row-end-4 c = omega (arith, c.least-low_end.ensures)
+slice_bounds-complete_row-end-4 c = omega (arith, c.min-low_end.ensures)
 
 pub slice_bounds-complete_row-end-5 : goal.slice_bounds-complete_row-end-5
-slice_bounds-complete_row-end-5 c = length-least _ _ c.least-low_end.ensures
+slice_bounds-complete_row-end-5 c = length-least _ _ c.min-low_end.ensures
 
 pub slice_bounds-complete_row-end-6 : goal.slice_bounds-complete_row-end-6
-slice_bounds-complete_row-end-6 c = omega (arith, c.least-high_end.ensures)
+slice_bounds-complete_row-end-6 c = omega (arith, c.min-high_end.ensures)
 
 pub slice_bounds-complete_row-end-7 : goal.slice_bounds-complete_row-end-7
-slice_bounds-complete_row-end-7 c = length-least _ _ c.least-high_end.ensures
+slice_bounds-complete_row-end-7 c = length-least _ _ c.min-high_end.ensures
 
 pub complete_row-requires : goal.complete_row-requires
-complete_row-requires c = record { max_answer_in_bounds = search rules; log_len_bound = least-within _ _ c.least-log_end.ensures c.requires.log_len_bound }
+complete_row-requires c = record { max_answer_in_bounds = search rules; log_len_bound = least-within _ _ c.min-log_end.ensures c.requires.log_len_bound }
 
 pub returns : goal.returns
 returns c =
     let l = c.args.lent in
-    let logs = c.least-log_end.ensures in
-    let lows = c.least-low_end.ensures in
-    let highs = c.least-high_end.ensures in
-    let run = rw (take-least l.log c.args.log.now logs, take-least l.low c.args.low.now lows, take-least l.high c.args.high.now highs, take-least c.args.bytes c.args.«data».now c.least-given.ensures) at c.complete_row.ensures in
+    let logs = c.min-log_end.ensures in
+    let lows = c.min-low_end.ensures in
+    let highs = c.min-high_end.ensures in
+    let run = rw (take-least l.log c.args.log.now logs, take-least l.low c.args.low.now lows, take-least l.high c.args.high.now highs, take-least c.args.bytes c.args.«data».now c.min-given.ensures) at c.complete_row.ensures in
     record { says = run.says; leaves = leaves _ l c.args.log.now c.args.low.now c.args.high.now logs lows highs run.log run.memory }

@@ -3,7 +3,7 @@ use Prim.Native.Nat.{ℕ}
 use mathlib.Core.Path.{◌≡◌, ◌∙◌}
 use mathlib.Core.List.{List}
 use Rattle.trb.specs.Answers.{number_of}
-use Rattle.trb.specs.declared.Answer.{Answer}
+use Rattle.trb.specs.Answers.{Answer}
 use Rattle.guest_memory.specs.Places.{Memory}
 use Rattle.carry_out.specs.CarryOut.{Carried}
 use Rattle.polvihe.specs.GuestMemory.{CarriesOut}

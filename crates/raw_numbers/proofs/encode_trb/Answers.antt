@@ -6,7 +6,7 @@ use Rattle.raw_numbers.proofs.encode_trb.Goals as goal
 
 pub returns-then-raw-lt-RAW : goal.returns-then-raw-lt-RAW
 returns-then-raw-lt-RAW c =
-    rw c.refusal_number.ensures
+    rw c.from.ensures
     (no_room (numbered_trb c.args.kind c.args.flags c.args.value c.args.transfer_length) c.args.raw.now (omega (arith, c.if-raw-lt-RAW.true)))
 
 pub returns : goal.returns

@@ -2,12 +2,12 @@
 use Rattle.raw_numbers.proofs.EncodingLaws.{accepted, refused}
 use Rattle.raw_numbers.proofs.put_encoded.Goals as goal
 
-pub returns-in-Accepted : goal.returns-in-Accepted
-returns-in-Accepted c =
-    let e = c.encode-encoded in
-    accepted c.args.t c.args.raw.now e.result e.ensures c.in-Accepted.is c.copy_into.ensures
+pub returns-in-Ok : goal.returns-in-Ok
+returns-in-Ok c =
+    let e = c.encode in
+    accepted c.args.t c.args.raw.now e.result e.ensures c.in-Ok.is c.copy_into.ensures
 
-pub returns-in-Refused : goal.returns-in-Refused
-returns-in-Refused c =
-    let e = c.encode-encoded in
-    rw c.refusal_number.ensures (refused c.args.t c.args.raw.now e.result e.ensures _ c.in-Refused.is)
+pub returns-in-Err : goal.returns-in-Err
+returns-in-Err c =
+    let e = c.encode in
+    rw c.from.ensures (refused c.args.t c.args.raw.now e.result e.ensures _ c.in-Err.is)

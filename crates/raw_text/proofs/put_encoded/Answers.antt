@@ -3,8 +3,8 @@ use lib.Dec.{lit≤}
 use Rattle.numerals.proofs.WrittenLaws.{written-within}
 use Rattle.raw_text.proofs.put_encoded.Goals as goal
 
-pub returns-in-Accepted : goal.returns-in-Accepted
-returns-in-Accepted c = rw c.in-Accepted.is c.put_bytes_line.ensures
+pub returns-in-Ok : goal.returns-in-Ok
+returns-in-Ok c = rw c.in-Ok.is c.put_bytes_line.ensures
 
-pub returns-in-Refused : goal.returns-in-Refused
-returns-in-Refused c = rw c.in-Refused.is (written-within (lit≤ tt) (rw c.refusal_number.ensures at c.put_refused.ensures))
+pub returns-in-Err : goal.returns-in-Err
+returns-in-Err c = rw c.in-Err.is (written-within (lit≤ tt) (rw c.from.ensures at c.put_refused.ensures))

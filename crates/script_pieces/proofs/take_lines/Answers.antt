@@ -8,86 +8,86 @@ use Rattle.script_pieces.proofs.TakenLaws.{taking-turn, taken-all}
 use Rattle.script_pieces.proofs.take_lines.Goals as goal
 
 pub line_end-stop-requires : goal.line_end-stop-requires
-line_end-stop-requires c = c.loop-good.invariant.1.1.inside
+line_end-stop-requires c = c.loop-taken.invariant.1.1.inside
 
 pub shape_of-text-then-input-stop : goal.shape_of-text-then-input-stop
-shape_of-text-then-input-stop c = c.loop-good.invariant.1.0.text
+shape_of-text-then-input-stop c = c.loop-taken.invariant.1.0.text
 
 pub shape_of-log-then-input-stop : goal.shape_of-log-then-input-stop
-shape_of-log-then-input-stop c = c.loop-good.invariant.1.0.log
+shape_of-log-then-input-stop c = c.loop-taken.invariant.1.0.log
 
 pub shape_of-collect-then-input-stop : goal.shape_of-collect-then-input-stop
-shape_of-collect-then-input-stop c = c.loop-good.invariant.1.0.collect
+shape_of-collect-then-input-stop c = c.loop-taken.invariant.1.0.collect
 
 pub shape_of-low-then-input-stop : goal.shape_of-low-then-input-stop
-shape_of-low-then-input-stop c = c.loop-good.invariant.1.0.low
+shape_of-low-then-input-stop c = c.loop-taken.invariant.1.0.low
 
 pub shape_of-high-then-input-stop : goal.shape_of-high-then-input-stop
-shape_of-high-then-input-stop c = c.loop-good.invariant.1.0.high
+shape_of-high-then-input-stop c = c.loop-taken.invariant.1.0.high
 
 pub returns-then-input-stop : goal.returns-then-input-stop
 returns-then-input-stop c =
-    let l = c.loop-good in
+    let l = c.loop-taken in
     taken-all l.invariant.1.1 l.invariant.0.end (λ good room. lines_none _ _ _ c.line_end-stop.ensures c.if-input-stop.true)
 
-pub shape_of-text-then-room-end : goal.shape_of-text-then-room-end
-shape_of-text-then-room-end c = c.loop-good.invariant.1.0.text
+pub shape_of-text-then-room-taken : goal.shape_of-text-then-room-taken
+shape_of-text-then-room-taken c = c.loop-taken.invariant.1.0.text
 
-pub shape_of-log-then-room-end : goal.shape_of-log-then-room-end
-shape_of-log-then-room-end c = c.loop-good.invariant.1.0.log
+pub shape_of-log-then-room-taken : goal.shape_of-log-then-room-taken
+shape_of-log-then-room-taken c = c.loop-taken.invariant.1.0.log
 
-pub shape_of-collect-then-room-end : goal.shape_of-collect-then-room-end
-shape_of-collect-then-room-end c = c.loop-good.invariant.1.0.collect
+pub shape_of-collect-then-room-taken : goal.shape_of-collect-then-room-taken
+shape_of-collect-then-room-taken c = c.loop-taken.invariant.1.0.collect
 
-pub shape_of-low-then-room-end : goal.shape_of-low-then-room-end
-shape_of-low-then-room-end c = c.loop-good.invariant.1.0.low
+pub shape_of-low-then-room-taken : goal.shape_of-low-then-room-taken
+shape_of-low-then-room-taken c = c.loop-taken.invariant.1.0.low
 
-pub shape_of-high-then-room-end : goal.shape_of-high-then-room-end
-shape_of-high-then-room-end c = c.loop-good.invariant.1.0.high
+pub shape_of-high-then-room-taken : goal.shape_of-high-then-room-taken
+shape_of-high-then-room-taken c = c.loop-taken.invariant.1.0.high
 
-pub returns-then-room-end : goal.returns-then-room-end
-returns-then-room-end c =
-    let l = c.loop-good in
-    taken-all l.invariant.1.1 l.invariant.0.end (λ good room. absurd (omega (arith, c.if-room-end.true, l.invariant.0.text, l.invariant.1.0.text, room)))
+pub returns-then-room-taken : goal.returns-then-room-taken
+returns-then-room-taken c =
+    let l = c.loop-taken in
+    taken-all l.invariant.1.1 l.invariant.0.end (λ good room. absurd (omega (arith, c.if-room-taken.true, l.invariant.0.text, l.invariant.1.0.text, room)))
 
-pub overflow_add-next : goal.overflow_add-next
-overflow_add-next c = omega (arith, c.loop-good.invariant.0.input, c.if-input-stop.false)
+pub overflow_add-taken : goal.overflow_add-taken
+overflow_add-taken c = omega (arith, c.loop-taken.invariant.0.input, c.if-input-stop.false)
 
-pub overflow_add-lines : goal.overflow_add-lines
-overflow_add-lines c = let l = c.loop-good in omega (arith, l.invariant.0.input, l.invariant.1.1.few, l.invariant.1.1.inside, c.if-input-stop.false, c.line_end-stop.ensures.start)
+pub overflow_add-taken-in-loop-taken : goal.overflow_add-taken-in-loop-taken
+overflow_add-taken-in-loop-taken c = let l = c.loop-taken in omega (arith, l.invariant.0.input, l.invariant.1.1.few, l.invariant.1.1.inside, c.if-input-stop.false, c.line_end-stop.ensures.start)
 
-pub loop-good-smaller : goal.loop-good-smaller
-loop-good-smaller c = omega (arith, c.line_end-stop.ensures.start, c.if-input-stop.false)
+pub loop-taken-smaller : goal.loop-taken-smaller
+loop-taken-smaller c = omega (arith, c.line_end-stop.ensures.start, c.if-input-stop.false)
 
 pub shape_of-text : goal.shape_of-text
-shape_of-text c = c.loop-good.invariant.1.0.text
+shape_of-text c = c.loop-taken.invariant.1.0.text
 
 pub shape_of-log : goal.shape_of-log
-shape_of-log c = c.loop-good.invariant.1.0.log
+shape_of-log c = c.loop-taken.invariant.1.0.log
 
 pub shape_of-collect : goal.shape_of-collect
-shape_of-collect c = c.loop-good.invariant.1.0.collect
+shape_of-collect c = c.loop-taken.invariant.1.0.collect
 
 pub shape_of-low : goal.shape_of-low
-shape_of-low c = c.loop-good.invariant.1.0.low
+shape_of-low c = c.loop-taken.invariant.1.0.low
 
 pub shape_of-high : goal.shape_of-high
-shape_of-high c = c.loop-good.invariant.1.0.high
+shape_of-high c = c.loop-taken.invariant.1.0.high
 
 pub returns : goal.returns
 returns c =
-    let l = c.loop-good in
-    taken-all l.invariant.1.1 l.invariant.0.end (λ good room. absurd (true≢false (sym good ∙ c.loop-good-test.false)))
+    let l = c.loop-taken in
+    taken-all l.invariant.1.1 l.invariant.0.end (λ good room. absurd (true≢false (sym good ∙ c.loop-taken-test.false)))
 
-pub loop-good-preserved : goal.loop-good-preserved
-loop-good-preserved c =
+pub loop-taken-preserved : goal.loop-taken-preserved
+loop-taken-preserved c =
     let t = c.take_line-ran in
-    let l = c.loop-good in
+    let l = c.loop-taken in
     let same = l.invariant.1.0 in (
       record {
         input = l.invariant.0.input;
         text = l.invariant.0.text;
-        end = omega (arith, t.ensures.within, c.if-room-end.false, l.invariant.0.text, t.auto.text, same.text);
+        end = omega (arith, t.ensures.within, c.if-room-taken.false, l.invariant.0.text, t.auto.text, same.text);
       },
       (
         record {
@@ -97,6 +97,6 @@ loop-good-preserved c =
           low = t.auto.low ∙ same.low;
           high = t.auto.high ∙ same.high;
         },
-        taking-turn l.invariant.1.1 c.loop-good-test.true c.line_end-stop.ensures c.if-input-stop.false t.ensures,
+        taking-turn l.invariant.1.1 c.loop-taken-test.true c.line_end-stop.ensures c.if-input-stop.false t.ensures,
       ),
     )

@@ -3,4 +3,4 @@ use Rattle.script_run.proofs.LineLaws.{takes-line}
 use Rattle.script_run.proofs.take_line.Goals as goal
 
 pub returns : goal.returns
-returns c = takes-line c.requires.max_answer_in_bounds c.read_line-call.ensures c.run_call.ensures
+returns c = takes-line c.requires.max_answer_in_bounds c.read_line.ensures c.run_call.ensures

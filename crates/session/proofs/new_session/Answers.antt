@@ -2,4 +2,4 @@
 use Rattle.session.proofs.new_session.Goals as goal
 
 pub returns : goal.returns
-returns c = rw (c.fresh-in_block.ensures, c.fresh-control_block.ensures, c.blank-blank.ensures)
+returns c = rw (c.fresh.ensures, c.fresh-2.ensures, c.blank-blank.ensures)

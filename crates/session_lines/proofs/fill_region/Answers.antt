@@ -5,15 +5,15 @@ use Rattle.session_lines.proofs.RegionLaws.{region-filled}
 use Rattle.session_lines.proofs.fill_region.Goals as goal
 
 pub slice_bounds-fill_guest-end : goal.slice_bounds-fill_guest-end
-slice_bounds-fill_guest-end c = omega (arith, c.least-end.ensures)
+slice_bounds-fill_guest-end c = omega (arith, c.min-end.ensures)
 
 pub slice_bounds-fill_guest-end-2 : goal.slice_bounds-fill_guest-end-2
-slice_bounds-fill_guest-end-2 c = length-least _ _ c.least-end.ensures
+slice_bounds-fill_guest-end-2 c = length-least _ _ c.min-end.ensures
 
 pub returns : goal.returns
 returns c =
     let a = c.args in
     record {
-      count = c.least-end.ensures;
-      bytes = region-filled a.base a.length a.memory.now c.least-end.ensures c.fill_guest.ensures;
+      count = c.min-end.ensures;
+      bytes = region-filled a.base a.length a.memory.now c.min-end.ensures c.fill_guest.ensures;
     }

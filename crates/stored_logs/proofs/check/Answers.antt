@@ -8,4 +8,4 @@ returns-then-well_formed c = rw (← c.well_formed-2.ensures, c.if-well_formed.t
 
 pub returns-else-well_formed : goal.returns-else-well_formed
 unfolding first_no
-returns-else-well_formed c = rw (← c.well_formed-2.ensures, c.if-well_formed.false) c.refusal_number.ensures
+returns-else-well_formed c = rw (← c.well_formed-2.ensures, c.if-well_formed.false) c.from.ensures

@@ -2,4 +2,4 @@
 use Rattle.stored_logs.proofs.refused.Goals as goal
 
 pub returns : goal.returns
-returns c = rw c.refusal_number.ensures
+returns c = rw c.from.ensures
