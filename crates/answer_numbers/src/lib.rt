@@ -2,12 +2,11 @@
 #![tactic(auto)]
 
 ghost use Rattle.std.specs.Prelude.{◌≡◌};
-ghost use Rattle.trb.specs.Answers.{number_of};
 ghost use Rattle.answer_numbers.specs.Numbers.{answered_as, plain, located, completed_with, completion_answered};
 
 use trb::{Answer, CompletionAnswer, CompletionCode, TrbProcessingResult};
 
-// What a call answers: the number of the question that said no, or 0, and how many records or bytes it made.
+// A number with the values beside it, since C reads it. What a call answers: the number of the question that said no, or 0, and how many records or bytes it made.
 #[repr(C)]
 #[derive(Clone, Copy)]
 pub struct Answered {
@@ -15,6 +14,7 @@ pub struct Answered {
     pub count: usize,
 }
 
+// A number with the values beside it, since C reads it.
 // What a completion answers: the number of the question that said no, or 0; the result (0 Ok, 1 Stall, 2 transaction error, 3
 // disconnect, 4 TRB error) with its completion code; whether it carries an address and a cycle bit, and these; how many records were
 // logged.
@@ -30,22 +30,12 @@ pub struct CompletionAnswered {
     pub address: u64,
 }
 
-// The number of an answer: document 01's for a no, 0 for a call that was accepted.
-pub fn number_of(answer: Answer) -> u8
-    ensures { result ≡ number_of answer }
-{
-    match answer {
-        Ok(()) => 0,
-        Err(refusal) => u8::from(refusal),
-    }
-}
-
 // What C and Rust get of a submission: the number of its answer, and its records.
 pub fn answered_as(answer: Answer, records: usize) -> Answered
     ensures { result ≡ answered_as answer records }
 {
     Answered {
-        number: number_of(answer) as u32,
+        number: trb::number_of(answer) as u32,
         count: records,
     }
 }

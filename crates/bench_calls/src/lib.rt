@@ -3,17 +3,27 @@
 #![tactic(auto)]
 
 use control_block::GuestRelease;
+use guest_memory::GuestView;
 use in_td::InMode;
 use trb::{
     ControlRequestProcessingResult, DataStageTrb, EndpointId, SetupStageTrb, SlotId,
     StatusStageTrb, TransferTrb, TransferTrbVariant,
 };
 
+// Guest memory, both of whose regions are the bytes of `window`: a submission that collects nothing reads their lengths alone.
+fn memory_in(window: &[u8]) -> GuestView<'_> {
+    GuestView {
+        low_base: 0,
+        low: window,
+        high_base: bench_work::HIGH_BASE,
+        high: window,
+    }
+}
+
 // ---- By value
 
 // `repeats` TDs of `trbs` Normals, whose buffers lie end to end from the window's start: each TRB is submitted and its completion asked for, the last one's with the device's result;
 // where the TD is not to complete, it is cancelled in the place of its last completion.
-// Both regions are the bytes of `window`: a submission that collects nothing reads their lengths alone.
 #[unsafe(no_mangle)]
 pub extern "C" fn bench_calls_in_by_value(
     log: &mut [u8],
@@ -25,6 +35,7 @@ pub extern "C" fn bench_calls_in_by_value(
     completes: bool,
     repeats: u32,
 ) -> u64 {
+    let memory = memory_in(window);
     let mut block = in_endpoint::create(EndpointId(3), SlotId(2), InMode::AsPorted).block;
     let mut sum = 0u64;
     for _ in 0..repeats {
@@ -33,15 +44,7 @@ pub extern "C" fn bench_calls_in_by_value(
             let ends = i + 1 == trbs;
             let t = bench_work::normal_at(i, pointer, transfer_length, !ends);
             pointer = pointer.wrapping_add(transfer_length as u64);
-            let submitted = in_submission::submit_trb(
-                log,
-                block,
-                t,
-                0,
-                window,
-                bench_work::HIGH_BASE,
-                window,
-            );
+            let submitted = in_submission::submit_trb(log, block, t, &memory);
             sum = sum.wrapping_add(bench_work::sum_of(submitted.answer, submitted.records));
             block = submitted.block;
             if ends && !completes {
@@ -117,6 +120,7 @@ pub extern "C" fn bench_calls_control(
     transfer_length: u32,
     repeats: u32,
 ) -> u64 {
+    let memory = memory_in(window);
     let mut block = control_endpoint::create(
         EndpointId(1),
         SlotId(2),
@@ -126,16 +130,7 @@ pub extern "C" fn bench_calls_control(
     for _ in 0..repeats {
         for i in 0..3 {
             let t = stage_at(i, transfer_length);
-            let submitted = control_submission::submit_trb(
-                log,
-                collect,
-                block,
-                t,
-                0,
-                window,
-                bench_work::HIGH_BASE,
-                window,
-            );
+            let submitted = control_submission::submit_trb(log, collect, block, t, &memory);
             sum = sum.wrapping_add(bench_work::sum_of(submitted.answer, submitted.records));
             let ends = i == 2;
             let result = ends.then_some(ControlRequestProcessingResult::SuccessfulControlIn);

@@ -6,6 +6,7 @@ ghost use Rattle.buffers.specs.Patch.{patch};
 ghost use Rattle.buffers.specs.LittleEndian.{le_field, le_bytes};
 
 // Lays the bytes of `src` over `dst` from index `at` on.
+#[tactic(auto, unfolding(crate::specs::Patch::patch))]
 pub fn copy_into(dst: &mut [u8], at: usize, src: &[u8])
     requires { at + length src.now ≤ length dst.old }
     ensures { dst.new ≡ patch dst.old at src.now }
@@ -13,6 +14,8 @@ pub fn copy_into(dst: &mut [u8], at: usize, src: &[u8])
     let end = at + src.len();
     dst[at..end].copy_from_slice(src);
 }
+
+// One for each width, a line over the library's conversion to its type.
 
 // The number in the two bytes from index `at` on.
 pub fn le16(src: &[u8], at: usize) -> u16

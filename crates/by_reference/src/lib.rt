@@ -3,8 +3,8 @@
 
 ghost use Rattle.std.specs.Prelude.{◌≡◌, length};
 ghost use Rattle.call_log.specs.Calls.{Meets};
-ghost use Rattle.guest_memory.specs.Regions.{guest_regions};
-ghost use Rattle.guest_memory.specs.Places.{memory_of};
+ghost use Rattle.guest_memory.specs.Places.{regions_of};
+ghost use Rattle.guest_memory.specs.Lent.{seen};
 ghost use Rattle.in_endpoint.specs.Creation.{cancelled};
 ghost use Rattle.in_endpoint.specs.Submission.{Submits as SubmitsIn};
 ghost use Rattle.in_endpoint.specs.Completion.{Completes as CompletesIn};
@@ -13,6 +13,7 @@ ghost use Rattle.control_endpoint.specs.Completion.{Completes as CompletesContro
 ghost use Rattle.by_reference.specs.Outcomes.{in_submitted, in_completed, control_submitted, control_completed};
 
 use control_block::ControlBlock;
+use guest_memory::GuestView;
 use in_block::InBlock;
 use trb::{
     Answer, CompletionAnswer, ControlRequestProcessingResult, InTrbProcessingStatus, Logged,
@@ -30,14 +31,11 @@ pub fn in_submit_trb(
     log: &mut [u8],
     block: &mut InBlock,
     t: TransferTrb,
-    low_base: u64,
-    low: &[u8],
-    high_base: u64,
-    high: &[u8],
+    memory: &GuestView<'_>,
 ) -> SubmissionOutcome
-    ensures { SubmitsIn block.old t (guest_regions low_base (length low.now) high_base (length high.now)) log.old (in_submitted result block.new) log.new }
+    ensures { SubmitsIn block.old t (regions_of (seen memory.now)) log.old (in_submitted result block.new) log.new }
 {
-    let r = in_submission::submit_trb(log, *block, t, low_base, low, high_base, high);
+    let r = in_submission::submit_trb(log, *block, t, memory);
     *block = r.block;
     Logged {
         answer: r.answer,
@@ -72,19 +70,16 @@ pub fn in_cancel(block: &mut InBlock)
 // ---- Control endpoint
 
 // `control_submission::submit_trb` of the block that is lent, which becomes the one of its answer.
-pub fn control_submit_trb<'a>(
+pub fn control_submit_trb(
     log: &mut [u8],
     collect: &mut [u8],
     block: &mut ControlBlock,
     t: TransferTrb,
-    low_base: u64,
-    low: &'a [u8],
-    high_base: u64,
-    high: &'a [u8],
+    memory: &GuestView<'_>,
 ) -> SubmissionOutcome
-    ensures { SubmitsControl block.old t (memory_of low_base low.now high_base high.now) log.old collect.old (control_submitted result block.new) log.new collect.new }
+    ensures { SubmitsControl block.old t (seen memory.now) log.old collect.old (control_submitted result block.new) log.new collect.new }
 {
-    let r = control_submission::submit_trb(log, collect, *block, t, low_base, low, high_base, high);
+    let r = control_submission::submit_trb(log, collect, *block, t, memory);
     *block = r.block;
     Logged {
         answer: r.answer,

@@ -4,7 +4,8 @@ use Rattle.trb.specs.Answers.{number_of}
 use Rattle.trb.specs.Limits.{record_length}
 use Rattle.trb.specs.Refusals.{refusal_number}
 use Rattle.trb.specs.Answers.{Answer, CompletionAnswer}
-use Rattle.numerals.specs.Written.{Written}
+use Rattle.text.specs.declared.Text.{Text}
+use Rattle.text.specs.Wrote.{Wrote}
 use Rattle.guest_memory.specs.Places.{Memory, regions_of}
 use Rattle.carry_out.specs.CarryOut.{answer_of, memory_after}
 use Rattle.call_text.specs.Widths.{max_first, max_record_lines, max_carried_out}
@@ -34,17 +35,17 @@ unfoldable pub completion_memory : CompletionAnswer → ℕ → List ℕ → Lis
 completion_memory (Ok r) n log bytes m = memory_after (carried_out n log bytes m) (take (record_length * n) log) bytes m
 completion_memory (Err q) n log bytes m = m
 
--- of carrying out the first n records, with carry-out's line written into the text t at index at
-pub record CarriedOut (n : ℕ) (log bytes : List ℕ) (m : Memory) (t : List ℕ) (at r : ℕ) (t' : List ℕ) (m' : Memory) : Type 0 where
-  pub text : Written max_carried_out t at (carried_out_line (number_of (carried_out n log bytes m))) r t'
+-- of carrying out the first n records, with carry-out's line written behind the text t
+pub record CarriedOut (n : ℕ) (log bytes : List ℕ) (m : Memory) (t t' : Text) (m' : Memory) : Type 0 where
+  pub text : Wrote max_carried_out t (carried_out_line (number_of (carried_out n log bytes m))) t'
   pub after : m' ≡ memory_after (carried_out n log bytes m) (take (record_length * n) log) bytes m
 
--- of a completion's answer that was written into the text t at index at: the text became t', r is the index behind, guest memory became m'
-pub record Answered (a : CompletionAnswer) (n : ℕ) (log bytes : List ℕ) (m : Memory) (t : List ℕ) (at r : ℕ) (t' : List ℕ) (m' : Memory) : Type 0 where
-  pub text : Written (max_first + max_record_lines + max_carried_out) t at (completion_text a n log (carried_out n log bytes m)) r t'
+-- of a completion's answer that was written behind the text t: the text became t', guest memory became m'
+pub record Answered (a : CompletionAnswer) (n : ℕ) (log bytes : List ℕ) (m : Memory) (t t' : Text) (m' : Memory) : Type 0 where
+  pub text : Wrote (max_first + max_record_lines + max_carried_out) t (completion_text a n log (carried_out n log bytes m)) t'
   pub after : m' ≡ completion_memory a n log bytes m
 
 -- of a row's answer, likewise
-pub record RowAnswered (a : CompletionAnswer) (finished n : ℕ) (log bytes : List ℕ) (m : Memory) (t : List ℕ) (at r : ℕ) (t' : List ℕ) (m' : Memory) : Type 0 where
-  pub text : Written (max_first + max_record_lines + max_carried_out) t at (row_text a finished n log (carried_out n log bytes m)) r t'
+pub record RowAnswered (a : CompletionAnswer) (finished n : ℕ) (log bytes : List ℕ) (m : Memory) (t t' : Text) (m' : Memory) : Type 0 where
+  pub text : Wrote (max_first + max_record_lines + max_carried_out) t (row_text a finished n log (carried_out n log bytes m)) t'
   pub after : m' ≡ completion_memory a n log bytes m

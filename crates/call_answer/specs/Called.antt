@@ -1,9 +1,10 @@
 -- What a call of a script comes to. Assumes nothing.
 use Rattle.std.specs.Prelude.{ℕ, ◌≡◌, Bool, true, false, List, []}
 use Rattle.guest_memory.specs.Places.{Memory}
-use Rattle.numerals.specs.Written.{Written}
+use Rattle.text.specs.declared.Text.{Text}
+use Rattle.text.specs.Wrote.{Wrote}
 use Rattle.state_text.specs.Widths.{max_answer}
-use Rattle.call_answer.specs.declared.EndpointRan.{EndpointRan}
+use Rattle.call_answer.specs.declared.Ran.{Ran}
 
 -- what a call on an endpoint with a block says: the block afterwards, the text that answers it, how many records it logged, whether its line is good
 pub record Said (B : Type 0) : Type 0 where
@@ -35,19 +36,17 @@ called o log m = record { said = o; log = log; memory = m }
 
 -- ---- Promises
 
--- a call that prints nothing left this, the text's next index being at
-abbrev pub silent_ran : {B : Type 0} → Said B → ℕ → EndpointRan B
-silent_ran o at = record { block = o.block; end = at; records = o.records; good = o.good }
+-- what a call that was to say o leaves, but for its text
+abbrev pub ran_of : {B : Type 0} → Said B → Ran B
+ran_of o = record { left = o.block; records = o.records; good = o.good }
 
--- a call that was to say o, with the text t from index at on, returned r and left the text t'
-pub record Says {B : Type 0} (o : Said B) (t : List ℕ) (at : ℕ) (r : EndpointRan B) (t' : List ℕ) : Type 0 where
-  pub block : r.block ≡ o.block
-  pub records : r.records ≡ o.records
-  pub good : r.good ≡ o.good
-  pub text : Written max_answer t at o.text r.end t'
+-- a call that was to say o, behind the text t, returned r and left the text t'
+pub record Says {B : Type 0} (o : Said B) (t : Text) (r : Ran B) (t' : Text) : Type 0 where
+  pub ran : r ≡ ran_of o
+  pub text : Wrote max_answer t o.text t'
 
 -- a call that was to come to o left this log and this guest memory, too
-pub record Runs {B : Type 0} (o : Called B) (t : List ℕ) (at : ℕ) (r : EndpointRan B) (t' log' : List ℕ) (m' : Memory) : Type 0 where
-  pub says : Says o.said t at r t'
+pub record Runs {B : Type 0} (o : Called B) (t : Text) (r : Ran B) (t' : Text) (log' : List ℕ) (m' : Memory) : Type 0 where
+  pub says : Says o.said t r t'
   pub log : log' ≡ o.log
   pub memory : m' ≡ o.memory

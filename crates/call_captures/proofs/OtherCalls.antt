@@ -6,7 +6,7 @@ use Rattle.trb.specs.declared.TransferTrb.{TransferTrb}
 use Rattle.call_script.specs.declared.DeviceStatus.{DeviceStatus}
 use Rattle.call_script.specs.declared.InTransferType.{InTransferType}
 use Rattle.call_script.specs.declared.Call.{Call}
-use Rattle.call_script.specs.declared.Call.TheVariants.{Window, Buffers, CreateIn, CreateControl, Submit, CompleteWithResult, CompleteWithout, Cancel, Hold, MakeUpIn, MakeUpControl, AppendTrb, AppendResult, CompleteRow, Time, Captured, Bad}
+use Rattle.call_script.specs.declared.Call.TheVariants.{Window, Buffers, CreateIn, CreateControl, Submit, CompleteWithResult, CompleteWithout, Cancel, Hold, MakeUpIn, MakeUpControl, AppendTrb, AppendResult, CompleteRow, Time, Captured}
 use Rattle.session.specs.declared.Session.{Session}
 use Rattle.captured_calls.specs.declared.Setting.{Setting}
 use Rattle.call_captures.specs.Settings.{setting_after}
@@ -32,7 +32,6 @@ module _ (s : Setting) (before after : Session) (log : List ℕ) (records : ℕ)
   call_captures-other (CompleteRow n) submits given without completes-row = absurd (completes-row n refl)
   call_captures-other (Time seconds microseconds) submits given without completes-row = refl
   call_captures-other (Captured bus address transfer_type) submits given without completes-row = refl
-  call_captures-other Bad submits given without completes-row = refl
 
 module _ (s : Setting) where
   pub setting_after-other : (c : Call) → ((seconds microseconds : ℕ) → c ≡ Time seconds microseconds → ⊥) → ((bus address : ℕ) (transfer_type : InTransferType) → c ≡ Captured bus address transfer_type → ⊥) → setting_after s c ≡ s
@@ -53,4 +52,3 @@ module _ (s : Setting) where
   setting_after-other (CompleteRow n) times captures = refl
   setting_after-other (Time seconds microseconds) times captures = absurd (times seconds microseconds refl)
   setting_after-other (Captured bus address transfer_type) times captures = absurd (captures bus address transfer_type refl)
-  setting_after-other Bad times captures = refl

@@ -17,7 +17,7 @@ use Rattle.in_block.specs.Facts as input-facts
 use Rattle.control_block.specs.Facts as control-facts
 use Rattle.row_walk.specs.Rows.{RowTd, has_normal}
 use Rattle.call_script.specs.declared.Call.{Call}
-use Rattle.call_script.specs.declared.Call.TheVariants.{Window, Buffers, CreateIn, CreateControl, Submit, CompleteWithResult, CompleteWithout, Cancel, Hold, MakeUpIn, MakeUpControl, AppendTrb, AppendResult, CompleteRow, Time, Captured, Bad}
+use Rattle.call_script.specs.declared.Call.TheVariants.{Window, Buffers, CreateIn, CreateControl, Submit, CompleteWithResult, CompleteWithout, Cancel, Hold, MakeUpIn, MakeUpControl, AppendTrb, AppendResult, CompleteRow, Time, Captured}
 use Rattle.call_script.specs.declared.DeviceStatus.{DeviceStatus}
 use Rattle.in_calls.specs.Calls as input-calls
 use Rattle.control_calls.specs.Calls as control-calls
@@ -93,4 +93,3 @@ module _ (s : Setting) (before after : Session) (in-same : after.in_block ≡ be
   call_captures-kept (CompleteRow n) log collect bytes = simp unary_clauses (row-none _ _ _ (take n bytes))
   call_captures-kept (Time seconds microseconds) log collect bytes = refl
   call_captures-kept (Captured bus address transfer_type) log collect bytes = refl
-  call_captures-kept Bad log collect bytes = refl

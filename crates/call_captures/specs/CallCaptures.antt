@@ -9,7 +9,7 @@ use Rattle.control_block.specs.Facts as control
 use Rattle.row_walk.specs.Rows.{row_tds}
 use Rattle.call_text.specs.Lines.{count_of}
 use Rattle.call_script.specs.declared.Call.{Call}
-use Rattle.call_script.specs.declared.Call.TheVariants.{Window, Buffers, CreateIn, CreateControl, Submit, CompleteWithResult, CompleteWithout, Cancel, Hold, MakeUpIn, MakeUpControl, AppendTrb, AppendResult, CompleteRow, Time, Captured, Bad}
+use Rattle.call_script.specs.declared.Call.TheVariants.{Window, Buffers, CreateIn, CreateControl, Submit, CompleteWithResult, CompleteWithout, Cancel, Hold, MakeUpIn, MakeUpControl, AppendTrb, AppendResult, CompleteRow, Time, Captured}
 use Rattle.call_script.specs.declared.DeviceStatus.{DeviceStatus}
 use Rattle.in_calls.specs.Calls as input-calls
 use Rattle.control_calls.specs.Calls as control-calls
@@ -92,4 +92,3 @@ call_captures s before after (AppendResult status n) log records collect bytes =
 call_captures s before after (CompleteRow n) log records collect bytes = row_call_captures s before log records (take n bytes)
 call_captures s before after (Time seconds microseconds) log records collect bytes = []
 call_captures s before after (Captured bus address transfer_type) log records collect bytes = []
-call_captures s before after Bad log records collect bytes = []

@@ -1,7 +1,7 @@
 -- What captures say of a script's calls. Assumes nothing.
 use Rattle.std.specs.Prelude.{Bool, true, false}
 use Rattle.call_script.specs.declared.Call.{Call}
-use Rattle.call_script.specs.declared.Call.TheVariants.{Window, Buffers, CreateIn, CreateControl, Submit, CompleteWithResult, CompleteWithout, Cancel, Hold, MakeUpIn, MakeUpControl, AppendTrb, AppendResult, CompleteRow, Time, Captured, Bad}
+use Rattle.call_script.specs.declared.Call.TheVariants.{Window, Buffers, CreateIn, CreateControl, Submit, CompleteWithResult, CompleteWithout, Cancel, Hold, MakeUpIn, MakeUpControl, AppendTrb, AppendResult, CompleteRow, Time, Captured}
 use Rattle.call_script.specs.declared.InTransferType.{InTransferType}
 use Rattle.call_script.specs.declared.InTransferType.TheVariants.{Bulk, Interrupt}
 use Rattle.captured_calls.specs.declared.Setting.{Setting}
@@ -38,4 +38,3 @@ setting_after s (Captured bus address transfer_type) = record {
   device = record { bus_number = bus; device_address = address };
   interrupt = is_interrupt transfer_type;
 }
-setting_after s Bad = s

@@ -5,14 +5,14 @@ ghost use Rattle.std.specs.Prelude.{◌≡◌, cond, []};
 ghost use Rattle.call_text.specs.Lines.{count_of};
 ghost use Rattle.capture_calls.specs.Events.{in_completion_event, control_completion_event};
 ghost use Rattle.capture_calls.specs.Captures.{writer_call, first_address};
-ghost use Rattle.captured_calls.specs.Written.{Lays};
+ghost use Rattle.captured_calls.specs.Written.{Fits, Laid, Lays};
 ghost use Rattle.captured_calls.specs.Submitted.{captured_of, pipe_of};
 ghost use Rattle.call_captures.specs.Settings.{is_interrupt, first_setting, setting_after};
 ghost use Rattle.call_captures.specs.CallCaptures.{submission_captures, result_captures, no_result_captures, row_call_captures, call_captures};
 
 use call_script::{Call, DeviceStatus, InTransferType};
 use capture_record::UsbDevice;
-use captured_calls::Setting;
+use captured_calls::{Capture, Setting};
 use held::EndpointKind;
 use session::Session;
 use trb::{
@@ -69,23 +69,23 @@ pub fn setting_after(setting: Setting, call: Call) -> Setting
 
 // A submission on this endpoint.
 fn put_submission(
-    output: &mut [u8],
+    capture: &mut Capture<'_>,
     setting: Setting,
     before: Session,
     after: Session,
     log: &[u8],
     records: usize,
     collect: &[u8],
-) -> usize
-    ensures { Lays (submission_captures after.endpoint setting before after log.now records collect.now) output.old 0 result output.new }
+)
+    requires { Fits capture.old }
+    ensures { Laid (submission_captures after.endpoint setting before after log.now records collect.now) capture.old capture.new }
 {
     let Some(endpoint) = after.endpoint else {
-        return 0;
+        return;
     };
     match endpoint {
         EndpointKind::In => captured_calls::put_in_submission(
-            output,
-            0,
+            capture,
             setting,
             before.in_block.endpoint_id,
             log,
@@ -94,8 +94,7 @@ fn put_submission(
         EndpointKind::Control => {
             let collected = after.control_block.collected.min(collect.len());
             captured_calls::put_control_submission(
-                output,
-                0,
+                capture,
                 setting,
                 log,
                 records,
@@ -114,7 +113,7 @@ fn first_address(trbs: [TransferTrb; trb::MAX_HELD]) -> u64
 
 // A completion of an IN block, `due` whether a submission is due behind it: it was accepted.
 fn put_in_completion(
-    output: &mut [u8],
+    capture: &mut Capture<'_>,
     setting: Setting,
     endpoint_id: EndpointId,
     state: TdBasedNormalSubmissionState,
@@ -122,18 +121,19 @@ fn put_in_completion(
     due: bool,
     res: Option<InTrbProcessingStatus>,
     data: &[u8],
-) -> usize
-    ensures { Lays (cond due (writer_call (captured_of setting) (in_completion_event (pipe_of setting endpoint_id) state first res) «data».now) []) output.old 0 result output.new }
+)
+    requires { Fits capture.old }
+    ensures { Laid (cond due (writer_call (captured_of setting) (in_completion_event (pipe_of setting endpoint_id) state first res) «data».now) []) capture.old capture.new }
 {
     if !due {
-        return 0;
+        return;
     }
-    captured_calls::put_in_completion(output, 0, setting, endpoint_id, state, first, res, data)
+    captured_calls::put_in_completion(capture, setting, endpoint_id, state, first, res, data);
 }
 
 // The same of a control block.
 fn put_control_completion(
-    output: &mut [u8],
+    capture: &mut Capture<'_>,
     setting: Setting,
     state: ControlSubmissionState,
     direction: bool,
@@ -142,35 +142,37 @@ fn put_control_completion(
     due: bool,
     res: Option<ControlRequestProcessingResult>,
     data: &[u8],
-) -> usize
-    ensures { Lays (cond due (writer_call (captured_of setting) (control_completion_event state direction request (count_of collected) res) «data».now) []) output.old 0 result output.new }
+)
+    requires { Fits capture.old }
+    ensures { Laid (cond due (writer_call (captured_of setting) (control_completion_event state direction request (count_of collected) res) «data».now) []) capture.old capture.new }
 {
     if !due {
-        return 0;
+        return;
     }
     let count = call_text::count(collected);
     captured_calls::put_control_completion(
-        output, 0, setting, state, direction, request, count, res, data,
-    )
+        capture, setting, state, direction, request, count, res, data,
+    );
 }
 
 // A completion with a device result and these data.
 fn put_result(
-    output: &mut [u8],
+    capture: &mut Capture<'_>,
     setting: Setting,
     before: Session,
     after: Session,
     status: DeviceStatus,
     data: &[u8],
-) -> usize
-    ensures { Lays (result_captures after.endpoint setting before after status «data».now) output.old 0 result output.new }
+)
+    requires { Fits capture.old }
+    ensures { Laid (result_captures after.endpoint setting before after status «data».now) capture.old capture.new }
 {
     let Some(endpoint) = after.endpoint else {
-        return 0;
+        return;
     };
     match endpoint {
         EndpointKind::In => put_in_completion(
-            output,
+            capture,
             setting,
             before.in_block.endpoint_id,
             before.in_block.state,
@@ -182,7 +184,7 @@ fn put_result(
         EndpointKind::Control => {
             let block = before.control_block;
             put_control_completion(
-                output,
+                capture,
                 setting,
                 block.state,
                 block.direction,
@@ -197,18 +199,19 @@ fn put_result(
 }
 
 // A completion without a device result has a record where it reports a TRB on control.
-fn put_no_result(output: &mut [u8], setting: Setting, before: Session, after: Session) -> usize
-    ensures { Lays (no_result_captures after.endpoint setting before after) output.old 0 result output.new }
+fn put_no_result(capture: &mut Capture<'_>, setting: Setting, before: Session, after: Session)
+    requires { Fits capture.old }
+    ensures { Laid (no_result_captures after.endpoint setting before after) capture.old capture.new }
 {
     let Some(endpoint) = after.endpoint else {
-        return 0;
+        return;
     };
     match endpoint {
-        EndpointKind::In => 0,
+        EndpointKind::In => {}
         EndpointKind::Control => {
             let block = before.control_block;
             put_control_completion(
-                output,
+                capture,
                 setting,
                 block.state,
                 block.direction,
@@ -224,18 +227,18 @@ fn put_no_result(output: &mut [u8], setting: Setting, before: Session, after: Se
 
 // A row, as it was written down before the call.
 fn put_row(
-    output: &mut [u8],
+    capture: &mut Capture<'_>,
     setting: Setting,
     before: Session,
     log: &[u8],
     records: usize,
     data: &[u8],
-) -> usize
-    ensures { Lays (row_call_captures setting before log.now records «data».now) output.old 0 result output.new }
+)
+    requires { Fits capture.old }
+    ensures { Laid (row_call_captures setting before log.now records «data».now) capture.old capture.new }
 {
     captured_calls::put_row(
-        output,
-        0,
+        capture,
         setting,
         before.in_block.endpoint_id,
         before.row,
@@ -244,7 +247,38 @@ fn put_row(
         log,
         records,
         data,
-    )
+    );
+}
+
+// Any call, from the sessions before and behind it.
+#[tactic(auto, unfolding(crate::specs::CallCaptures::call_captures))]
+fn capture_call(
+    capture: &mut Capture<'_>,
+    setting: Setting,
+    before: Session,
+    after: Session,
+    call: Call,
+    log: &[u8],
+    records: usize,
+    collect: &[u8],
+    data: &[u8],
+)
+    requires { Fits capture.old }
+    ensures { Laid (call_captures setting before after call log.now records collect.now «data».now) capture.old capture.new }
+{
+    match call {
+        Call::Submit(_) => put_submission(capture, setting, before, after, log, records, collect),
+        Call::CompleteWithResult(status, bytes) => {
+            let given = bytes.min(data.len());
+            put_result(capture, setting, before, after, status, &data[..given])
+        }
+        Call::CompleteWithout(_) => put_no_result(capture, setting, before, after),
+        Call::CompleteRow(bytes) => {
+            let joined = bytes.min(data.len());
+            put_row(capture, setting, before, log, records, &data[..joined])
+        }
+        _ => {}
+    }
 }
 
 // A call, from the sessions before and behind it: its records lie at the buffer's start. Returns the index behind them.
@@ -259,19 +293,22 @@ pub fn put_call(
     collect: &[u8],
     data: &[u8],
 ) -> usize
-    ensures { Lays (call_captures setting before after call log.now records collect.now «data».now) output.old 0 result output.new }
+    ensures { Lays (call_captures setting before after call log.now records collect.now «data».now) output.old result output.new }
 {
-    match call {
-        Call::Submit(_) => put_submission(output, setting, before, after, log, records, collect),
-        Call::CompleteWithResult(status, bytes) => {
-            let given = bytes.min(data.len());
-            put_result(output, setting, before, after, status, &data[..given])
-        }
-        Call::CompleteWithout(_) => put_no_result(output, setting, before, after),
-        Call::CompleteRow(bytes) => {
-            let joined = bytes.min(data.len());
-            put_row(output, setting, before, log, records, &data[..joined])
-        }
-        _ => 0,
-    }
+    let mut capture = Capture {
+        bytes: output,
+        end: 0,
+    };
+    capture_call(
+        &mut capture,
+        setting,
+        before,
+        after,
+        call,
+        log,
+        records,
+        collect,
+        data,
+    );
+    capture.end
 }

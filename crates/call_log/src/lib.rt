@@ -1,4 +1,5 @@
-// The log: records of 32 bytes, little-endian, one for each effect, in the order of effect.
+// The log: records of 32 bytes, little-endian, one for each effect, in the order of effect. Where a record is meant by its number, the contract asks that the log
+// has it: a fact of the log and the number, which no type of one of them has.
 #![tactic(auto)]
 
 ghost use Rattle.std.specs.Prelude.{◌≡◌, [], ◌∷◌, ◌+◌, ◌*◌, ◌≤◌, length};
@@ -15,7 +16,8 @@ pub const KIND_EVENT: u8 = 2;
 
 pub const KIND_REQUEST: u8 = 3;
 
-// What a record's bytes say. Bytes 5 to 7, 30 and 31 are zero in every record that is made here.
+// What a record's bytes say: numbers and no enums, since any byte may stand there and is read as it is. Bytes 5 to 7, 30 and 31 are zero in every record that is
+// made here.
 #[derive(Clone, Copy)]
 pub struct Record {
     pub kind: u8,
@@ -137,6 +139,7 @@ fn encoded(record: Record) -> [u8; trb::RECORD_LENGTH]
 }
 
 // Writes a record as the log's record number `index`.
+#[tactic(auto, unfolding(crate::specs::Logs::logged, crate::specs::Logs::encode_all))]
 pub fn put_record(log: &mut [u8], index: usize, record: Record)
     requires { record_length * (index + 1) ≤ length log.old }
     ensures { Put log.old index («record» ∷ []) log.new }
@@ -146,6 +149,7 @@ pub fn put_record(log: &mut [u8], index: usize, record: Record)
 }
 
 // Writes a record where it is due, behind `count` records, and returns how many there are then.
+#[tactic(auto, using(crate::proofs::LogLaws::logged_none))]
 pub fn put_when(log: &mut [u8], count: usize, due: bool, record: Record) -> usize
     requires { record_length * (count + 1) ≤ length log.old }
     ensures { Meets (counted count (when due «record»)) count log.old result log.new }

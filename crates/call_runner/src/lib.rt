@@ -15,8 +15,8 @@ use std::io::{Read, Write};
 
 // ---- Lines
 
-// How far a run has come: the lines taken, the characters that the last turn printed, whether every line was good, and whether there may be more. The bytes
-// of the input from `from` up to `filled` are not taken yet.
+// How far a run has come: the lines taken, the characters that the last turn printed, whether every line was good, and whether there may be more: the
+// others are there either way. The bytes of the input from `from` up to `filled` are not taken yet.
 #[derive(Clone, Copy)]
 struct Progress {
     session: Session,
@@ -44,7 +44,7 @@ fn started() -> Progress
 }
 
 // What stands ahead of a run behind the lines that it took: the bytes from `from` up to `filled`; one line more where one is unfinished; whether the run
-// is good, and whether there may be more.
+// is good, and whether there may be more: the others are there either way.
 #[derive(Clone, Copy)]
 struct Ahead {
     from: usize,

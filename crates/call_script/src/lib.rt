@@ -93,7 +93,6 @@ pub enum Call {
     CompleteRow(usize),
     Time(u32, u32),
     Captured(u16, u8, InTransferType),
-    Bad,
 }
 
 // ---- Numbers that stand for a case
@@ -199,41 +198,41 @@ fn is_transfer_type(number: u64) -> bool
 
 // `w BASE LEN`: the other region is empty, at 0.
 #[tactic(auto, unfolding(crate::specs::Calls::one_region))]
-fn one_region(fields: Fields) -> Call
+fn one_region(fields: Fields) -> Option<Call>
     ensures { result ≡ one_region fields }
 {
     if !script_fields::within_limits(fields, &[u64::MAX, MAX_WINDOW as u64]) {
-        return Call::Bad;
+        return None;
     }
-    Call::Window(fields.numbers[0], fields.numbers[1] as usize, 0, 0)
+    Some(Call::Window(fields.numbers[0], fields.numbers[1] as usize, 0, 0))
 }
 
 // `w BASE LEN BASE LEN`
 #[tactic(auto, unfolding(crate::specs::Calls::two_regions))]
-fn two_regions(fields: Fields) -> Call
+fn two_regions(fields: Fields) -> Option<Call>
     ensures { result ≡ two_regions fields }
 {
     if !script_fields::within_limits(
         fields,
         &[u64::MAX, MAX_WINDOW as u64, u64::MAX, MAX_WINDOW as u64],
     ) {
-        return Call::Bad;
+        return None;
     }
     let low_length = fields.numbers[1] as usize;
     let high_length = fields.numbers[3] as usize;
     if MAX_WINDOW < low_length + high_length {
-        return Call::Bad;
+        return None;
     }
-    Call::Window(
+    Some(Call::Window(
         fields.numbers[0],
         low_length,
         fields.numbers[2],
         high_length,
-    )
+    ))
 }
 
 #[tactic(auto, unfolding(crate::specs::Calls::window_call))]
-fn window(fields: Fields) -> Call
+fn window(fields: Fields) -> Option<Call>
     ensures { result ≡ window_call fields }
 {
     if fields.count == 2 {
@@ -245,43 +244,43 @@ fn window(fields: Fields) -> Call
 
 // `b LOG COLLECT`
 #[tactic(auto, unfolding(crate::specs::Calls::buffers_call))]
-fn buffers(fields: Fields) -> Call
+fn buffers(fields: Fields) -> Option<Call>
     ensures { result ≡ buffers_call fields }
 {
     if !script_fields::within_limits(fields, &[MAX_LENT_LOG as u64, MAX_LENT_COLLECT as u64]) {
-        return Call::Bad;
+        return None;
     }
-    Call::Buffers(fields.numbers[0] as usize, fields.numbers[1] as usize)
+    Some(Call::Buffers(fields.numbers[0] as usize, fields.numbers[1] as usize))
 }
 
 // `i EP SLOT`: as ported.
 #[tactic(auto, unfolding(crate::specs::Calls::ported_creation))]
-fn ported_creation(fields: Fields) -> Call
+fn ported_creation(fields: Fields) -> Option<Call>
     ensures { result ≡ ported_creation fields }
 {
     if !script_fields::within_limits(fields, &[MAX_BYTE, MAX_BYTE]) {
-        return Call::Bad;
+        return None;
     }
     let endpoint_id = EndpointId(fields.numbers[0] as u8);
     let slot_id = SlotId(fields.numbers[1] as u8);
-    Call::CreateIn(endpoint_id, slot_id, InMode::AsPorted)
+    Some(Call::CreateIn(endpoint_id, slot_id, InMode::AsPorted))
 }
 
 // `i EP SLOT MODE`
 #[tactic(auto, unfolding(crate::specs::Calls::mode_creation))]
-fn mode_creation(fields: Fields) -> Call
+fn mode_creation(fields: Fields) -> Option<Call>
     ensures { result ≡ mode_creation fields }
 {
     if !script_fields::within_limits(fields, &[MAX_BYTE, MAX_BYTE, 1]) {
-        return Call::Bad;
+        return None;
     }
     let endpoint_id = EndpointId(fields.numbers[0] as u8);
     let slot_id = SlotId(fields.numbers[1] as u8);
-    Call::CreateIn(endpoint_id, slot_id, mode_of(fields.numbers[2]))
+    Some(Call::CreateIn(endpoint_id, slot_id, mode_of(fields.numbers[2])))
 }
 
 #[tactic(auto, unfolding(crate::specs::Calls::in_creation))]
-fn in_creation(fields: Fields) -> Call
+fn in_creation(fields: Fields) -> Option<Call>
     ensures { result ≡ in_creation fields }
 {
     if fields.count == 2 {
@@ -293,35 +292,35 @@ fn in_creation(fields: Fields) -> Call
 
 // `c EP SLOT`: for release 4.
 #[tactic(auto, unfolding(crate::specs::Calls::four_creation))]
-fn four_creation(fields: Fields) -> Call
+fn four_creation(fields: Fields) -> Option<Call>
     ensures { result ≡ four_creation fields }
 {
     if !script_fields::within_limits(fields, &[MAX_BYTE, MAX_BYTE]) {
-        return Call::Bad;
+        return None;
     }
     let endpoint_id = EndpointId(fields.numbers[0] as u8);
     let slot_id = SlotId(fields.numbers[1] as u8);
-    Call::CreateControl(endpoint_id, slot_id, GuestRelease::Release4)
+    Some(Call::CreateControl(endpoint_id, slot_id, GuestRelease::Release4))
 }
 
 // `c EP SLOT RELEASE`
 #[tactic(auto, unfolding(crate::specs::Calls::release_creation))]
-fn release_creation(fields: Fields) -> Call
+fn release_creation(fields: Fields) -> Option<Call>
     ensures { result ≡ release_creation fields }
 {
     if !script_fields::within_limits(fields, &[MAX_BYTE, MAX_BYTE, 5]) {
-        return Call::Bad;
+        return None;
     }
     if fields.numbers[2] < 4 {
-        return Call::Bad;
+        return None;
     }
     let endpoint_id = EndpointId(fields.numbers[0] as u8);
     let slot_id = SlotId(fields.numbers[1] as u8);
-    Call::CreateControl(endpoint_id, slot_id, release_of(fields.numbers[2]))
+    Some(Call::CreateControl(endpoint_id, slot_id, release_of(fields.numbers[2])))
 }
 
 #[tactic(auto, unfolding(crate::specs::Calls::control_creation))]
-fn control_creation(fields: Fields) -> Call
+fn control_creation(fields: Fields) -> Option<Call>
     ensures { result ≡ control_creation fields }
 {
     if fields.count == 2 {
@@ -357,92 +356,92 @@ fn line_trb(fields: Fields) -> Option<TransferTrb>
 
 // `s`: submit.
 #[tactic(auto, unfolding(crate::specs::Calls::submit_call))]
-fn submission(fields: Fields) -> Call
+fn submission(fields: Fields) -> Option<Call>
     ensures { result ≡ submit_call fields }
 {
-    line_trb(fields).map_or(Call::Bad, |t| Call::Submit(t))
+    line_trb(fields).map(|t| Call::Submit(t))
 }
 
 // `h`: into the block's next place.
 #[tactic(auto, unfolding(crate::specs::Calls::hold_call))]
-fn holding(fields: Fields) -> Call
+fn holding(fields: Fields) -> Option<Call>
     ensures { result ≡ hold_call fields }
 {
-    line_trb(fields).map_or(Call::Bad, |t| Call::Hold(t))
+    line_trb(fields).map(|t| Call::Hold(t))
 }
 
 // `q`: to the end of the row that is being written down.
 #[tactic(auto, unfolding(crate::specs::Calls::append_call))]
-fn row_trb(fields: Fields) -> Call
+fn row_trb(fields: Fields) -> Option<Call>
     ensures { result ≡ append_call fields }
 {
-    line_trb(fields).map_or(Call::Bad, |t| Call::AppendTrb(t))
+    line_trb(fields).map(|t| Call::AppendTrb(t))
 }
 
 // `d STATUS N`
 #[tactic(auto, unfolding(crate::specs::Calls::result_call))]
-fn completion_with_result(fields: Fields) -> Call
+fn completion_with_result(fields: Fields) -> Option<Call>
     ensures { result ≡ result_call fields }
 {
     if !script_fields::within_limits(fields, &[4, MAX_SCRIPT_DATA as u64]) {
-        return Call::Bad;
+        return None;
     }
-    Call::CompleteWithResult(status_of(fields.numbers[0]), fields.numbers[1] as usize)
+    Some(Call::CompleteWithResult(status_of(fields.numbers[0]), fields.numbers[1] as usize))
 }
 
 // `l N`
 #[tactic(auto, unfolding(crate::specs::Calls::no_result_call))]
-fn completion_without(fields: Fields) -> Call
+fn completion_without(fields: Fields) -> Option<Call>
     ensures { result ≡ no_result_call fields }
 {
     if !script_fields::within_limits(fields, &[MAX_SCRIPT_DATA as u64]) {
-        return Call::Bad;
+        return None;
     }
-    Call::CompleteWithout(fields.numbers[0] as usize)
+    Some(Call::CompleteWithout(fields.numbers[0] as usize))
 }
 
 // `x`
 #[tactic(auto, unfolding(crate::specs::Calls::cancel_call))]
-fn cancel(fields: Fields) -> Call
+fn cancel(fields: Fields) -> Option<Call>
     ensures { result ≡ cancel_call fields }
 {
     if !script_fields::within_limits(fields, &[]) {
-        return Call::Bad;
+        return None;
     }
-    Call::Cancel
+    Some(Call::Cancel)
 }
 
 // `p STATE`
 #[tactic(auto, unfolding(crate::specs::Calls::in_state_call))]
-fn in_state(fields: Fields) -> Call
+fn in_state(fields: Fields) -> Option<Call>
     ensures { result ≡ in_state_call fields }
 {
     if !script_fields::within_limits(fields, &[3]) {
-        return Call::Bad;
+        return None;
     }
-    Call::MakeUpIn(in_state_of(fields.numbers[0]))
+    Some(Call::MakeUpIn(in_state_of(fields.numbers[0])))
 }
 
 // `p PHASE STATE DIRECTION LENGTH`
 #[tactic(auto, unfolding(crate::specs::Calls::control_state_call))]
-fn control_state(fields: Fields) -> Call
+fn control_state(fields: Fields) -> Option<Call>
     ensures { result ≡ control_state_call fields }
 {
     if !script_fields::within_limits(fields, &[4, 2, 1, MAX_WORD]) {
-        return Call::Bad;
+        return None;
     }
     let phase = phase_of(fields.numbers[0]);
     let state = control_state_of(fields.numbers[1]);
-    Call::MakeUpControl(
+    Some(Call::MakeUpControl(
         phase,
         state,
         fields.numbers[2] == 1,
         fields.numbers[3] as u32,
-    )
+    ))
 }
 
 #[tactic(auto, unfolding(crate::specs::Calls::make_up_call))]
-fn made_up(fields: Fields) -> Call
+fn made_up(fields: Fields) -> Option<Call>
     ensures { result ≡ make_up_call fields }
 {
     if fields.count == 1 {
@@ -454,59 +453,59 @@ fn made_up(fields: Fields) -> Call
 
 // `e STATUS N`: of the row's next TD.
 #[tactic(auto, unfolding(crate::specs::Calls::row_result_call))]
-fn row_result(fields: Fields) -> Call
+fn row_result(fields: Fields) -> Option<Call>
     ensures { result ≡ row_result_call fields }
 {
     if !script_fields::within_limits(fields, &[3, MAX_WORD]) {
-        return Call::Bad;
+        return None;
     }
-    Call::AppendResult(in_status_of(fields.numbers[0]), fields.numbers[1] as u32)
+    Some(Call::AppendResult(in_status_of(fields.numbers[0]), fields.numbers[1] as u32))
 }
 
 // `r N`: the row call.
 #[tactic(auto, unfolding(crate::specs::Calls::row_call))]
-fn row_completion(fields: Fields) -> Call
+fn row_completion(fields: Fields) -> Option<Call>
     ensures { result ≡ row_call fields }
 {
     if !script_fields::within_limits(fields, &[MAX_SCRIPT_DATA as u64]) {
-        return Call::Bad;
+        return None;
     }
-    Call::CompleteRow(fields.numbers[0] as usize)
+    Some(Call::CompleteRow(fields.numbers[0] as usize))
 }
 
 // `t SECONDS MICROSECONDS`: the time of what follows.
 #[tactic(auto, unfolding(crate::specs::Calls::time_call))]
-fn time(fields: Fields) -> Call
+fn time(fields: Fields) -> Option<Call>
     ensures { result ≡ time_call fields }
 {
     if !script_fields::within_limits(fields, &[MAX_WORD, MAX_WORD]) {
-        return Call::Bad;
+        return None;
     }
-    Call::Time(fields.numbers[0] as u32, fields.numbers[1] as u32)
+    Some(Call::Time(fields.numbers[0] as u32, fields.numbers[1] as u32))
 }
 
 // `m BUS DEVICE TYPE`: what captures say of the endpoint.
 #[tactic(auto, unfolding(crate::specs::Calls::capture_call))]
-fn captured(fields: Fields) -> Call
+fn captured(fields: Fields) -> Option<Call>
     ensures { result ≡ capture_call fields }
 {
     if !script_fields::within_limits(fields, &[MAX_BUS, MAX_BYTE, 3]) {
-        return Call::Bad;
+        return None;
     }
     if !is_transfer_type(fields.numbers[2]) {
-        return Call::Bad;
+        return None;
     }
     let transfer_type = transfer_type_of(fields.numbers[2]);
-    Call::Captured(
+    Some(Call::Captured(
         fields.numbers[0] as u16,
         fields.numbers[1] as u8,
         transfer_type,
-    )
+    ))
 }
 
 // The call of a letter and numbers.
 #[tactic(auto, unfolding(crate::specs::Calls::numbered_call, script_trb::specs::Tables::row_of))]
-fn numbered_call(fields: Fields) -> Call
+fn numbered_call(fields: Fields) -> Option<Call>
     ensures { result ≡ numbered_call fields }
 {
     match fields.letter {
@@ -525,35 +524,35 @@ fn numbered_call(fields: Fields) -> Call
         b'p' => made_up(fields),
         b't' => time(fields),
         b'm' => captured(fields),
-        _ => Call::Bad,
+        _ => None,
     }
 }
 
 // `u ADDR RAW`: a raw TRB, decoded. No number of a script has so many digits, so that a line which has one has no numbers alone.
 #[tactic(auto, unfolding(crate::specs::Calls::raw_call))]
-fn raw_call(fields: RawFields) -> Call
+fn raw_call(fields: RawFields) -> Option<Call>
     ensures { result ≡ raw_call fields }
 {
     if fields.letter != b'u' || fields.count != 1 {
-        return Call::Bad;
+        return None;
     }
     let decoded = raw_trb_decoder::decode(fields.bytes);
-    Call::Submit(TransferTrb {
+    Some(Call::Submit(TransferTrb {
         variant: decoded.variant,
         addr: fields.first,
         cycle_bit: decoded.cycle_bit,
-    })
+    }))
 }
 
 // The call of a line, which comes without its line feed.
 #[tactic(auto, unfolding(crate::specs::Calls::call_of))]
-pub fn read_call(line: &[u8]) -> Call
+pub fn read_call(line: &[u8]) -> Option<Call>
     ensures { result ≡ call_of line.now }
 {
     if let Some(fields) = script_fields::read_fields(line) {
         return numbered_call(fields);
     }
-    script_fields::read_raw_fields(line).map_or(Call::Bad, |fields| raw_call(fields))
+    raw_call(script_fields::read_raw_fields(line)?)
 }
 
 // ---- Lines of the program `raw_trbs`

@@ -1,11 +1,10 @@
 -- 02, R-12: converting between link types 189 and 220. Assumes nothing.
 use Rattle.std.specs.Prelude.{ℕ, ◌+◌, ◌-◌, ◌≤◌, Bool, true, cond, ◌≡◌, List, [], ◌∷◌, ◌++◌, map, leb, eqb, length, take, drop, replicate, Result, Ok, Err}
-use Rattle.trb.specs.Answers.{refusal_of}
+use Rattle.trb.specs.Answers.{number_of, refusal_of}
 use Rattle.trb.specs.Questions.{first_no, after_questions}
 use Rattle.buffers.specs.LittleEndian.{le_field}
 use Rattle.buffers.specs.Patch.{patch}
 use Rattle.trb.specs.declared.Refusal.{Refusal}
-use Rattle.capture_file.specs.Answers.{capture_number}
 use Rattle.capture_file.specs.Records.{CaptureRecord, head, layout_all}
 use Rattle.capture_file.specs.Reading.{original_at, delivered_at, records_in, whole_record, every, Records}
 use Rattle.capture_file.specs.Files.{CaptureFile, link_short, link_long, extra_of, layout_file, file_in, whole_file}
@@ -68,12 +67,12 @@ output_after l output = after_questions (convert_questions l (length output)) (�
 
 -- of a call of converted_length with the bytes l: it answered r
 pub record Measures (l : List ℕ) (r : Result ℕ Refusal) : Type 0 where
-  pub number : capture_number r ≡ first_no (length_questions l)
+  pub number : number_of r ≡ first_no (length_questions l)
   pub answer : r ≡ length_answer l
 
 -- of a call of convert with the bytes l: it answered r and left output'
 pub record Converts (l output : List ℕ) (r : Result ℕ Refusal) (output' : List ℕ) : Type 0 where
-  pub number : capture_number r ≡ first_no (convert_questions l (length output))
+  pub number : number_of r ≡ first_no (convert_questions l (length output))
   pub answer : r ≡ convert_answer l (length output)
   pub after : output' ≡ output_after l output
 

@@ -2,7 +2,7 @@
 #![tactic(auto)]
 
 ghost use Rattle.std.specs.Prelude.{◌≡◌};
-ghost use Rattle.capture_file.specs.Answers.{capture_number, capture_length};
+ghost use Rattle.capture_file.specs.Answers.{capture_length};
 ghost use Rattle.capture_file.specs.Records.{head};
 ghost use Rattle.capture_file.specs.Files.{file_head};
 
@@ -19,16 +19,6 @@ pub const MINOR_VERSION: u16 = 4;
 pub const LINK_SHORT: u32 = 189;
 
 pub const LINK_LONG: u32 = 220;
-
-// The number of what a call over capture files answers, the length of the file made or a refusal: 0 where every question was answered yes.
-pub fn answer_number(answer: Result<usize, Refusal>) -> u8
-    ensures { result ≡ capture_number answer }
-{
-    match answer {
-        Ok(_) => 0,
-        Err(refusal) => u8::from(refusal),
-    }
-}
 
 // The length of the file made, 0 where there is none.
 pub fn answer_length(answer: Result<usize, Refusal>) -> usize

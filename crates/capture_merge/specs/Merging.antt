@@ -1,11 +1,10 @@
 -- 02, R-13: two captures made one, ordered by time. Assumes nothing.
 use Rattle.std.specs.Prelude.{ℕ, Bool, cond, not, ◌&&◌, ◌||◌, ◌≡◌, List, [], ◌∷◌, ◌++◌, leb, ltb, eqb, length, Result, Ok, Err}
-use Rattle.trb.specs.Answers.{refusal_of}
+use Rattle.trb.specs.Answers.{number_of, refusal_of}
 use Rattle.trb.specs.Questions.{first_no, after_questions}
 use Rattle.buffers.specs.LittleEndian.{le_field}
 use Rattle.buffers.specs.Patch.{patch}
 use Rattle.trb.specs.declared.Refusal.{Refusal}
-use Rattle.capture_file.specs.Answers.{capture_number}
 use Rattle.capture_file.specs.Records.{CaptureRecord, layout_all}
 use Rattle.capture_file.specs.Reading.{records_in}
 use Rattle.capture_file.specs.Files.{CaptureFile, layout_file, file_in, whole_file}
@@ -68,12 +67,12 @@ output_after a b output = after_questions (merge_questions a b (length output)) 
 
 -- of a call of merged_length with the bytes a and b: it answered r
 pub record Measures (a b : List ℕ) (r : Result ℕ Refusal) : Type 0 where
-  pub number : capture_number r ≡ first_no (length_questions a b)
+  pub number : number_of r ≡ first_no (length_questions a b)
   pub answer : r ≡ length_answer a b
 
 -- of a call of merge with the bytes a and b: it answered r and left output'
 pub record Merges (a b output : List ℕ) (r : Result ℕ Refusal) (output' : List ℕ) : Type 0 where
-  pub number : capture_number r ≡ first_no (merge_questions a b (length output))
+  pub number : number_of r ≡ first_no (merge_questions a b (length output))
   pub answer : r ≡ merge_answer a b (length output)
   pub after : output' ≡ output_after a b output
 

@@ -28,7 +28,7 @@ pub fn converted_length(input: &[u8]) -> usize
 pub fn convert(input: &[u8], output: &mut [u8]) -> u8
     ensures { (result ≡ first_no (convert_questions input.now (length output.old))) × (output.new ≡ output_after input.now output.old) }
 {
-    capture_file::answer_number(capture_convert::convert(input, output))
+    trb::number_of(capture_convert::convert(input, output))
 }
 
 // The length of two captures made one; 0 where merging answers 17, 19 or 20.
@@ -42,7 +42,7 @@ pub fn merged_length(first: &[u8], second: &[u8]) -> usize
 pub fn merge(first: &[u8], second: &[u8], output: &mut [u8]) -> u8
     ensures { (result ≡ first_no (merging.merge_questions first.now second.now (length output.old))) × (output.new ≡ merging.output_after first.now second.now output.old) }
 {
-    capture_file::answer_number(capture_merge::merge(first, second, output))
+    trb::number_of(capture_merge::merge(first, second, output))
 }
 
 // ---- Records

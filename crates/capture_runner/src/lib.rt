@@ -7,12 +7,14 @@ ghost use Rattle.trb.specs.Limits.{min_row_log};
 ghost use Rattle.script_lines.specs.Steps.{Stepped};
 ghost use Rattle.state_text.specs.Widths.{max_answer};
 
+use call_answer::Ran;
 use call_script::Call;
 use captured_calls::Setting;
 use script_lines::{Found, Step};
-use session::{Ran, Session};
+use session::Session;
 use std::io;
 use std::io::{Read, Write};
+use text::Text;
 
 // ---- Bytes out
 
@@ -55,14 +57,22 @@ fn run_call(
     data: &[u8],
     longer: &mut [u8],
     shorter: &mut [u8],
-) -> Ran
+) -> Ran<Session>
     requires max_answer_in_bounds { max_answer ≤ length text.old }
     requires log_len_bound { length log.old ≤ min_row_log }
 {
+    let mut text = Text {
+        bytes: text,
+        end: 0,
+    };
     if high_is_longer(session, call) {
-        return session_calls::run_call(text, 0, session, call, log, collect, data, shorter, longer);
+        return session_calls::run_call(
+            &mut text, session, call, log, collect, data, shorter, longer,
+        );
     }
-    session_calls::run_call(text, 0, session, call, log, collect, data, longer, shorter)
+    session_calls::run_call(
+        &mut text, session, call, log, collect, data, longer, shorter,
+    )
 }
 
 // Takes one line, which comes without its line feed, and writes the records of its call. A bad line has none, and ends the run: there
@@ -82,7 +92,9 @@ fn run_line<W: Write>(
     requires max_answer_in_bounds { max_answer ≤ length text.old }
     requires log_len_bound { length log.old ≤ min_row_log }
 {
-    let call = call_script::read_call(line);
+    let Some(call) = call_script::read_call(line) else {
+        return Ok(None);
+    };
     let ran = run_call(
         text,
         progress.session,
@@ -97,7 +109,7 @@ fn run_line<W: Write>(
         output,
         progress.setting,
         progress.session,
-        ran.session,
+        ran.left,
         call,
         log,
         ran.records,
@@ -109,11 +121,12 @@ fn run_line<W: Write>(
         return Ok(None);
     }
     Ok(Some(Progress {
-        session: ran.session,
+        session: ran.left,
         setting: call_captures::setting_after(progress.setting, call),
     }))
 }
 
+// What a step found, as in `raw_trbs`: a closure for what is done with a line would have to ask again what `run_line` asks.
 fn run_step<W: Write>(
     writer: &mut W,
     output: &mut [u8],

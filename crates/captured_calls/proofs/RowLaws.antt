@@ -10,7 +10,6 @@ use lib.ListN.{length, take, drop, get_or, length-drop, drop_of_length-le}
 use lib.Seq.{drop-cons, drop-drop}
 use Rattle.std.proofs.Common.{Some}
 use Rattle.trb.specs.Trbs.{chain_of}
-use Rattle.trb.specs.declared.InTrbProcessingStatus.{InTrbProcessingStatus}
 use Rattle.trb.specs.declared.TransferTrb.{TransferTrb}
 use Rattle.trb.specs.declared.TransferTrbVariant.{TransferTrbVariant}
 use Rattle.call_log.specs.Records.{request_kind, record_at}
@@ -25,9 +24,7 @@ use Rattle.capture_record.specs.declared.InPipe.{InPipe}
 use Rattle.capture_record.specs.Calls.{CaptureCall}
 use Rattle.capture_calls.specs.Captures.{Captured}
 use Rattle.captured_calls.specs.Submitted.{records_from}
-use Rattle.captured_calls.specs.Written.{Lays}
-use Rattle.captured_calls.specs.Rows.{requests_in, request_at, td_capture, td_captures, requests_behind, PutsTd, row_captures, Spans}
-use Rattle.captured_calls.proofs.WrittenLaws.{lays-none}
+use Rattle.captured_calls.specs.Rows.{requests_in, request_at, td_captures, requests_behind, row_captures, Spans}
 use Rattle.captured_calls.proofs.LeastLaws.{take-least, drop-least}
 use Rattle.captured_calls.proofs.SubmittedLaws.{records_from-none}
 
@@ -87,20 +84,6 @@ module _ (n i : ℕ) (log : List ℕ) where
   pub request-nowhere : n ≤ i → requests_in (records_from n i log) ≡ []
   unfolding requests_in
   request-nowhere h = rw (records_from-none n i log h)
-
--- ---- One TD
-
-module _ (c : Captured) (p : InPipe) (status : InTrbProcessingStatus) (bytes output : List ℕ) (at : ℕ) (fits : at ≤ length output) where
-  pub puts_none : (qs : List Record) → PutsTd c p false status qs qs bytes output at at output
-  puts_none qs = record { lays = lays-none output at fits; behind = refl }
-
-  module _ (qs left : List Record) where
-    pub puts-started : (q : Record) → qs ≡ q ∷ left → (r : ℕ) (output' : List ℕ) → Lays (td_capture c p q status bytes) output at r output'
-        → PutsTd c p true status qs left bytes output at r output'
-    puts-started q e r output' l = record { lays = rw e l; behind = rw e }
-
-    pub puts-unstarted : qs ≡ [] → left ≡ [] → PutsTd c p true status qs left bytes output at at output
-    puts-unstarted e f = record { lays = rw e (lays-none output at fits); behind = rw (e, f) }
 
 -- ---- The TDs of a row
 

@@ -19,7 +19,8 @@ use Rattle.capture_file.specs.Records.{layout}
 use Rattle.capture_record.specs.Calls.{CaptureCall, record_of, captured_by}
 use Rattle.capture_record.specs.Events.{snap_length, max_microseconds}
 use Rattle.capture_writer.specs.Writing.{Written, in_numbers, refused_with, record_questions, answer_of, WritesIf, Writes}
-use Rattle.captured_calls.specs.Written.{written_one, written_all, Lays}
+use Rattle.captured_calls.specs.declared.Capture.{Capture}
+use Rattle.captured_calls.specs.Written.{written_one, written_all, Fits, Laid, Lays}
 
 -- ---- It lies in the room
 
@@ -84,33 +85,49 @@ written_all-append room (c ∷ cs) ds =
     ∙ ap (λ (n : ℕ). one ++ (rest ++ written_all n ds)) left
     ∙ sym (append_assoc one rest (written_all (room - length (one ++ rest)) ds))
 
-module _ (output : List ℕ) (at : ℕ) (fits : at ≤ length output) where
-  -- no call
-  pub lays-none : Lays [] output at at output
-  unfolding written_all
-  lays-none = record { end = omega arith; after = sym (patch-none output at); inside = fits }
+pub laid-none : {c : Capture} → Fits c → Laid [] c c
+unfolding written_all
+laid-none {c = c} h = record { end = omega arith; bytes = sym (patch-none c.bytes.now c.end); size = refl; fits = h; same = refl }
 
-  -- those of one function, and then those of another
-  pub lays-join : (cs ds : List CaptureCall) (m : ℕ) (between : List ℕ) (r : ℕ) (output' : List ℕ)
-      → Lays cs output at m between → Lays ds between m r output' → Lays (cs ++ ds) output at r output'
-  lays-join cs ds m between r output' f g =
-      let room : ℕ = length output - at in
-      let first : List ℕ = written_all room cs in
-      let within : length first ≤ room = length-written_all room cs in
-      let size : length between ≡ length output = ap length f.after ∙ length-patch output at first (omega arith) in
-      let left : length between - m ≡ room - length first = omega (arith, f.end, size) in
-      let both : written_all room (cs ++ ds) ≡ first ++ written_all (length between - m) ds =
-      written_all-append room cs ds ∙ ap (λ (n : ℕ). first ++ written_all n ds) (sym left) in
-      record {
-        end = g.end ∙ omega (arith, f.end, ap length both, length-append first (written_all (length between - m) ds));
-        after =
-            g.after
-            ∙ patch-behind output between at m first (written_all (length between - m) ds) f.after f.end (omega arith)
-            ∙ ap (patch output at) (sym both);
-        inside = omega (arith, g.inside, size);
-      }
+-- these calls, and then those
+pub laid-append : {c m d : Capture} {cs ds : List CaptureCall} → Laid cs c m → Laid ds m d → Laid (cs ++ ds) c d
+laid-append {c = c} {m = m} {cs = cs} {ds = ds} p q =
+    let room : ℕ = length c.bytes.now - c.end in
+    let first : List ℕ = written_all room cs in
+    let left : length m.bytes.now - m.end ≡ room - length first = omega (arith, p.end, p.size) in
+    let both : written_all room (cs ++ ds) ≡ first ++ written_all (length m.bytes.now - m.end) ds =
+    written_all-append room cs ds ∙ ap (λ (n : ℕ). first ++ written_all n ds) (sym left) in
+    record {
+      end = q.end ∙ omega (arith, p.end, ap length both, length-append first (written_all (length m.bytes.now - m.end) ds));
+      bytes =
+          q.bytes
+          ∙ patch-behind c.bytes.now m.bytes.now c.end m.end first (written_all (length m.bytes.now - m.end) ds) p.bytes p.end (omega (arith, p.end, p.size, p.fits))
+          ∙ ap (patch c.bytes.now c.end) (sym both);
+      size = q.size ∙ p.size;
+      fits = q.fits;
+      same = q.same ∙ p.same;
+    }
 
-  -- ---- One call, over the part of the buffer from `at` on
+-- who makes a capture of its buffer finds in the buffer, behind calls of the writer, what the capture has
+pub laid-first : {c c' : Capture} {cs : List CaptureCall} {output : List ℕ} → c.end ≡ 0 → Laid cs c c'
+    → (c.bytes.ghost_name ≡ c'.bytes.ghost_name → output ≡ c'.bytes.now) → Lays cs c.bytes.now c'.end output
+laid-first {c} {c'} {cs} {output} none p last =
+    let made : List ℕ = written_all (length c.bytes.now - c.end) cs in
+    let room : made ≡ written_all (length c.bytes.now) cs = ap (λ (n : ℕ). written_all n cs) (omega arith) in
+    record {
+      end = omega (arith, p.end, ap length room);
+      after = last (sym p.same) ∙ p.bytes ∙ rw (room, none) refl;
+      inside = omega (arith, p.fits, p.size);
+    }
+
+-- ---- One call, over the part of the buffer behind the records
+
+module _ (c : Capture) (fits : Fits c) where
+  abbrev output : List ℕ
+  output = c.bytes.now
+
+  abbrev at : ℕ
+  at = c.end
 
   abbrev part : List ℕ
   part = mid_of at (length output - at) output
@@ -145,43 +162,38 @@ module _ (output : List ℕ) (at : ℕ) (fits : at ≤ length output) where
       by true false e f = omega (arith, rw (e, f) at answered)
       by false b e f = omega (arith, rw e at answered)
 
-  pub lays_one : (c : CaptureCall) (w : Written) (part' : List ℕ) → Writes c part w part'
-      → Lays (c ∷ []) output at (at + w.length) (put_mid at (length output - at) output part')
+  pub laid-one : {d : Capture} (call : CaptureCall) (w : Written) (part' : List ℕ) → Writes call part w part'
+      → d.bytes.now ≡ put_mid at (length output - at) output part' → d.end ≡ at + w.length → d.bytes.ghost_name ≡ c.bytes.ghost_name → Laid (call ∷ []) c d
   unfolding written_all
-  lays_one c w part' h =
+  laid-one {d} call w part' writes after end same =
       let room : ℕ = length output - at in
-      let one : List ℕ = written_one room c in
+      let one : List ℕ = written_one room call in
       let all : one ++ [] ≡ one = append-nil one in
-      let size : w.length ≡ length one = written-length part c w part' h ∙ ap (λ (n : ℕ). length (written_one n c)) length_part in
-      let left : part' ≡ patch part 0 one = written_after part c w part' h ∙ ap (λ (n : ℕ). patch part 0 (written_one n c)) length_part in
-      record {
-        end = omega (arith, size, ap length all);
-        after = ap (put_mid at room output) left ∙ part-patched one ∙ ap (patch output at) (sym all);
-        inside = omega (arith, size, length-written_one room c);
-      }
+      let most : length one ≤ room = length-written_one room call in
+      let length-one : w.length ≡ length one = written-length part call w part' writes ∙ ap (λ (n : ℕ). length (written_one n call)) length_part in
+      let left : part' ≡ patch part 0 one = written_after part call w part' writes ∙ ap (λ (n : ℕ). patch part 0 (written_one n call)) length_part in
+      let laid : d.bytes.now ≡ patch output at one = after ∙ ap (put_mid at room output) left ∙ part-patched one in
+      let size : length d.bytes.now ≡ length output = ap length laid ∙ length-patch output at one (omega arith) in
+      record { end = omega (arith, ap length all); bytes = laid ∙ ap (patch output at) (sym all); size = size; fits = omega arith; same = same }
 
 -- ---- A loop that makes calls of the writer
 
--- with the buffer as it is, what is left to do lays, behind what was laid, what the whole was to lay
-pub record Continues (whole rest : List CaptureCall) (output₀ : List ℕ) (at₀ : ℕ) (output : List ℕ) (at : ℕ) : Type 0 where
-  pub size : length output ≡ length output₀
-  pub inside : at ≤ length output
-  pub on : (r : ℕ) (output' : List ℕ) → Lays rest output at r output' → Lays whole output₀ at₀ r output'
+-- of a loop that makes the calls `whole` on the capture c₀, and has come to the capture c: the calls `rest` are left
+pub record Remaining (c₀ : Capture) (whole : List CaptureCall) (c : Capture) (rest : List CaptureCall) : Type 0 where
+  pub made : List CaptureCall
+  pub laid : Laid made c₀ c
+  pub all : whole ≡ made ++ rest
 
-pub continues-start : (cs : List CaptureCall) (output : List ℕ) (at : ℕ) → at ≤ length output → Continues cs cs output at output at
-continues-start cs output at h = record { size = refl; inside = h; on = λ r output' l. l }
+pub remaining-all : {c : Capture} (cs : List CaptureCall) → Fits c → Remaining c cs c cs
+remaining-all cs h = record { made = []; laid = laid-none h; all = refl }
 
-module _ {whole : List CaptureCall} {output₀ : List ℕ} {at₀ : ℕ} {output : List ℕ} {at : ℕ} where
-  pub continues-turn : (was cs rest : List CaptureCall) → was ≡ cs ++ rest → {m : ℕ} {output' : List ℕ}
-      → Continues whole was output₀ at₀ output at → Lays cs output at m output' → Continues whole rest output₀ at₀ output' m
-  continues-turn was cs rest e {m} {output'} k l =
-      let size : length output' ≡ length output =
-      ap length l.after ∙ length-patch output at _ (omega (arith, k.inside, length-written_all (length output - at) cs)) in
-      record {
-        size = size ∙ k.size;
-        inside = omega (arith, l.inside, size);
-        on = λ r output'' g. k.on r output'' (rw e (lays-join output at k.inside cs rest m output' r output'' l g));
-      }
+module _ {c₀ c : Capture} {whole : List CaptureCall} where
+  pub remaining-less : {d : Capture} {was cs rest : List CaptureCall} → was ≡ cs ++ rest → Remaining c₀ whole c was → Laid cs c d → Remaining c₀ whole d rest
+  remaining-less {cs = cs} {rest = rest} e p q = record {
+    made = p.made ++ cs;
+    laid = laid-append p.laid q;
+    all = p.all ∙ rw e (sym (append_assoc p.made cs rest));
+  }
 
-  pub continues-end : (rest : List CaptureCall) → rest ≡ [] → Continues whole rest output₀ at₀ output at → Lays whole output₀ at₀ at output
-  continues-end rest none k = k.on at output (rw none (lays-none output at k.inside))
+  pub remaining-none : {rest : List CaptureCall} → rest ≡ [] → Remaining c₀ whole c rest → Laid whole c₀ c
+  remaining-none e p = rw (p.all, e, append-nil p.made) p.laid

@@ -13,7 +13,6 @@ use Rattle.capture_record.specs.Calls.{CaptureCall}
 use Rattle.capture_calls.specs.Events.{in_request_event, in_completion_event}
 use Rattle.capture_calls.specs.Captures.{Captured, writer_call}
 use Rattle.captured_calls.specs.declared.TdSpan.{TdSpan}
-use Rattle.captured_calls.specs.Written.{Lays}
 use Rattle.captured_calls.specs.Submitted.{records_from}
 
 -- the requests of a log, in their order: 02, R-7: each TD that was started has logged its own, if it has a Normal
@@ -43,11 +42,6 @@ td_captures c p normal qs status bytes = cond normal (started_capture c p qs sta
 -- the requests of the TDs behind it
 abbrev pub requests_behind : Bool → List Record → List Record
 requests_behind normal qs = cond normal (drop 1 qs) qs
-
--- of such a TD, the requests qs not looked at yet: what it laid, and the requests left
-pub record PutsTd (c : Captured) (p : InPipe) (normal : Bool) (status : InTrbProcessingStatus) (qs left : List Record) (bytes output : List ℕ) (at r : ℕ) (output' : List ℕ) : Type 0 where
-  pub lays : Lays (td_captures c p normal qs status bytes) output at r output'
-  pub behind : left ≡ requests_behind normal qs
 
 -- the TDs of a row one behind the other, each with its part of the joined data
 unfoldable pub row_captures : Captured → InPipe → List RowTd → List Record → List ℕ → List CaptureCall

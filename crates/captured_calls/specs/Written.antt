@@ -5,6 +5,7 @@ use Rattle.buffers.specs.Patch.{patch}
 use Rattle.capture_file.specs.Records.{layout}
 use Rattle.capture_record.specs.Calls.{CaptureCall, record_of}
 use Rattle.capture_writer.specs.Writing.{record_questions}
+use Rattle.captured_calls.specs.declared.Capture.{Capture}
 
 -- a call of the writer leaves its record where `room` bytes are left; a refused one leaves nothing
 unfoldable pub written_one : ℕ → CaptureCall → List ℕ
@@ -15,9 +16,20 @@ unfoldable pub written_all : ℕ → List CaptureCall → List ℕ
 written_all room [] = []
 written_all room (c ∷ cs) = written_one room c ++ written_all (room - length (written_one room c)) cs
 
--- of a function that was lent `output`, the bytes before index `at` laid already: it made these calls of the writer, and no others, returned
--- the index behind what they wrote, and left output'
-pub record Lays (cs : List CaptureCall) (output : List ℕ) (at r : ℕ) (output' : List ℕ) : Type 0 where
-  pub end : r ≡ at + length (written_all (length output - at) cs)
-  pub after : output' ≡ patch output at (written_all (length output - at) cs)
+-- the records lie in the buffer: whoever makes a capture shows it, and `Laid` gives it back
+abbrev pub Fits : Capture → Type 0
+Fits c = c.end ≤ length c.bytes.now
+
+-- the capture c became c': these calls of the writer were made, and no others, and what they wrote stands behind the records, in the same buffer
+pub record Laid (cs : List CaptureCall) (c c' : Capture) : Type 0 where
+  pub end : c'.end ≡ c.end + length (written_all (length c.bytes.now - c.end) cs)
+  pub bytes : c'.bytes.now ≡ patch c.bytes.now c.end (written_all (length c.bytes.now - c.end) cs)
+  pub size : length c'.bytes.now ≡ length c.bytes.now
+  pub fits : Fits c'
+  pub same : c'.bytes.ghost_name ≡ c.bytes.ghost_name
+
+-- of a function that was lent `output`: it made these calls of the writer, and no others, returned how many bytes they wrote, and left output'
+pub record Lays (cs : List CaptureCall) (output : List ℕ) (r : ℕ) (output' : List ℕ) : Type 0 where
+  pub end : r ≡ length (written_all (length output) cs)
+  pub after : output' ≡ patch output 0 (written_all (length output) cs)
   pub inside : r ≤ length output

@@ -9,9 +9,9 @@ ghost use Rattle.in_td.specs.Td.{normal_count};
 ghost use Rattle.row_walk.specs.Rows.{row_tds};
 ghost use Rattle.capture_calls.specs.Events.{in_completion_event, control_completion_event, control_request_event};
 ghost use Rattle.capture_calls.specs.Captures.{writer_call, request_captures, in_submission_capture};
-ghost use Rattle.captured_calls.specs.Written.{Lays};
+ghost use Rattle.captured_calls.specs.Written.{Fits, Laid};
 ghost use Rattle.captured_calls.specs.Submitted.{captured_of, pipe_of, request_event, logged_records, records_from};
-ghost use Rattle.captured_calls.specs.Rows.{Spans, requests_in, request_at, td_capture, PutsTd, row_captures};
+ghost use Rattle.captured_calls.specs.Rows.{Spans, requests_in, request_at, td_capture, td_captures, requests_behind, row_captures};
 
 use call_log::Record;
 use capture_record::{CaptureEvent, InPipe, UsbDevice};
@@ -30,30 +30,28 @@ pub struct Setting {
     pub interrupt: bool,
 }
 
-// Lays a record behind the bytes before `at`, if there is one, and returns the index behind it. One that is refused is left out.
-fn put(
-    output: &mut [u8],
-    at: usize,
-    setting: Setting,
-    event: Option<CaptureEvent>,
-    payload: &[u8],
-) -> usize
-    requires { at ≤ length output.old }
-    ensures { Lays (writer_call (captured_of setting) event payload.now) output.old at result output.new }
+// A lent buffer, and how many of its bytes are records.
+#[derive(Drop)]
+pub struct Capture<'a> {
+    pub bytes: &'a mut [u8],
+    pub end: usize,
+}
+
+// Lays a record, if there is one. One that is refused is left out.
+fn put(capture: &mut Capture<'_>, setting: Setting, event: Option<CaptureEvent>, payload: &[u8])
+    requires { Fits capture.old }
+    ensures { Laid (writer_call (captured_of setting) event payload.now) capture.old capture.new }
 {
-    match event {
-        Some(event) => {
-            let written = capture_writer::write_record(
-                &mut output[at..],
-                setting.device,
-                setting.seconds,
-                setting.microseconds,
-                event,
-                payload,
-            );
-            at + written.unwrap_or(0)
-        }
-        None => at,
+    if let Some(event) = event {
+        let written = capture_writer::write_record(
+            &mut capture.bytes[capture.end..],
+            setting.device,
+            setting.seconds,
+            setting.microseconds,
+            event,
+            payload,
+        );
+        capture.end += written.unwrap_or(0);
     }
 }
 
@@ -77,24 +75,21 @@ fn request_event(requester: Requester, record: Record) -> Option<CaptureEvent>
 
 // The requests among a log's first records, each with this payload.
 fn put_requests(
-    output: &mut [u8],
-    at: usize,
+    capture: &mut Capture<'_>,
     setting: Setting,
     requester: Requester,
     log: &[u8],
     records: usize,
     payload: &[u8],
-) -> usize
-    requires { at ≤ length output.old }
-    ensures { Lays (request_captures (captured_of setting) (request_event requester) payload.now (logged_records records log.now)) output.old at result output.new }
+)
+    requires { Fits capture.old }
+    ensures { Laid (request_captures (captured_of setting) (request_event requester) payload.now (logged_records records log.now)) capture.old capture.new }
 {
     let end = records.min(log.len() / trb::RECORD_LENGTH);
-    let mut behind = at;
     for i in 0..end {
         let event = request_event(requester, call_log::read_record(log, i));
-        behind = put(output, behind, setting, event, payload);
+        put(capture, setting, event, payload);
     }
-    behind
 }
 
 fn in_pipe(setting: Setting, endpoint_id: EndpointId) -> InPipe
@@ -108,68 +103,63 @@ fn in_pipe(setting: Setting, endpoint_id: EndpointId) -> InPipe
 
 // A submission on an IN endpoint that logged so many records.
 pub fn put_in_submission(
-    output: &mut [u8],
-    at: usize,
+    capture: &mut Capture<'_>,
     setting: Setting,
     endpoint_id: EndpointId,
     log: &[u8],
     records: usize,
-) -> usize
-    requires { at ≤ length output.old }
-    ensures { Lays (in_submission_capture (captured_of setting) (pipe_of setting endpoint_id) (logged_records records log.now)) output.old at result output.new }
+)
+    requires { Fits capture.old }
+    ensures { Laid (in_submission_capture (captured_of setting) (pipe_of setting endpoint_id) (logged_records records log.now)) capture.old capture.new }
 {
     let requester = Requester::In(in_pipe(setting, endpoint_id));
-    put_requests(output, at, setting, requester, log, records, &[])
+    put_requests(capture, setting, requester, log, records, &[]);
 }
 
 // A submission on a control endpoint, with the bytes that are collected.
 pub fn put_control_submission(
-    output: &mut [u8],
-    at: usize,
+    capture: &mut Capture<'_>,
     setting: Setting,
     log: &[u8],
     records: usize,
     collected: &[u8],
-) -> usize
-    requires { at ≤ length output.old }
-    ensures { Lays (request_captures (captured_of setting) control_request_event collected.now (logged_records records log.now)) output.old at result output.new }
+)
+    requires { Fits capture.old }
+    ensures { Laid (request_captures (captured_of setting) control_request_event collected.now (logged_records records log.now)) capture.old capture.new }
 {
     put_requests(
-        output,
-        at,
+        capture,
         setting,
         Requester::Control,
         log,
         records,
         collected,
-    )
+    );
 }
 
 // ---- Completions
 
 // A completion of an IN block that was accepted in this state, `first` the address of its first TRB.
 pub fn put_in_completion(
-    output: &mut [u8],
-    at: usize,
+    capture: &mut Capture<'_>,
     setting: Setting,
     endpoint_id: EndpointId,
     state: TdBasedNormalSubmissionState,
     first: u64,
     res: Option<InTrbProcessingStatus>,
     data: &[u8],
-) -> usize
-    requires { at ≤ length output.old }
-    ensures { Lays (writer_call (captured_of setting) (in_completion_event (pipe_of setting endpoint_id) state first res) «data».now) output.old at result output.new }
+)
+    requires { Fits capture.old }
+    ensures { Laid (writer_call (captured_of setting) (in_completion_event (pipe_of setting endpoint_id) state first res) «data».now) capture.old capture.new }
 {
     let pipe = in_pipe(setting, endpoint_id);
     let record = capture_calls::in_completion_event(pipe, state, first, res);
-    put(output, at, setting, record, data)
+    put(capture, setting, record, data);
 }
 
 // A completion of a control block that was accepted in this state.
 pub fn put_control_completion(
-    output: &mut [u8],
-    at: usize,
+    capture: &mut Capture<'_>,
     setting: Setting,
     state: ControlSubmissionState,
     direction: bool,
@@ -177,12 +167,12 @@ pub fn put_control_completion(
     collected: u32,
     res: Option<ControlRequestProcessingResult>,
     data: &[u8],
-) -> usize
-    requires { at ≤ length output.old }
-    ensures { Lays (writer_call (captured_of setting) (control_completion_event state direction request collected res) «data».now) output.old at result output.new }
+)
+    requires { Fits capture.old }
+    ensures { Laid (writer_call (captured_of setting) (control_completion_event state direction request collected res) «data».now) capture.old capture.new }
 {
     let record = capture_calls::control_completion_event(state, direction, request, collected, res);
-    put(output, at, setting, record, data)
+    put(capture, setting, record, data);
 }
 
 // ---- Rows
@@ -251,43 +241,34 @@ fn next_request(log: &[u8], from: usize, records: usize) -> Option<usize>
 
 // A TD that was started: the request that it logged, and its completion.
 fn put_started(
-    output: &mut [u8],
-    at: usize,
+    capture: &mut Capture<'_>,
     setting: Setting,
     endpoint_id: EndpointId,
     request: Record,
     status: InTrbProcessingStatus,
     data: &[u8],
-) -> usize
-    requires { at ≤ length output.old }
-    ensures { Lays (td_capture (captured_of setting) (pipe_of setting endpoint_id) request status «data».now) output.old at result output.new }
+)
+    requires { Fits capture.old }
+    ensures { Laid (td_capture (captured_of setting) (pipe_of setting endpoint_id) request status «data».now) capture.old capture.new }
 {
     let pipe = in_pipe(setting, endpoint_id);
     let submitted = capture_calls::in_request_event(pipe, request);
-    let behind = put(output, at, setting, submitted, &[]);
+    put(capture, setting, submitted, &[]);
     put_in_completion(
-        output,
-        behind,
+        capture,
         setting,
         endpoint_id,
         TdBasedNormalSubmissionState::AwaitingRealTransfer,
         request.address,
         Some(status),
         data,
-    )
+    );
 }
 
-// Behind a TD: the index behind what was laid, and the number of the record behind its request.
-#[derive(Clone, Copy)]
-struct TdPut {
-    behind: usize,
-    from: usize,
-}
-
-// A TD with or without a Normal, the log's records from `from` on not looked at yet. Where they have no request it was not started.
+// A TD with or without a Normal, the log's records from `from` on not looked at yet. Returns the number of the record behind its request. Where the
+// records have no request it was not started.
 fn put_td(
-    output: &mut [u8],
-    at: usize,
+    capture: &mut Capture<'_>,
     setting: Setting,
     endpoint_id: EndpointId,
     has_normal: bool,
@@ -296,35 +277,21 @@ fn put_td(
     from: usize,
     records: usize,
     data: &[u8],
-) -> TdPut
-    requires { (at ≤ length output.old) × (record_length * records ≤ length log.now) }
-    ensures { PutsTd (captured_of setting) (pipe_of setting endpoint_id) has_normal given.status (requests_in (records_from records from log.now)) (requests_in (records_from records result.from log.now)) «data».now output.old at result.behind output.new }
+) -> usize
+    requires fits { Fits capture.old }
+    requires logged { record_length * records ≤ length log.now }
+    ensures laid { Laid (td_captures (captured_of setting) (pipe_of setting endpoint_id) has_normal (requests_in (records_from records from log.now)) given.status «data».now) capture.old capture.new }
+    ensures left { requests_in (records_from records result log.now) ≡ requests_behind has_normal (requests_in (records_from records from log.now)) }
 {
     if !has_normal {
-        return TdPut { behind: at, from };
+        return from;
     }
-    match next_request(log, from, records) {
-        Some(index) => {
-            let request = call_log::read_record(log, index);
-            let behind = put_started(
-                output,
-                at,
-                setting,
-                endpoint_id,
-                request,
-                given.status,
-                data,
-            );
-            TdPut {
-                behind,
-                from: index + 1,
-            }
-        }
-        None => TdPut {
-            behind: at,
-            from: records,
-        },
-    }
+    let Some(index) = next_request(log, from, records) else {
+        return records;
+    };
+    let request = call_log::read_record(log, index);
+    put_started(capture, setting, endpoint_id, request, given.status, data);
+    index + 1
 }
 
 // The end of the next `count` of `all` bytes, or of as many as there are.
@@ -338,8 +305,7 @@ fn part_end(start: usize, count: u32, all: usize) -> usize
 // A row of so many TRBs, with these results and joined data, that logged so many records: each TD that has a Normal and was started, its request and
 // then its completion.
 pub fn put_row(
-    output: &mut [u8],
-    at: usize,
+    capture: &mut Capture<'_>,
     setting: Setting,
     endpoint_id: EndpointId,
     row: [TransferTrb; trb::MAX_ROW],
@@ -348,13 +314,12 @@ pub fn put_row(
     log: &[u8],
     records: usize,
     data: &[u8],
-) -> usize
-    requires { at ≤ length output.old }
-    ensures { Lays (row_captures (captured_of setting) (pipe_of setting endpoint_id) (row_tds (take count row) results) (requests_in (logged_records records log.now)) «data».now) output.old at result output.new }
+)
+    requires { Fits capture.old }
+    ensures { Laid (row_captures (captured_of setting) (pipe_of setting endpoint_id) (row_tds (take count row) results) (requests_in (logged_records records log.now)) «data».now) capture.old capture.new }
 {
     let trbs = count.min(trb::MAX_ROW);
     let logged = records.min(log.len() / trb::RECORD_LENGTH);
-    let mut behind = at;
     let mut first = 0;
     let mut from = 0;
     let mut start = 0;
@@ -362,9 +327,8 @@ pub fn put_row(
         let given = results[td];
         let found = td_at(row, trbs, first);
         let end = part_end(start, given.length, data.len());
-        let put = put_td(
-            output,
-            behind,
+        from = put_td(
+            capture,
             setting,
             endpoint_id,
             found.normals != 0,
@@ -374,10 +338,7 @@ pub fn put_row(
             logged,
             &data[start..end],
         );
-        behind = put.behind;
         first = found.end;
-        from = put.from;
         start = end;
     }
-    behind
 }

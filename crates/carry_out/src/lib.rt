@@ -2,13 +2,13 @@
 #![tactic(auto)]
 
 ghost use Rattle.std.specs.Prelude.{true, ◌≡◌, length};
-ghost use Rattle.guest_memory.specs.Regions.{guest_regions};
-ghost use Rattle.guest_memory.specs.Places.{memory_of};
+ghost use Rattle.guest_memory.specs.Places.{regions_of};
+ghost use Rattle.guest_memory.specs.Lent.{lent, SameRegions};
 ghost use Rattle.carry_out.specs.Writes.{moves_bytes, write_in_range, writes_in_range, after_record, written, records_of};
 ghost use Rattle.carry_out.specs.CarryOut.{Carried};
 
 use call_log::Record;
-use guest_memory::{Place, Regions};
+use guest_memory::{GuestMemory, Place, Regions};
 use trb::{Answer, Refusal};
 
 // Is the record a write of nonzero length? No other record touches guest memory.
@@ -42,65 +42,47 @@ fn writes_in_range(log: &[u8], available: usize, regions: Regions) -> bool
 }
 
 // Carries out one record, in the region that holds its range.
-fn perform_write(
-    record: Record,
-    data: &[u8],
-    low_base: u64,
-    low: &mut [u8],
-    high_base: u64,
-    high: &mut [u8],
-)
-    requires { write_in_range (length «data».now) (guest_regions low_base (length low.old) high_base (length high.old)) «record» ≡ true }
-    ensures { memory_of low_base low.new high_base high.new ≡ after_record «data».now (memory_of low_base low.old high_base high.old) «record» }
+fn perform_write(record: Record, data: &[u8], memory: &mut GuestMemory<'_>)
+    requires { write_in_range (length «data».now) (regions_of (lent memory.old)) «record» ≡ true }
+    ensures after { lent memory.new ≡ after_record «data».now (lent memory.old) «record» }
+    ensures same { SameRegions memory.old memory.new }
 {
     if moves_bytes(record) {
         let start = record.start as usize;
         let count = record.length as usize;
-        let regions = guest_memory::guest_regions(low_base, low.len(), high_base, high.len());
+        let regions = memory.regions();
         match guest_memory::place_range(regions, record.address, record.length) {
             Place::Outside => {}
             Place::InLow(offset) => {
-                guest_memory::write_bulk(low, offset, data, start, count);
+                guest_memory::write_bulk(memory.low, offset, data, start, count);
             }
             Place::InHigh(offset) => {
-                guest_memory::write_bulk(high, offset, data, start, count);
+                guest_memory::write_bulk(memory.high, offset, data, start, count);
             }
         }
     }
 }
 
 // Carries out the records of a log, one after the other.
-fn perform_writes(
-    log: &[u8],
-    data: &[u8],
-    low_base: u64,
-    low: &mut [u8],
-    high_base: u64,
-    high: &mut [u8],
-)
-    requires { writes_in_range (length «data».now) (guest_regions low_base (length low.old) high_base (length high.old)) (records_of log.now) ≡ true }
-    ensures { memory_of low_base low.new high_base high.new ≡ written «data».now (memory_of low_base low.old high_base high.old) (records_of log.now) }
+fn perform_writes(log: &[u8], data: &[u8], memory: &mut GuestMemory<'_>)
+    requires { writes_in_range (length «data».now) (regions_of (lent memory.old)) (records_of log.now) ≡ true }
+    ensures after { lent memory.new ≡ written «data».now (lent memory.old) (records_of log.now) }
+    ensures same { SameRegions memory.old memory.new }
 {
     for index in 0..log.len() / trb::RECORD_LENGTH {
         let record = call_log::read_record(log, index);
-        perform_write(record, data, low_base, low, high_base, high);
+        perform_write(record, data, memory);
     }
 }
 
-// Performs the writes of a log on guest memory, the regions of `low`'s and `high`'s bytes at their bases: question 13, question 10,
-// question 11 of the whole log, then every write in the log's order.
+// Performs the writes of a log on guest memory: question 13, question 10, question 11 of the whole log, then every write in the
+// log's order.
 #[tactic(auto, unfolding(trb::specs::Questions::first_no, trb::specs::Answers::refusal_of))]
-pub fn carry_out(
-    log: &[u8],
-    data: &[u8],
-    low_base: u64,
-    low: &mut [u8],
-    high_base: u64,
-    high: &mut [u8],
-) -> Answer
-    ensures { Carried log.now «data».now (memory_of low_base low.old high_base high.old) result (memory_of low_base low.new high_base high.new) }
+pub fn carry_out(log: &[u8], data: &[u8], memory: &mut GuestMemory<'_>) -> Answer
+    ensures answer { Carried log.now «data».now (lent memory.old) result (lent memory.new) }
+    ensures same { SameRegions memory.old memory.new }
 {
-    let regions = guest_memory::guest_regions(low_base, low.len(), high_base, high.len());
+    let regions = memory.regions();
     trb::ask(
         !guest_memory::share_an_address(regions),
         Refusal::RegionsOverlap,
@@ -110,6 +92,6 @@ pub fn carry_out(
         writes_in_range(log, data.len(), regions),
         Refusal::WriteOutOfRange,
     )?;
-    perform_writes(log, data, low_base, low, high_base, high);
+    perform_writes(log, data, memory);
     Ok(())
 }

@@ -41,7 +41,8 @@ pub struct ControlBlock {
     pub trbs: [TransferTrb; trb::MAX_HELD],
 }
 
-// What a block knows of its transfer; the Rust's `ControlTransfer`.
+// What a block knows of its transfer; the Rust's `ControlTransfer`. How many bytes are collected, and above how many TRBs are held, has no bound by its type: any
+// bytes are a block, and question 2 asks for the bound.
 #[derive(Clone, Copy)]
 pub struct ControlTransfer {
     pub phase: ControlTransferState,
@@ -283,7 +284,8 @@ pub fn phase_behind(
 
 // ---- Where the event of a failed transfer goes
 
-// The stage found among the TRBs held so far: the first Data Stage TRB, failing that the first Status Stage TRB.
+// The stage found among the TRBs held so far: the first Data Stage TRB, failing that the first Status Stage TRB. What is found TRB by TRB, also in bytes: no
+// search through a list.
 #[derive(Clone, Copy)]
 pub struct StageFound {
     pub data_stage: bool,

@@ -24,7 +24,7 @@ use trb::{
 // Bytes before the places.
 pub const HEAD: usize = 48;
 
-// Bytes of a block.
+// Bytes of a block. It is lent as a slice, and each function asks that the slice is long enough: see `in_bytes`.
 pub const BLOCK: usize = HEAD + held_bytes::PLACE * trb::MAX_HELD;
 
 // ---- Numbers
@@ -121,6 +121,7 @@ fn id_at(block: &[u8], at: usize) -> u8
 }
 
 // The endpoint id of the block; 0 in another layout.
+#[tactic(auto, unfolding(crate::specs::Layout::block_of))]
 pub fn endpoint_id(block: &[u8]) -> EndpointId
     requires { head_length ≤ length block.now }
     ensures { result ≡ (block_of block.now).endpoint_id }
@@ -129,6 +130,7 @@ pub fn endpoint_id(block: &[u8]) -> EndpointId
 }
 
 // The slot id of the block; 0 in another layout.
+#[tactic(auto, unfolding(crate::specs::Layout::block_of))]
 pub fn slot_id(block: &[u8]) -> SlotId
     requires { head_length ≤ length block.now }
     ensures { result ≡ (block_of block.now).slot_id }
@@ -137,6 +139,7 @@ pub fn slot_id(block: &[u8]) -> SlotId
 }
 
 // The release rule of the block.
+#[tactic(auto, unfolding(crate::specs::Layout::block_of))]
 pub fn release(block: &[u8]) -> GuestRelease
     requires { head_length ≤ length block.now }
     ensures { result ≡ (block_of block.now).release }
@@ -145,6 +148,7 @@ pub fn release(block: &[u8]) -> GuestRelease
 }
 
 // The state of the block.
+#[tactic(auto, unfolding(crate::specs::Layout::block_of))]
 pub fn state(block: &[u8]) -> ControlSubmissionState
     requires { head_length ≤ length block.now }
     ensures { result ≡ (block_of block.now).state }
@@ -153,6 +157,7 @@ pub fn state(block: &[u8]) -> ControlSubmissionState
 }
 
 // TRBs held.
+#[tactic(auto, unfolding(crate::specs::Layout::block_of))]
 pub fn held(block: &[u8]) -> usize
     requires { head_length ≤ length block.now }
     ensures { (result ≡ (block_of block.now).held) × (result < 2 ^ 32) }
@@ -175,6 +180,7 @@ fn request(block: &[u8]) -> UsbRequest
 }
 
 // What the block knows of its transfer.
+#[tactic(auto, unfolding(crate::specs::Layout::block_of))]
 pub fn transfer(block: &[u8]) -> ControlTransfer
     requires { head_length ≤ length block.now }
     ensures { result ≡ transfer_of (block_of block.now) }
@@ -218,6 +224,7 @@ fn held_type(kind: u8) -> u8
 }
 
 // The TRB in a place that is held, by numbers.
+#[tactic(auto, unfolding(crate::specs::Layout::place_of))]
 pub fn numbers_at(block: &[u8], i: usize) -> TrbNumbers
     requires { head_length + place_length * (i + 1) ≤ length block.now }
     ensures { trb_of result ≡ place_of (drop (head_length + place_length * i) block.now) }

@@ -1,7 +1,7 @@
 -- Laws of a script's calls on a control endpoint. Assumes nothing.
 use Rattle.std.specs.Prelude.{Ok, Option}
 use Prim.Native.Nat.{ℕ, zero, suc, ◌+◌, ◌≤◌, min}
-use mathlib.Core.Path.{◌≡◌, refl, sym, subst}
+use mathlib.Core.Path.{◌≡◌, refl, subst}
 use mathlib.Core.Bool.{Bool, true, false, cond}
 use mathlib.Core.List.{List, [], ◌∷◌, ◌++◌}
 use native.Mathlib.Nat.{zero-min, min-zero, suc-min-suc}
@@ -17,13 +17,13 @@ use Rattle.trb.specs.declared.SlotId.{SlotId}
 use Rattle.trb.specs.declared.TransferTrb.{TransferTrb}
 use Rattle.call_log.specs.Calls.{Out, Meets}
 use Rattle.call_script.specs.declared.Call.{Call}
-use Rattle.call_script.specs.declared.Call.TheVariants.{Window, Buffers, CreateIn, CreateControl, Submit, CompleteWithResult, CompleteWithout, Cancel, Hold, MakeUpIn, MakeUpControl, AppendTrb, AppendResult, CompleteRow, Time, Captured, Bad}
+use Rattle.call_script.specs.declared.Call.TheVariants.{Window, Buffers, CreateIn, CreateControl, Submit, CompleteWithResult, CompleteWithout, Cancel, Hold, MakeUpIn, MakeUpControl, AppendTrb, AppendResult, CompleteRow, Time, Captured}
 use Rattle.call_script.specs.declared.DeviceStatus.{DeviceStatus}
 use Rattle.call_log.specs.Logs.{logged}
-use Rattle.numerals.specs.Written.{Written}
-use Rattle.numerals.proofs.WrittenLaws.{written-append, written-within}
+use Rattle.text.specs.declared.Text.{Text}
+use Rattle.text.specs.Wrote.{HasRoom, Wrote}
+use Rattle.text.proofs.WroteLaws.{wrote-none, wrote-append, wrote-within}
 use Rattle.buffers.specs.Patch.{patch}
-use Rattle.buffers.proofs.PatchLaws.{patch-none}
 use Rattle.guest_memory.specs.Places.{Memory, regions_of}
 use Rattle.call_text.specs.Widths.{max_first, max_record_lines}
 use Rattle.call_text.proofs.RecordLaws.{take_min}
@@ -35,75 +35,65 @@ use Rattle.control_endpoint.specs.Returned.{Created}
 use Rattle.control_endpoint.specs.Returned.{Submitted}
 use Rattle.control_endpoint.specs.Returned.{Completed}
 use Rattle.state_text.specs.Widths.{max_state, max_answer}
-use Rattle.call_answer.specs.Called.{Said, bad_said, silent_said, Called, called, Runs, Says, silent_ran}
+use Rattle.call_answer.specs.Called.{Said, bad_said, silent_said, Called, called, Runs, Says, ran_of}
 use Rattle.control_block.specs.Blocks.{stored}
 use Rattle.control_block.specs.declared.ControlBlock.{ControlBlock}
 use Rattle.control_block.specs.declared.GuestRelease.{GuestRelease}
-use Rattle.call_answer.specs.declared.EndpointRan.{EndpointRan}
+use Rattle.call_answer.specs.declared.Ran.{Ran}
 use Rattle.control_calls.specs.Calls.{answered, created, submitted, completed, create_call, collect_after, submit_call, complete_call, cancel_call, hold_call, control_call, collect_behind, Stated}
 
 -- a call that prints nothing
-pub says-silent : (o : Said ControlBlock) (t : List ℕ) (at : ℕ) (r : EndpointRan ControlBlock) → o.text ≡ [] → r ≡ silent_ran o at → Says o t at r t
-says-silent o t at r none e = rw e (record {
-  block = refl;
-  records = refl;
-  good = refl;
-  text = rw none (record { text = sym (patch-none t at); next = omega arith; within = omega arith });
-})
+pub says-silent : {o : Said ControlBlock} {t : Text} {r : Ran ControlBlock} → o.text ≡ [] → HasRoom max_answer t → r ≡ ran_of o → Says o t r t
+says-silent none fits e = record { ran = e; text = rw none (wrote-within (omega arith) (wrote-none (omega arith))) }
 
 -- a state line behind an answer of at most so many characters
-says-answered : {a next n : ℕ} {t t' t'' text : List ℕ} {b : ControlBlock} {collect : List ℕ} {r : EndpointRan ControlBlock} (at : ℕ) → at + a ≤ length t → a + max_state ≤ max_answer
-    → Written a t at text next t' → Stated b collect n t' next r t'' → Says (answered text b collect n) t at r t''
-says-answered at fits most w s = record {
-  block = s.block;
-  records = s.records;
-  good = s.good;
-  text = written-within most (written-append at fits w s.text);
-}
+says-answered : {a n : ℕ} {t t' t'' : Text} {text : List ℕ} {b : ControlBlock} {collect : List ℕ} {r : Ran ControlBlock} → a + max_state ≤ max_answer
+    → Wrote a t text t' → Stated b collect n t' r t'' → Says (answered text b collect n) t r t''
+says-answered most w s = record { ran = s.ran; text = wrote-within most (wrote-append w s.text) }
 
 -- what a call with this state and this log comes to is what the call that was met comes to
-runs-met : {S : Type 0} {o : Out S} {l l' : List ℕ} {s : S} {r : EndpointRan ControlBlock} {t t' : List ℕ} {at : ℕ} {m' : Memory} (run : S → List ℕ → Called ControlBlock)
-    → Meets o 0 l s l' → Runs (run s l') t at r t' l' m' → Runs (run o.state (logged l 0 o.records)) t at r t' l' m'
-runs-met {o = o} {l = l} {l' = l'} {s = s} {r = r} {t = t} {t' = t'} {at = at} {m' = m'} run met p =
-    subst (λ (x : List ℕ). Runs (run o.state x) t at r t' l' m') met.log (subst (λ x. Runs (run x l') t at r t' l' m') met.state p)
+runs-met : {S : Type 0} {o : Out S} {l l' : List ℕ} {s : S} {r : Ran ControlBlock} {t t' : Text} {m' : Memory} (run : S → List ℕ → Called ControlBlock)
+    → Meets o 0 l s l' → Runs (run s l') t r t' l' m' → Runs (run o.state (logged l 0 o.records)) t r t' l' m'
+runs-met {o = o} {l = l} {l' = l'} {s = s} {r = r} {t = t} {t' = t'} {m' = m'} run met p =
+    subst (λ (x : List ℕ). Runs (run o.state x) t r t' l' m') met.log (subst (λ x. Runs (run x l') t r t' l' m') met.state p)
 
--- with room for the longest answer
-module _ {log log' t t' t'' : List ℕ} {next : ℕ} {r : EndpointRan ControlBlock} (at : ℕ) (b : ControlBlock) (m : Memory) (fits : at + max_answer ≤ length t) where
+-- an answer, and the state line behind it
+module _ {log log' : List ℕ} {t t' t'' : Text} {r : Ran ControlBlock} (b : ControlBlock) (m : Memory) where
   pub runs-submitted : {s : Submitted} {part collect' : List ℕ} (x : TransferTrb) (lent : ℕ) (collect : List ℕ) → part ≡ take lent collect
       → Meets (submission (length log) (length part) b x (regions_of m)) 0 log s log' → collect' ≡ collect_after b x lent collect log m
-      → Written (max_first + max_record_lines) t at (answer_text s.answer s.records log') next t' → Stated s.block collect' s.records t' next r t''
-      → Runs (submit_call b x lent collect log m) t at r t'' log' m
+      → Wrote (max_first + max_record_lines) t (answer_text s.answer s.records log') t' → Stated s.block collect' s.records t' r t''
+      → Runs (submit_call b x lent collect log m) t r t'' log' m
   unfolding submit_call
   runs-submitted {s = s} x lent collect is met kept w st =
       runs-met (λ s l. submitted s l (collect_after b x lent collect log m) m)
       (subst (λ (z : List ℕ). Meets (submission (length log) (length z) b x (regions_of m)) 0 log s log') is met)
       (record {
-        says = says-answered at (omega arith) (lit≤ tt) w (subst (λ (z : List ℕ). Stated s.block z s.records t' next r t'') kept st);
+        says = says-answered (lit≤ tt) w (subst (λ (z : List ℕ). Stated s.block z s.records t' r t'') kept st);
         log = refl;
         memory = refl;
       })
 
   pub runs-completed : {c : Completed} {m' : Memory} (x : Option ControlRequestProcessingResult) (bytes collect : List ℕ)
-      → Meets (completion (length log) b x (length bytes)) 0 log c log' → Answered c.answer c.records log' bytes m t at next t' m'
-      → Stated c.block collect c.records t' next r t'' → Runs (complete_call b x bytes collect log m) t at r t'' log' m'
+      → Meets (completion (length log) b x (length bytes)) 0 log c log' → Answered c.answer c.records log' bytes m t t' m'
+      → Stated c.block collect c.records t' r t'' → Runs (complete_call b x bytes collect log m) t r t'' log' m'
   unfolding complete_call
   runs-completed x bytes collect met w st =
       runs-met (λ c l. completed c l collect bytes m) met
-      (record { says = says-answered at (omega arith) (lit≤ tt) w.text st; log = refl; memory = w.after })
+      (record { says = says-answered (lit≤ tt) w.text st; log = refl; memory = w.after })
 
-module _ {t t' t'' : List ℕ} {next : ℕ} {r : EndpointRan ControlBlock} (at : ℕ) (fits : at + max_answer ≤ length t) where
+module _ {t t' t'' : Text} {r : Ran ControlBlock} where
   pub says-created : {c : Created} (e : EndpointId) (s : SlotId) (release : GuestRelease) (collect : List ℕ) → c ≡ creation e s release
-      → Written (max_first + max_record_lines) t at (answer_text c.answer 0 []) next t' → Stated c.block collect 0 t' next r t''
-      → Says (create_call e s release collect) t at r t''
+      → Wrote (max_first + max_record_lines) t (answer_text c.answer 0 []) t' → Stated c.block collect 0 t' r t''
+      → Says (create_call e s release collect) t r t''
   unfolding create_call
   says-created {c = c} e s release collect made w st =
-      subst (λ (x : Created). Says (created x collect) t at r t'') made (says-answered at (omega arith) (lit≤ tt) w st)
+      subst (λ (x : Created). Says (created x collect) t r t'') made (says-answered (lit≤ tt) w st)
 
   pub says-cancelled : {a : ControlBlock} (b : ControlBlock) (collect : List ℕ) → a ≡ b
-      → Written (max_first + max_record_lines) t at (answer_text (Ok tt) 0 []) next t' → Stated a collect 0 t' next r t'' → Says (cancel_call b collect) t at r t''
+      → Wrote (max_first + max_record_lines) t (answer_text (Ok tt) 0 []) t' → Stated a collect 0 t' r t'' → Says (cancel_call b collect) t r t''
   unfolding cancel_call
   says-cancelled b collect made w st =
-      subst (λ (x : ControlBlock). Says (answered (answer_text (Ok tt) 0 []) x collect 0) t at r t'') made (says-answered at (omega arith) (lit≤ tt) w st)
+      subst (λ (x : ControlBlock). Says (answered (answer_text (Ok tt) 0 []) x collect 0) t r t'') made (says-answered (lit≤ tt) w st)
 
 -- ---- Single calls
 
@@ -160,7 +150,6 @@ module _ (b : ControlBlock) (lent : ℕ) (bytes collect log : List ℕ) (m : Mem
   bad-call (CompleteRow n) submit with_result without cancel hold make_up = refl
   bad-call (Time seconds microseconds) submit with_result without cancel hold make_up = refl
   bad-call (Captured bus address transfer_type) submit with_result without cancel hold make_up = refl
-  bad-call Bad submit with_result without cancel hold make_up = refl
 
 module _ (b : ControlBlock) (lent : ℕ) (collect log : List ℕ) (m : Memory) where
   -- a call that submits nothing leaves the collect buffer
@@ -182,4 +171,3 @@ module _ (b : ControlBlock) (lent : ℕ) (collect log : List ℕ) (m : Memory) w
   kept-collect (CompleteRow n) submit = refl
   kept-collect (Time seconds microseconds) submit = refl
   kept-collect (Captured bus address transfer_type) submit = refl
-  kept-collect Bad submit = refl

@@ -12,7 +12,8 @@ use Rattle.trb.specs.declared.TransferTrb.{TransferTrb}
 use Rattle.trb.specs.declared.UsbRequest.{UsbRequest}
 use Rattle.call_log.specs.Logs.{logged}
 use Rattle.guest_memory.specs.Places.{Memory, regions_of}
-use Rattle.numerals.specs.Written.{Written}
+use Rattle.text.specs.declared.Text.{Text}
+use Rattle.text.specs.Wrote.{Wrote}
 use Rattle.call_text.specs.Lines.{count_of}
 use Rattle.script_bytes.specs.Bytes.{weighted_sum}
 use Rattle.state_text.specs.Lines.{control_line}
@@ -33,7 +34,7 @@ use Rattle.control_endpoint.specs.Completion.{completion}
 use Rattle.control_endpoint.specs.Returned.{Created}
 use Rattle.control_endpoint.specs.Returned.{Submitted}
 use Rattle.control_endpoint.specs.Returned.{Completed}
-use Rattle.call_answer.specs.declared.EndpointRan.{EndpointRan}
+use Rattle.call_answer.specs.declared.Ran.{Ran}
 
 -- what was collected; a made-up block may say more than there is
 abbrev pub collected_bytes : ControlBlock → List ℕ → List ℕ
@@ -141,14 +142,12 @@ collect_behind b other lent collect log m = collect
 
 -- ---- Promises
 
--- the state line of the block b was written into the text t at index at, behind an answer of so many records
-pub record Stated (b : ControlBlock) (collect : List ℕ) (n : ℕ) (t : List ℕ) (at : ℕ) (r : EndpointRan ControlBlock) (t' : List ℕ) : Type 0 where
-  pub block : r.block ≡ b
-  pub records : r.records ≡ n
-  pub good : r.good ≡ true
-  pub text : Written max_state t at (state_line b collect) r.end t'
+-- the state line of the block b was written behind the text t, which has an answer of so many records
+pub record Stated (b : ControlBlock) (collect : List ℕ) (n : ℕ) (t : Text) (r : Ran ControlBlock) (t' : Text) : Type 0 where
+  pub ran : r ≡ record { left = b; records = n; good = true }
+  pub text : Wrote max_state t (state_line b collect) t'
 
 -- and this collect buffer
-pub record RunsWith (o : Called ControlBlock) (collect : List ℕ) (t : List ℕ) (at : ℕ) (r : EndpointRan ControlBlock) (t' log' collect' : List ℕ) (m' : Memory) : Type 0 where
-  pub runs : Runs o t at r t' log' m'
+pub record RunsWith (o : Called ControlBlock) (collect : List ℕ) (t : Text) (r : Ran ControlBlock) (t' : Text) (log' collect' : List ℕ) (m' : Memory) : Type 0 where
+  pub runs : Runs o t r t' log' m'
   pub collected : collect' ≡ collect

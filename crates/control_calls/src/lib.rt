@@ -1,17 +1,20 @@
 // The calls of a script on a control endpoint.
 #![tactic(auto)]
 
-ghost use Rattle.std.specs.Prelude.{◌≡◌, ◌+◌, ◌≤◌, length};
+ghost use Rattle.std.specs.Prelude.{◌≡◌, ◌≤◌, length};
 ghost use Rattle.trb.specs.Limits.{min_row_log};
+ghost use Rattle.text.specs.Wrote.{HasRoom};
 ghost use Rattle.state_text.specs.Widths.{max_state, max_answer};
-ghost use Rattle.guest_memory.specs.Places.{memory_of};
-ghost use Rattle.call_answer.specs.Called.{bad_said, silent_said, silent_ran, Says, Runs};
+ghost use Rattle.guest_memory.specs.Lent.{seen, lent, SameRegions};
+ghost use Rattle.call_answer.specs.Called.{bad_said, silent_said, ran_of, Says, Runs};
 ghost use Rattle.control_calls.specs.Calls.{standing, create_call, collect_after, submit_call, complete_call, cancel_call, hold_call, made_up, result_of, control_call, collect_behind, Stated, RunsWith};
 
-use call_answer::EndpointRan;
+use call_answer::Ran;
 use call_script::{Call, DeviceStatus};
 use control_block::{ControlBlock, ControlTransfer, GuestRelease};
+use guest_memory::{GuestMemory, GuestView};
 use state_text::ControlStanding;
+use text::Text;
 use trb::{
     Answer, ControlRequestProcessingResult, ControlSubmissionState, ControlTransferState,
     EndpointId, SlotId, TransferTrb, UsbRequest,
@@ -35,19 +38,17 @@ fn standing(block: ControlBlock, collect: &[u8]) -> ControlStanding
 
 // Writes the state line, behind the answer of a call that logged so many records.
 fn answered(
-    text: &mut [u8],
-    at: usize,
+    text: &mut Text<'_>,
     block: ControlBlock,
     collect: &[u8],
     records: usize,
-) -> EndpointRan<ControlBlock>
-    requires { at + max_state ≤ length text.old }
-    ensures { Stated block collect.now records text.old at result text.new }
+) -> Ran<ControlBlock>
+    requires { HasRoom max_state text.old }
+    ensures { Stated block collect.now records text.old result text.new }
 {
-    let end = state_text::put_control_line(text, at, standing(block, collect));
-    EndpointRan {
-        block,
-        end,
+    state_text::put_control_line(text, standing(block, collect));
+    Ran {
+        left: block,
         records,
         good: true,
     }
@@ -55,85 +56,57 @@ fn answered(
 
 // Creates a control endpoint and prints the answer.
 pub fn create(
-    text: &mut [u8],
-    at: usize,
+    text: &mut Text<'_>,
     endpoint_id: EndpointId,
     slot_id: SlotId,
     release: GuestRelease,
     collect: &[u8],
-) -> EndpointRan<ControlBlock>
-    requires { at + max_answer ≤ length text.old }
-    ensures { Says (create_call endpoint_id slot_id release collect.now) text.old at result text.new }
+) -> Ran<ControlBlock>
+    requires { HasRoom max_answer text.old }
+    ensures { Says (create_call endpoint_id slot_id release collect.now) text.old result text.new }
 {
     let created = control_endpoint::create(endpoint_id, slot_id, release);
-    let next = call_answer::put_answer(text, at, created.answer, 0, &[]);
-    answered(text, next, created.block, collect, 0)
+    call_answer::put_answer(text, created.answer, 0, &[]);
+    answered(text, created.block, collect, 0)
 }
 
-// Of the collect buffer, the first `lent` bytes are lent.
-fn submit<'a>(
-    text: &mut [u8],
-    at: usize,
+// Of the collect buffer, the first `collect_lent` bytes are lent.
+fn submit(
+    text: &mut Text<'_>,
     log: &mut [u8],
     collect: &mut [u8],
-    lent: usize,
+    collect_lent: usize,
     block: ControlBlock,
     t: TransferTrb,
-    low_base: u64,
-    low: &'a [u8],
-    high_base: u64,
-    high: &'a [u8],
-) -> EndpointRan<ControlBlock>
-    requires max_answer_in_bounds { at + max_answer ≤ length text.old }
+    memory: &GuestView<'_>,
+) -> Ran<ControlBlock>
+    requires has_room { HasRoom max_answer text.old }
     requires log_len_bound { length log.old ≤ min_row_log }
-    ensures { RunsWith (submit_call block t lent collect.old log.old (memory_of low_base low.now high_base high.now)) (collect_after block t lent collect.old log.old (memory_of low_base low.now high_base high.now)) text.old at result text.new log.new collect.new (memory_of low_base low.now high_base high.now) }
+    ensures { RunsWith (submit_call block t collect_lent collect.old log.old (seen memory.now)) (collect_after block t collect_lent collect.old log.old (seen memory.now)) text.old result text.new log.new collect.new (seen memory.now) }
 {
-    let end = lent.min(collect.len());
-    let submitted = control_submission::submit_trb(
-        log,
-        &mut collect[..end],
-        block,
-        t,
-        low_base,
-        low,
-        high_base,
-        high,
-    );
-    let next = call_answer::put_answer(text, at, submitted.answer, submitted.records, log);
-    answered(text, next, submitted.block, collect, submitted.records)
+    let end = collect_lent.min(collect.len());
+    let submitted = control_submission::submit_trb(log, &mut collect[..end], block, t, memory);
+    call_answer::put_answer(text, submitted.answer, submitted.records, log);
+    answered(text, submitted.block, collect, submitted.records)
 }
 
 fn complete(
-    text: &mut [u8],
-    at: usize,
+    text: &mut Text<'_>,
     log: &mut [u8],
     collect: &[u8],
     block: ControlBlock,
     res: Option<ControlRequestProcessingResult>,
     data: &[u8],
-    low_base: u64,
-    low: &mut [u8],
-    high_base: u64,
-    high: &mut [u8],
-) -> EndpointRan<ControlBlock>
-    requires max_answer_in_bounds { at + max_answer ≤ length text.old }
+    memory: &mut GuestMemory<'_>,
+) -> Ran<ControlBlock>
+    requires has_room { HasRoom max_answer text.old }
     requires log_len_bound { length log.old ≤ min_row_log }
-    ensures { Runs (complete_call block res «data».now collect.now log.old (memory_of low_base low.old high_base high.old)) text.old at result text.new log.new (memory_of low_base low.new high_base high.new) }
+    ensures answer { Runs (complete_call block res «data».now collect.now log.old (lent memory.old)) text.old result text.new log.new (lent memory.new) }
+    ensures same { SameRegions memory.old memory.new }
 {
     let completed = control_completion::next_completion(log, block, res, data);
-    let next = call_answer::put_completion(
-        text,
-        at,
-        completed.answer,
-        completed.records,
-        log,
-        data,
-        low_base,
-        low,
-        high_base,
-        high,
-    );
-    answered(text, next, completed.block, collect, completed.records)
+    call_answer::put_completion(text, completed.answer, completed.records, log, data, memory);
+    answered(text, completed.block, collect, completed.records)
 }
 
 // A device result of a script as a control endpoint takes it.
@@ -151,38 +124,32 @@ pub fn result_of(status: DeviceStatus) -> Option<ControlRequestProcessingResult>
     }
 }
 
-fn cancel(
-    text: &mut [u8],
-    at: usize,
-    block: ControlBlock,
-    collect: &[u8],
-) -> EndpointRan<ControlBlock>
-    requires { at + max_answer ≤ length text.old }
-    ensures { Says (cancel_call block collect.now) text.old at result text.new }
+fn cancel(text: &mut Text<'_>, block: ControlBlock, collect: &[u8]) -> Ran<ControlBlock>
+    requires { HasRoom max_answer text.old }
+    ensures { Says (cancel_call block collect.now) text.old result text.new }
 {
-    let next = call_answer::put_answer(text, at, Ok(()), 0, &[]);
-    answered(text, next, control_endpoint::cancel(block), collect, 0)
+    call_answer::put_answer(text, Ok(()), 0, &[]);
+    answered(text, control_endpoint::cancel(block), collect, 0)
 }
 
-fn hold(at: usize, block: ControlBlock, t: TransferTrb) -> EndpointRan<ControlBlock>
-    ensures { result ≡ silent_ran (hold_call block t) at }
+fn hold(block: ControlBlock, t: TransferTrb) -> Ran<ControlBlock>
+    ensures { result ≡ ran_of (hold_call block t) }
 {
     if trb::MAX_HELD <= block.held {
-        return call_answer::bad(block, at);
+        return call_answer::bad(block);
     }
-    call_answer::silent(control_block::store(block, t), at)
+    call_answer::silent(control_block::store(block, t))
 }
 
 // What the call does not name stays.
 fn make_up(
-    at: usize,
     block: ControlBlock,
     phase: ControlTransferState,
     state: ControlSubmissionState,
     direction: bool,
     length: u32,
-) -> EndpointRan<ControlBlock>
-    ensures { result ≡ silent_ran (silent_said (made_up block phase state direction length)) at }
+) -> Ran<ControlBlock>
+    ensures { result ≡ ran_of (silent_said (made_up block phase state direction length)) }
 {
     let transfer = ControlTransfer {
         phase,
@@ -193,59 +160,40 @@ fn make_up(
         },
         collected: block.collected,
     };
-    call_answer::silent(control_block::advance(block, transfer, state), at)
+    call_answer::silent(control_block::advance(block, transfer, state))
 }
 
 // Makes a call on the endpoint. `data` is the device's data, of which the call says how much is given.
 pub fn run(
-    text: &mut [u8],
-    at: usize,
+    text: &mut Text<'_>,
     log: &mut [u8],
     collect: &mut [u8],
-    lent: usize,
+    collect_lent: usize,
     block: ControlBlock,
     call: Call,
     data: &[u8],
-    low_base: u64,
-    low: &mut [u8],
-    high_base: u64,
-    high: &mut [u8],
-) -> EndpointRan<ControlBlock>
-    requires max_answer_in_bounds { at + max_answer ≤ length text.old }
+    memory: &mut GuestMemory<'_>,
+) -> Ran<ControlBlock>
+    requires has_room { HasRoom max_answer text.old }
     requires log_len_bound { length log.old ≤ min_row_log }
-    ensures { RunsWith (control_call block call «data».now lent collect.old log.old (memory_of low_base low.old high_base high.old)) (collect_behind block call lent collect.old log.old (memory_of low_base low.old high_base high.old)) text.old at result text.new log.new collect.new (memory_of low_base low.new high_base high.new) }
+    ensures answer { RunsWith (control_call block call «data».now collect_lent collect.old log.old (lent memory.old)) (collect_behind block call collect_lent collect.old log.old (lent memory.old)) text.old result text.new log.new collect.new (lent memory.new) }
+    ensures same { SameRegions memory.old memory.new }
 {
     match call {
-        Call::Submit(t) => submit(
-            text, at, log, collect, lent, block, t, low_base, low, high_base, high,
-        ),
+        Call::Submit(t) => submit(text, log, collect, collect_lent, block, t, &memory.view()),
         Call::CompleteWithResult(status, n) => {
             let given = &data[..n.min(data.len())];
-            complete(
-                text,
-                at,
-                log,
-                collect,
-                block,
-                result_of(status),
-                given,
-                low_base,
-                low,
-                high_base,
-                high,
-            )
+            complete(text, log, collect, block, result_of(status), given, memory)
         }
         Call::CompleteWithout(n) => {
             let given = &data[..n.min(data.len())];
-            complete(
-                text, at, log, collect, block, None, given, low_base, low, high_base, high,
-            )
+            complete(text, log, collect, block, None, given, memory)
         }
-        Call::Cancel => cancel(text, at, block, collect),
-        Call::Hold(t) => hold(at, block, t),
+        Call::Cancel => cancel(text, block, collect),
+        Call::Hold(t) => hold(block, t),
         Call::MakeUpControl(phase, state, direction, length) => make_up(
-            at, block, phase, state, direction, length,
+            block, phase, state, direction, length,
         ),
-        _ => call_answer::bad(block, at),
+        _ => call_answer::bad(block),
     }
 }

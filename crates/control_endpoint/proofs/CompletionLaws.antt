@@ -9,7 +9,7 @@ use native.Mathlib.Omega.{arith}
 use lib.Dec.{eqb, lit≤}
 use borrow.Author.Tests.{ne_eqb}
 use lib.ListN.{length, take, length-append, length-take}
-use Rattle.trb.specs.Answers.{completion_number, said}
+use Rattle.trb.specs.Answers.{number_of, said}
 use Rattle.trb.specs.Limits.{max_held, max_records}
 use Rattle.trb.specs.Questions.{first_no}
 use Rattle.trb.specs.Refusals.{refusal_number}
@@ -49,7 +49,7 @@ module _ (b : ControlBlock) (d : Option ControlRequestProcessingResult) (n : ℕ
   abbrev questions : List (Bool × ℕ)
   questions = completion_questions (length l) (facts_of b) d n
 
-  completes-by : (r : Completed) (l' : List ℕ) → completion_number r.answer ≡ first_no questions → Meets (completion (length l) b d n) 0 l r l' → Completes b d n l r l'
+  completes-by : (r : Completed) (l' : List ℕ) → number_of r.answer ≡ first_no questions → Meets (completion (length l) b d n) 0 l r l' → Completes b d n l r l'
   completes-by r l' numbered m = record { number = numbered; met = m; result = ap (λ (x : Completed). said x.answer) m.state }
 
   pub completes-refused : (q : Refusal) → refusal_number q ≡ first_no questions → Completes b d n l (record { answer = Err q; records = 0; block = b }) l
@@ -62,7 +62,7 @@ module _ (b : ControlBlock) (d : Option ControlRequestProcessingResult) (n : ℕ
       → Put l 0 (ending_records x (error_address b) b.endpoint_id b.slot_id (held_of b)) l' → Completes b d n l r l'
   unfolding completion accepted
   completes-accepted x ends none r l' e p =
-      completes-by r l' (ap (λ (y : Completed). completion_number y.answer) e ∙ sym none)
+      completes-by r l' (ap (λ (y : Completed). number_of y.answer) e ∙ sym none)
       (meets (answered-yes questions (refused b) (accepted (ending_of b.state d n) b) (Ok tt) (sym none) refl ∙ ap (λ (y : Ending). accepted y b) (sym ends)) (record { state = e; log = p.log; fits = p.fits }))
 
 -- ---- The places

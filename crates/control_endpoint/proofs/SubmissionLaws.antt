@@ -56,7 +56,7 @@ module _ (b : ControlBlock) (t : TransferTrb) (m : Memory) (l c : List ℕ) wher
   pub submits-refused : (q : Refusal) (a : Answer) → a ≡ Err q → number_of a ≡ first_no questions → Submits b t m l c (record { answer = a; records = 0; block = b }) l c
   unfolding submission bytes_collected
   submits-refused q a no-to numbered =
-      let first : number_of (Err q) ≡ first_no questions = ap number_of (sym no-to) ∙ numbered in
+      let first : number_of {A = Unit {0}} (Err q) ≡ first_no questions = ap number_of (sym no-to) ∙ numbered in
       record {
         number = numbered;
         met = meets (answered-no questions (refused b) (accepted (trb_outcome b.phase t.variant) b t) (Err q) first refl) (meets-silent 0 l (rw (no-to, refusal_of-number q)));

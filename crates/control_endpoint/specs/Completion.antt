@@ -1,6 +1,6 @@
 -- 01, Completion on a control endpoint: what one that no question refuses makes of block and log. Assumes nothing.
 use Rattle.std.specs.Prelude.{ℕ, ◌≡◌, List, length, Err, Ok, Option}
-use Rattle.trb.specs.Answers.{completion_number, refusal_of, said}
+use Rattle.trb.specs.Answers.{number_of, refusal_of, said}
 use Rattle.trb.specs.Questions.{first_no, after_questions}
 use Rattle.trb.specs.declared.ControlRequestProcessingResult.{ControlRequestProcessingResult}
 use Rattle.trb.specs.declared.ControlSubmissionState.TheVariants.{NoTrbSubmitted}
@@ -47,6 +47,6 @@ completion log b r n = after_questions (completion_questions log (facts_of b) r 
 
 -- a completion of the block b, with the log l, returned r and left l'
 pub record Completes (b : ControlBlock) (d : Option ControlRequestProcessingResult) (n : ℕ) (l : List ℕ) (r : CompletedCall) (l' : List ℕ) : Type 0 where
-  pub number : completion_number r.answer ≡ first_no (completion_questions (length l) (facts_of b) d n)
+  pub number : number_of r.answer ≡ first_no (completion_questions (length l) (facts_of b) d n)
   pub met : Meets (completion (length l) b d n) 0 l r l'
   pub result : said r.answer ≡ said (completion (length l) b d n).state.answer

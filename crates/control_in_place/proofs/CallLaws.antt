@@ -10,7 +10,7 @@ use lib.ListN.{length, drop}
 use lib.Seq.{drop-drop}
 use borrow.Author.Tests.{le-leb, lt-leb}
 use Rattle.buffers.proofs.PatchLaws.{patch-none}
-use Rattle.trb.specs.Answers.{completion_number, refusal_of, Answer}
+use Rattle.trb.specs.Answers.{number_of, refusal_of, Answer}
 use Rattle.trb.specs.Ids.{ids_in_range}
 use Rattle.trb.specs.Limits.{max_held}
 use Rattle.trb.specs.Questions.{first_no}
@@ -131,7 +131,7 @@ module _ (d : Option ControlRequestProcessingResult) (n : ℕ) (l b : List ℕ) 
       (record { number = refl; met = meets-silent 0 l refl; becomes = record { block = refl; behind = refl; long = refl }; unchanged = λ h. refl })
 
   -- the number of an answer, in both forms
-  same_number : (a : CompletionAnswer) (k : ℕ) → (completion_answered a k).number ≡ completion_number a
+  same_number : (a : CompletionAnswer) (k : ℕ) → (completion_answered a k).number ≡ number_of a
   same_number (Ok result.Ok) k = refl
   same_number (Ok result.Stall) k = refl
   same_number (Ok (result.StallAt a c)) k = refl

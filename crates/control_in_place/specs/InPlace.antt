@@ -1,7 +1,7 @@
 -- What a call in place is: by the promises of the endpoint by value, of the block that the bytes are. Assumes nothing.
 use Rattle.std.specs.Prelude.{ℕ, ◌<◌, ◌≤◌, ◌≡◌, Bool, cond, List, [], ◌∷◌, leb, eqb, length, drop, None, Option, Some}
 use Rattle.buffers.specs.Patch.{patch}
-use Rattle.trb.specs.Answers.{number_of, completion_number, Answer, CompletionAnswer}
+use Rattle.trb.specs.Answers.{number_of, Answer, CompletionAnswer}
 use Rattle.trb.specs.Ids.{ids_in_range}
 use Rattle.trb.specs.Questions.{first_no}
 use Rattle.trb.specs.declared.ControlRequestProcessingResult.{ControlRequestProcessingResult}
@@ -67,7 +67,7 @@ pub record SubmitsAsByValue (b : List ℕ) (t : TransferTrb) (m : Memory) (l c :
 pub record CompletesAsByValue (b : List ℕ) (d : Option ControlRequestProcessingResult) (n : ℕ) (l : List ℕ) (r : Logged CompletionAnswer) (l' b' : List ℕ) : Type 0 where
   pub by_value : Completes (block_of b) d n l (record { answer = r.answer; records = r.records; block = block_of b' }) l'
   pub beyond : Beyond b b'
-  pub unchanged : 0 < completion_number r.answer → b' ≡ b
+  pub unchanged : 0 < number_of r.answer → b' ≡ b
 
 -- ---- Of any row of bytes
 

@@ -5,7 +5,7 @@
 ghost use Rattle.std.specs.Prelude.{◌≡◌, [], ◌∷◌, ◌≤◌, length};
 ghost use Rattle.trb.specs.Answers.{number_of};
 ghost use Rattle.trb.specs.Questions.{first_no};
-ghost use Rattle.guest_memory.specs.Places.{memory_of};
+ghost use Rattle.guest_memory.specs.Lent.{seen};
 ghost use Rattle.held_bytes.specs.Numbers.{trb_numbers, trb_of};
 ghost use Rattle.control_block.specs.Facts.{facts_of};
 ghost use Rattle.control_transfer.specs.Data.{data_of};
@@ -16,7 +16,7 @@ ghost use Rattle.control_in_place.specs.InPlace.{Asked, Acceptable, Accepts, Sub
 
 use answer_numbers::{Answered, CompletionAnswered};
 use control_transfer::TrbData;
-use guest_memory::Regions;
+use guest_memory::{GuestView, Regions};
 use held_bytes::TrbNumbers;
 use phase_table::Outcome;
 use trb::{
@@ -59,21 +59,18 @@ fn ask_submission(
 
 // What a TRB that no question refuses, given by numbers, that moves this data, logs, collects and stores; returns how many records were
 // logged.
-fn accept_trb<'a>(
+fn accept_trb(
     log: &mut [u8],
     collect: &mut [u8],
     block: &mut [u8],
     outcome: Outcome,
     data: TrbData,
     numbers: TrbNumbers,
-    low_base: u64,
-    low: &'a [u8],
-    high_base: u64,
-    high: &'a [u8],
+    memory: &GuestView<'_>,
 ) -> usize
     requires data_value { «data» ≡ data_of (trb_of numbers).variant }
-    requires acceptable { Acceptable log.old collect.old block.old (trb_of numbers) (memory_of low_base low.now high_base high.now) outcome }
-    ensures { Accepts log.old collect.old block.old (trb_of numbers) (memory_of low_base low.now high_base high.now) outcome result log.new collect.new block.new }
+    requires acceptable { Acceptable log.old collect.old block.old (trb_of numbers) (seen memory.now) outcome }
+    ensures { Accepts log.old collect.old block.old (trb_of numbers) (seen memory.now) outcome result log.new collect.new block.new }
 {
     let transfer = control_bytes::transfer(block);
     let records = control_places::log_submission(log, block, outcome);
@@ -83,28 +80,22 @@ fn accept_trb<'a>(
         transfer.direction,
         transfer.collected,
         data,
-        low_base,
-        low,
-        high_base,
-        high,
+        memory,
     );
     control_stores::take_trb(block, outcome, data, numbers);
     records
 }
 
 // Of a row of bytes that is long enough for a block.
-fn submit<'a>(
+fn submit(
     log: &mut [u8],
     collect: &mut [u8],
     block: &mut [u8],
     numbers: TrbNumbers,
-    low_base: u64,
-    low: &'a [u8],
-    high_base: u64,
-    high: &'a [u8],
+    memory: &GuestView<'_>,
 ) -> Logged<Answer>
     requires { block_length ≤ length block.old }
-    ensures { SubmitsAsByValue block.old (trb_of numbers) (memory_of low_base low.now high_base high.now) log.old collect.old result log.new collect.new block.new }
+    ensures { SubmitsAsByValue block.old (trb_of numbers) (seen memory.now) log.old collect.old result log.new collect.new block.new }
 {
     let data = control_numbers::data_of(
         numbers.kind,
@@ -112,7 +103,7 @@ fn submit<'a>(
         numbers.value,
         numbers.transfer_length,
     );
-    let regions = guest_memory::guest_regions(low_base, low.len(), high_base, high.len());
+    let regions = memory.regions();
     let asked = ask_submission(log.len(), collect.len(), block, numbers, data, regions);
     match asked.answer {
         Err(refusal) => Logged {
@@ -120,18 +111,7 @@ fn submit<'a>(
             records: 0,
         },
         Ok(()) => {
-            let records = accept_trb(
-                log,
-                collect,
-                block,
-                asked.outcome,
-                data,
-                numbers,
-                low_base,
-                low,
-                high_base,
-                high,
-            );
+            let records = accept_trb(log, collect, block, asked.outcome, data, numbers, memory);
             Logged {
                 answer: Ok(()),
                 records,
@@ -141,7 +121,7 @@ fn submit<'a>(
 }
 
 // Of any row of bytes, and a TRB that is given by these numbers. Both submissions call it: what is not inlined takes plain numbers.
-fn submit_numbers<'a>(
+fn submit_numbers(
     log: &mut [u8],
     collect: &mut [u8],
     block: &mut [u8],
@@ -150,12 +130,9 @@ fn submit_numbers<'a>(
     addr: u64,
     value: u64,
     transfer_length: u32,
-    low_base: u64,
-    low: &'a [u8],
-    high_base: u64,
-    high: &'a [u8],
+    memory: &GuestView<'_>,
 ) -> Answered
-    ensures { SubmitsInPlace (lent_log log.old block.old) (trb_of (trb_numbers kind flags addr value transfer_length)) (memory_of low_base low.now high_base high.now) log.old collect.old block.old result log.new collect.new block.new }
+    ensures { SubmitsInPlace (lent_log log.old block.old) (trb_of (trb_numbers kind flags addr value transfer_length)) (seen memory.now) log.old collect.old block.old result log.new collect.new block.new }
 {
     if block.len() < control_bytes::BLOCK {
         return answer_numbers::answered_as(Err(Refusal::BufferTooShort), 0);
@@ -167,22 +144,19 @@ fn submit_numbers<'a>(
         value,
         transfer_length,
     };
-    let submitted = submit(log, collect, block, numbers, low_base, low, high_base, high);
+    let submitted = submit(log, collect, block, numbers, memory);
     answer_numbers::answered_as(submitted.answer, submitted.records)
 }
 
-// Takes a TRB, given by numbers; ports `submit_trb`. Guest memory is `low`'s bytes at `low_base` and `high`'s at `high_base`.
-pub fn submit_trb<'a>(
+// Takes a TRB, given by numbers; ports `submit_trb`.
+pub fn submit_trb(
     log: &mut [u8],
     collect: &mut [u8],
     block: &mut [u8],
     numbers: TrbNumbers,
-    low_base: u64,
-    low: &'a [u8],
-    high_base: u64,
-    high: &'a [u8],
+    memory: &GuestView<'_>,
 ) -> Answered
-    ensures { SubmitsInPlace (lent_log log.old block.old) (trb_of numbers) (memory_of low_base low.now high_base high.now) log.old collect.old block.old result log.new collect.new block.new }
+    ensures { SubmitsInPlace (lent_log log.old block.old) (trb_of numbers) (seen memory.now) log.old collect.old block.old result log.new collect.new block.new }
 {
     submit_numbers(
         log,
@@ -193,26 +167,20 @@ pub fn submit_trb<'a>(
         numbers.addr,
         numbers.value,
         numbers.transfer_length,
-        low_base,
-        low,
-        high_base,
-        high,
+        memory,
     )
 }
 
 // Takes a TRB, given by its 16 bytes in the ring.
-pub fn submit_raw<'a>(
+pub fn submit_raw(
     log: &mut [u8],
     collect: &mut [u8],
     block: &mut [u8],
     raw: [u8; 16],
     addr: u64,
-    low_base: u64,
-    low: &'a [u8],
-    high_base: u64,
-    high: &'a [u8],
+    memory: &GuestView<'_>,
 ) -> Answered
-    ensures { SubmitsInPlace (lent_log log.old block.old) (raw_trb raw addr) (memory_of low_base low.now high_base high.now) log.old collect.old block.old result log.new collect.new block.new }
+    ensures { SubmitsInPlace (lent_log log.old block.old) (raw_trb raw addr) (seen memory.now) log.old collect.old block.old result log.new collect.new block.new }
 {
     let decoded = raw_trb_decoder::decode(raw);
     let numbers = held_bytes::numbers_of(TransferTrb {
@@ -229,10 +197,7 @@ pub fn submit_raw<'a>(
         numbers.addr,
         numbers.value,
         numbers.transfer_length,
-        low_base,
-        low,
-        high_base,
-        high,
+        memory,
     )
 }
 

@@ -8,7 +8,7 @@ ghost use Rattle.trb.specs.Answers.{number_of};
 ghost use Rattle.trb.specs.Limits.{max_held, max_collected};
 ghost use Rattle.trb.specs.Questions.{first_no};
 ghost use Rattle.trb.specs.declared.TransferTrb.{TransferTrb};
-ghost use Rattle.guest_memory.specs.Places.{memory_of};
+ghost use Rattle.guest_memory.specs.Lent.{seen};
 ghost use Rattle.phase_table.specs.Outcomes.{holds};
 ghost use Rattle.phase_table.specs.Table.{kind_of, trb_outcome};
 ghost use Rattle.raw_trb.specs.Layouts.{setup_stage_type};
@@ -21,7 +21,7 @@ ghost use Rattle.control_numbers.specs.Transfers.{size_taken, length_after, coll
 
 use control_block::{BlockFacts, ControlTransfer};
 use control_transfer::TrbData;
-use guest_memory::Regions;
+use guest_memory::{GuestView, Regions};
 use phase_table::{Outcome, TrbKind};
 use trb::{Answer, ControlTransferState, Refusal, UsbRequest};
 
@@ -232,23 +232,18 @@ pub fn collected_after(input: bool, collected: usize, size: u32) -> usize
 // ---- The bytes collected
 
 // Collects this data of a TRB just behind the `collected` bytes, on OUT.
-pub fn collect_data<'a>(
+pub fn collect_data(
     collect: &mut [u8],
     outcome: Outcome,
     input: bool,
     collected: usize,
     data: TrbData,
-    low_base: u64,
-    low: &'a [u8],
-    high_base: u64,
-    high: &'a [u8],
+    memory: &GuestView<'_>,
 )
     requires { (max_collected ≤ length collect.old) × (collectable outcome input collected «data» ≡ true) }
-    ensures { collect.new ≡ patch collect.old collected (if collects outcome input then bytes_of (memory_of low_base low.now high_base high.now) «data» else []) }
+    ensures { collect.new ≡ patch collect.old collected (if collects outcome input then bytes_of (seen memory.now) «data» else []) }
 {
     if control_transfer::is_collected(outcome, input) {
-        control_transfer::collect_transfer_data(
-            collect, collected, data, low_base, low, high_base, high,
-        );
+        control_transfer::collect_transfer_data(collect, collected, data, memory);
     }
 }

@@ -9,7 +9,8 @@ use lib.Dec.{eqb, ltb}
 use lib.ListN.{length, take, drop}
 use lib.Seq.{take_at}
 use Rattle.buffers.specs.Patch.{patch}
-use Rattle.numerals.specs.Written.{Written}
+use Rattle.text.specs.declared.Text.{Text}
+use Rattle.text.specs.Wrote.{Wrote}
 use Rattle.log_text.specs.Lines.{line_feed}
 use Rattle.shapes.specs.Lists.{min_shape, max_shape}
 use Rattle.shape_lines.specs.Lines.{shapes_text, max_text}
@@ -31,9 +32,9 @@ longer-same l rest h = rw (asked-longer l rest h)
 
 -- ---- A text that was written first in its buffer
 
-pub text-first : {most : ℕ} {t vs : List ℕ} {r : ℕ} {t' : List ℕ} → Written most t 0 vs r t' → take r t' ≡ vs
+pub text-first : (t : List ℕ) {vs t' : List ℕ} {r : ℕ} → t' ≡ patch t 0 vs → r ≡ length vs → take r t' ≡ vs
 unfolding patch
-text-first {most} {t} {vs} {r} {t'} w = rw (w.text, w.next) (take_at vs (drop (0 + length vs) t) (0 + length vs) (omega arith))
+text-first t {vs = vs} e n = rw (e, n) (take_at vs (drop (0 + length vs) t) (length vs) refl)
 
 -- ---- At most max_shape
 
@@ -71,10 +72,10 @@ module _ (input : List ℕ) (longest : ℕ) (e : longest ≡ asked input) where
   pub most : longest ≤ max_shape
   most = rw e (asked-most input)
 
-  pub refused-answered : longest ≡ 0 → {l m : List ℕ} {r : ℕ} → Written max_text l 0 refused_text r m → Written max_text l 0 (answer_text input) r m
+  pub refused-answered : longest ≡ 0 → {t t' : Text} → Wrote max_text t refused_text t' → Wrote max_text t (answer_text input) t'
   unfolding answer_text
   refused-answered f g = rw (← e, eq-eqb longest 0 f) g
 
-  pub shapes-answered : (longest ≡ 0 → ⊥) → {l m : List ℕ} {r : ℕ} → Written max_text l 0 (shapes_text longest) r m → Written max_text l 0 (answer_text input) r m
+  pub shapes-answered : (longest ≡ 0 → ⊥) → {t t' : Text} → Wrote max_text t (shapes_text longest) t' → Wrote max_text t (answer_text input) t'
   unfolding answer_text
   shapes-answered f g = rw (← e, ne_eqb longest 0 f) g

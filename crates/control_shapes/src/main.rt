@@ -3,12 +3,14 @@
 
 ghost use Rattle.std.specs.Prelude.{◌≡◌, ◌∷◌, [], ◌≤◌, length, OnOk};
 ghost use Rattle.input_bytes.specs.Outputs.{WritesFor};
-ghost use Rattle.numerals.specs.Written.{Written};
+ghost use Rattle.buffers.specs.Patch.{patch};
+ghost use Rattle.text.specs.Wrote.{HasRoom, Wrote};
 ghost use Rattle.shape_lines.specs.Lines.{max_text};
 ghost use Rattle.control_shapes.specs.Answers.{in_range, one_digit, two_digits, asked as asked_of, refused_text, answer_text};
 
 use std::io;
 use std::io::{Read, Write};
+use text::Text;
 
 // ---- What is read
 
@@ -60,24 +62,38 @@ fn asked(input: &[u8]) -> usize
 // ---- What is printed
 
 // Writes the line of an input that is refused.
-fn put_refused(text: &mut [u8]) -> usize
-    requires { max_text ≤ length text.old }
-    ensures { Written max_text text.old 0 refused_text result text.new }
+#[tactic(auto, unfolding(numerals::specs::Digits::digit_char, numerals::specs::Digits::digits, numerals::specs::Digits::trimmed, numerals::specs::Digits::decimal_of, crate::specs::Answers::refused_text))]
+fn put_refused(text: &mut Text<'_>)
+    requires { HasRoom max_text text.old }
+    ensures { Wrote max_text text.old refused_text text.new }
 {
-    let refused = b"refused 16\n";
-    buffers::copy_into(text, 0, refused);
-    refused.len()
+    text.put_word(b"refused 16\n");
 }
 
 // Writes the text for an input.
-fn put_answer(text: &mut [u8], input: &[u8]) -> usize
-    requires { max_text ≤ length text.old }
-    ensures { Written max_text text.old 0 (answer_text input.now) result text.new }
+fn put_answer(text: &mut Text<'_>, input: &[u8])
+    requires { HasRoom max_text text.old }
+    ensures { Wrote max_text text.old (answer_text input.now) text.new }
 {
     match asked(input) {
         0 => put_refused(text),
         longest => shape_text::shapes_up_to(text, longest),
     }
+}
+
+// Writes the text for an input from the buffer's start on, and returns where it ends.
+fn put_text(text: &mut [u8], input: &[u8]) -> usize
+    requires { max_text ≤ length text.old }
+    ensures text { text.new ≡ patch text.old 0 (answer_text input.now) }
+    ensures length { result ≡ length (answer_text input.now) }
+    ensures within { result ≤ length text.new }
+{
+    let mut text = Text {
+        bytes: text,
+        end: 0,
+    };
+    put_answer(&mut text, input);
+    text.end
 }
 
 fn text_buffer() -> [u8; shape_lines::MAX_TEXT]
@@ -93,7 +109,7 @@ fn answer_input<R: Read, W: Write>(reader: &mut R, writer: &mut W) -> io::Result
     let mut input = [0u8; INPUT];
     let read = input_bytes::read_full(reader, &mut input)?;
     let mut text = text_buffer();
-    let end = put_answer(&mut text, &input[..read]);
+    let end = put_text(&mut text, &input[..read]);
     writer.write_all(&text[..end])
 }
 

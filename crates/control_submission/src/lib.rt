@@ -2,11 +2,12 @@
 #![tactic(auto)]
 
 ghost use Rattle.std.specs.Prelude.{◌≡◌};
-ghost use Rattle.guest_memory.specs.Places.{memory_of};
+ghost use Rattle.guest_memory.specs.Lent.{seen};
 ghost use Rattle.control_endpoint.specs.Submission.{places_dropped, Submits};
 
 use control_block::{ControlBlock, ControlTransfer};
 use control_endpoint::Submitted;
+use guest_memory::GuestView;
 use td_part::TdInfo;
 use trb::{Answer, TransferTrb};
 
@@ -17,22 +18,18 @@ fn places_dropped(restarts: bool, held: usize) -> usize
     if restarts { held } else { 0 }
 }
 
-// Takes a TRB. Guest memory is `low`'s bytes at `low_base` and `high`'s at `high_base`. The places are copied once: copies of the block are
-// most of what a call costs.
-pub fn submit_trb<'a>(
+// Takes a TRB. The places are copied once: copies of the block are most of what a call costs.
+pub fn submit_trb(
     log: &mut [u8],
     collect: &mut [u8],
     block: ControlBlock,
     t: TransferTrb,
-    low_base: u64,
-    low: &'a [u8],
-    high_base: u64,
-    high: &'a [u8],
+    memory: &GuestView<'_>,
 ) -> Submitted
-    ensures { Submits block t (memory_of low_base low.now high_base high.now) log.old collect.old result log.new collect.new }
+    ensures { Submits block t (seen memory.now) log.old collect.old result log.new collect.new }
 {
     let facts = control_block::facts_of(&block);
-    let regions = guest_memory::guest_regions(low_base, low.len(), high_base, high.len());
+    let regions = memory.regions();
     let outcome = phase_table::trb_outcome(block.phase, t.variant);
     let answer = control_questions::ask_submission(
         log.len(),
@@ -80,10 +77,7 @@ pub fn submit_trb<'a>(
                 block.direction,
                 block.collected,
                 t.variant,
-                low_base,
-                low,
-                high_base,
-                high,
+                memory,
             );
             if phase_table::is_held(outcome) {
                 trbs[held] = t;

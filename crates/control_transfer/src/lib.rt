@@ -7,13 +7,14 @@ ghost use Rattle.std.specs.Prelude.{◌≡◌, ◌+◌, ◌*◌, ◌≤◌, true
 ghost use Rattle.buffers.specs.LittleEndian.{le_bytes};
 ghost use Rattle.buffers.specs.Patch.{patch};
 ghost use Rattle.trb.specs.Limits.{record_length, max_collected};
-ghost use Rattle.guest_memory.specs.Places.{memory_of, bytes_at};
+ghost use Rattle.guest_memory.specs.Places.{bytes_at};
+ghost use Rattle.guest_memory.specs.Lent.{seen};
 ghost use Rattle.call_log.specs.Calls.{Meets, counted};
 ghost use Rattle.control_transfer.specs.Data.{no_data, data_of, immediate_length, size_of, in_reach, bytes_of};
 ghost use Rattle.control_transfer.specs.Transfers.{request_of, begun, lengthened, grown, taken_by, held_into, transfer_after, requests_of, collects, collectable, bytes_taken};
 
 use control_block::ControlTransfer;
-use guest_memory::Regions;
+use guest_memory::{GuestView, Regions};
 use phase_table::Outcome;
 use trb::{EndpointId, SetupStageTrb, SlotId, TransferTrbVariant, UsbRequest};
 
@@ -102,50 +103,24 @@ fn collect_immediate(collect: &mut [u8], at: usize, pointer: u64, count: usize)
 }
 
 // Lays the `count` bytes of guest memory from `pointer` on over `collect` from index `at` on.
-fn collect_memory<'a>(
-    collect: &mut [u8],
-    at: usize,
-    pointer: u64,
-    count: u32,
-    low_base: u64,
-    low: &'a [u8],
-    high_base: u64,
-    high: &'a [u8],
-)
+fn collect_memory(collect: &mut [u8], at: usize, pointer: u64, count: u32, memory: &GuestView<'_>)
     requires { at + count ≤ length collect.old }
-    ensures { collect.new ≡ patch collect.old at (bytes_at (memory_of low_base low.now high_base high.now) pointer count) }
+    ensures { collect.new ≡ patch collect.old at (bytes_at (seen memory.now) pointer count) }
 {
-    let part = guest_memory::get_slice(low_base, low, high_base, high, pointer, count);
+    let part = guest_memory::get_slice(memory, pointer, count);
     buffers::copy_into(collect, at, part);
 }
 
 // Lays the bytes of a TRB of an OUT transfer over `collect` from index `at` on; ports `collect_transfer_data`.
-pub fn collect_transfer_data<'a>(
-    collect: &mut [u8],
-    at: usize,
-    data: TrbData,
-    low_base: u64,
-    low: &'a [u8],
-    high_base: u64,
-    high: &'a [u8],
-)
+pub fn collect_transfer_data(collect: &mut [u8], at: usize, data: TrbData, memory: &GuestView<'_>)
     requires { at + size_of «data» ≤ length collect.old }
-    ensures { collect.new ≡ patch collect.old at (bytes_of (memory_of low_base low.now high_base high.now) «data») }
+    ensures { collect.new ≡ patch collect.old at (bytes_of (seen memory.now) «data») }
 {
     if data.immediate_data {
         let count = immediate_length(data.transfer_length);
         collect_immediate(collect, at, data.data_pointer, count as usize);
     } else {
-        collect_memory(
-            collect,
-            at,
-            data.data_pointer,
-            data.transfer_length,
-            low_base,
-            low,
-            high_base,
-            high,
-        );
+        collect_memory(collect, at, data.data_pointer, data.transfer_length, memory);
     }
 }
 
@@ -284,22 +259,19 @@ pub fn is_collected(outcome: Outcome, input: bool) -> bool
 }
 
 // Collects the TRB's bytes just behind the `collected` ones, on OUT.
-pub fn collect_trb<'a>(
+pub fn collect_trb(
     collect: &mut [u8],
     outcome: Outcome,
     input: bool,
     collected: usize,
     variant: TransferTrbVariant,
-    low_base: u64,
-    low: &'a [u8],
-    high_base: u64,
-    high: &'a [u8],
+    memory: &GuestView<'_>,
 )
     requires { (max_collected ≤ length collect.old) × (collectable outcome input collected (data_of variant) ≡ true) }
-    ensures { collect.new ≡ patch collect.old collected (bytes_taken outcome input variant (memory_of low_base low.now high_base high.now)) }
+    ensures { collect.new ≡ patch collect.old collected (bytes_taken outcome input variant (seen memory.now)) }
 {
     if is_collected(outcome, input) {
         let data = data_of(variant);
-        collect_transfer_data(collect, collected, data, low_base, low, high_base, high);
+        collect_transfer_data(collect, collected, data, memory);
     }
 }

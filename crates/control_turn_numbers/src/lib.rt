@@ -5,7 +5,7 @@ ghost use Rattle.std.specs.Prelude.{◌≡◌, ◌+◌, ◌*◌, ◌≤◌, leng
 ghost use Rattle.trb.specs.Limits.{record_length};
 ghost use Rattle.call_log.specs.Calls.{Meets};
 ghost use Rattle.td_part.specs.Parts.{Within};
-ghost use Rattle.held_bytes.specs.Numbers.{data_stage_of, event_data_of, trb_of};
+ghost use Rattle.held_bytes.specs.Numbers.{trb_of};
 ghost use Rattle.control_chain.specs.Chain.{realize_trb};
 ghost use Rattle.control_chain.specs.Endings.{next_trb};
 
@@ -13,31 +13,6 @@ use control_block::Ending;
 use control_chain::ControlTd;
 use held_bytes::TrbNumbers;
 use td_part::{TdInfo, TdProgress};
-use trb::{DataStageTrb, EventDataTrb};
-
-fn data_stage(flags: u8, value: u64, transfer_length: u32) -> DataStageTrb
-    ensures { result ≡ data_stage_of flags value transfer_length }
-{
-    DataStageTrb {
-        data_pointer: value,
-        transfer_length,
-        chain: held_bytes::bit(flags, 2),
-        interrupt_on_completion: held_bytes::bit(flags, 4),
-        interrupt_on_short: held_bytes::bit(flags, 8),
-        immediate_data: held_bytes::bit(flags, 16),
-        direction: held_bytes::bit(flags, 32),
-    }
-}
-
-fn event_data(flags: u8, value: u64) -> EventDataTrb
-    ensures { result ≡ event_data_of flags value }
-{
-    EventDataTrb {
-        event_data: value,
-        chain: held_bytes::bit(flags, 2),
-        interrupt_on_completion: held_bytes::bit(flags, 4),
-    }
-}
 
 // One TRB, by its kind; ports a turn of `realize_control_chain`.
 fn realize_trb(
@@ -60,7 +35,7 @@ fn realize_trb(
             addr,
         ),
         raw_trb::DATA_STAGE => {
-            let stage = data_stage(flags, numbers.value, numbers.transfer_length);
+            let stage = held_bytes::data_stage(flags, numbers.value, numbers.transfer_length);
             control_chain::realize_data_stage(log, td, progress, stage, addr)
         }
         raw_trb::NORMAL => {
@@ -68,7 +43,7 @@ fn realize_trb(
             control_chain::realize_normal(log, td, progress, normal, addr)
         }
         raw_trb::EVENT_DATA => {
-            let event = event_data(flags, numbers.value);
+            let event = held_bytes::event_data(flags, numbers.value);
             td_data::handle_event_data_trb(log, td.info, progress, event)
         }
         _ => progress,

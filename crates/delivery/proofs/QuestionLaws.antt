@@ -28,7 +28,7 @@ use Rattle.delivery_laws.specs.Ranges.{writes_inside}
 use Rattle.delivery.specs.Completing.{completed, delivery_questions}
 use Rattle.delivery.proofs.CompletionLaws.{inside-ended}
 
-asked-number : (t : Bool) → number_of (cond t (Ok tt) (Err WriteOutOfRange)) ≡ cond t 0 11
+asked-number : (t : Bool) → number_of {A = Unit {0}} (cond t (Ok tt) (Err WriteOutOfRange)) ≡ cond t 0 11
 asked-number true = refl
 asked-number false = refl
 
@@ -62,7 +62,7 @@ module _ (l : ℕ) (b : InBlock) (r : Option InTrbProcessingStatus) (n : ℕ) (r
         known = passed-completion l (facts_of b) r n (answered-all a (completion_questions l (facts_of b) r n) asked passed)
 
         -- only question 11 is left, which the TRBs held tell
-        pub number-yes : (t : Bool) → t ≡ writes_inside regions (cond (awaits_device b.state) n 0) (held_of b) → number_of (cond t (Ok tt) (Err WriteOutOfRange)) ≡ first_no (delivery_questions l b r n regions)
+        pub number-yes : (t : Bool) → t ≡ writes_inside regions (cond (awaits_device b.state) n 0) (held_of b) → number_of {A = Unit {0}} (cond t (Ok tt) (Err WriteOutOfRange)) ≡ first_no (delivery_questions l b r n regions)
         number-yes t e =
             asked-number t
             ∙ ap (λ (u : Bool). cond u 0 11) (e ∙ sym (inside-ended b n regions b.state r known.agreed))

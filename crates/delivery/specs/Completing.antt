@@ -1,7 +1,7 @@
 -- A completion on an IN endpoint that is carried out at once: its questions, what is done once each was answered with yes, and the promise of a call.
 -- Assumes nothing.
 use Rattle.std.specs.Prelude.{ℕ, ◌*◌, Bool, true, not, ◌≡◌, List, [], ◌∷◌, leb, length, take, Option}
-use Rattle.trb.specs.Answers.{completion_number, said}
+use Rattle.trb.specs.Answers.{number_of, said}
 use Rattle.trb.specs.Limits.{record_length, min_log, max_data}
 use Rattle.trb.specs.Questions.{first_no, after_questions, agree}
 use Rattle.trb.specs.Answers.{CompletionAnswer}
@@ -50,7 +50,7 @@ DeliveredWhole b bytes m a log m' =
 
 -- of a call with the device result s, the device's bytes, the log l and guest memory m, which returned r and left the log l' and the memory m'
 pub record Delivers (b : InBlock) (s : Option InTrbProcessingStatus) (bytes l : List ℕ) (m : Memory) (r : Completed) (l' : List ℕ) (m' : Memory) : Type 0 where
-  pub number : completion_number r.answer ≡ first_no (delivery_questions (length l) b s (length bytes) (regions_of m))
+  pub number : number_of r.answer ≡ first_no (delivery_questions (length l) b s (length bytes) (regions_of m))
   pub met : Meets (delivery (length l) b s (length bytes) (regions_of m)) 0 l r l'
   pub result : said r.answer ≡ said (delivery (length l) b s (length bytes) (regions_of m)).state.answer
   pub memory : m' ≡ written bytes m (delivery (length l) b s (length bytes) (regions_of m)).records

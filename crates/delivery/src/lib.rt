@@ -5,14 +5,15 @@ ghost use Rattle.std.specs.Prelude.{◌≡◌, cond, ◌*◌, ◌≤◌, min, le
 ghost use Rattle.trb.specs.Answers.{number_of};
 ghost use Rattle.trb.specs.Limits.{record_length};
 ghost use Rattle.trb.specs.Questions.{first_no};
-ghost use Rattle.guest_memory.specs.Places.{memory_of, range_inside};
+ghost use Rattle.guest_memory.specs.Places.{range_inside};
+ghost use Rattle.guest_memory.specs.Lent.{lent, SameRegions};
 ghost use Rattle.carry_out.specs.CarryOut.{Carried};
 ghost use Rattle.in_td.specs.Normals.{normal_of, length_of};
 ghost use Rattle.in_block.specs.Facts.{awaits_device};
 ghost use Rattle.delivery_laws.specs.Ranges.{pointer_of, writes_inside};
 ghost use Rattle.delivery.specs.Completing.{delivery_questions, Delivers};
 
-use guest_memory::Regions;
+use guest_memory::{GuestMemory, Regions};
 use in_block::InBlock;
 use in_endpoint::Completed;
 use trb::{
@@ -105,33 +106,29 @@ pub fn carry_out_first(
     log: &[u8],
     records: usize,
     data: &[u8],
-    low_base: u64,
-    low: &mut [u8],
-    high_base: u64,
-    high: &mut [u8],
+    memory: &mut GuestMemory<'_>,
 ) -> Answer
     requires { record_length * records ≤ length log.now }
-    ensures { Carried (take (record_length * records) log.now) «data».now (memory_of low_base low.old high_base high.old) result (memory_of low_base low.new high_base high.new) }
+    ensures answer { Carried (take (record_length * records) log.now) «data».now (lent memory.old) result (lent memory.new) }
+    ensures same { SameRegions memory.old memory.new }
 {
     let end = trb::RECORD_LENGTH * records;
-    carry_out::carry_out(&log[..end], data, low_base, low, high_base, high)
+    carry_out::carry_out(&log[..end], data, memory)
 }
 
-// Completes what was submitted last, as `next_completion` does, and carries its log out on guest memory, the regions of `low`'s and
-// `high`'s bytes at their bases. Questions 1, 13, 2, 3, 8, 9, and last 11, before anything changes.
+// Completes what was submitted last, as `next_completion` does, and carries its log out on guest memory.
+// Questions 1, 13, 2, 3, 8, 9, and last 11, before anything changes.
 pub fn complete_and_carry_out(
     log: &mut [u8],
     block: InBlock,
     res: Option<InTrbProcessingStatus>,
     data: &[u8],
-    low_base: u64,
-    low: &mut [u8],
-    high_base: u64,
-    high: &mut [u8],
+    memory: &mut GuestMemory<'_>,
 ) -> Completed
-    ensures { Delivers block res «data».now log.old (memory_of low_base low.old high_base high.old) result log.new (memory_of low_base low.new high_base high.new) }
+    ensures delivered { Delivers block res «data».now log.old (lent memory.old) result log.new (lent memory.new) }
+    ensures same { SameRegions memory.old memory.new }
 {
-    let regions = guest_memory::guest_regions(low_base, low.len(), high_base, high.len());
+    let regions = memory.regions();
     let asked = ask(log.len(), &block, res, data.len(), regions);
     if asked.is_err() {
         return Completed {
@@ -142,6 +139,6 @@ pub fn complete_and_carry_out(
     }
     let done = in_completion::next_completion(log, block, res, data);
     // What is asked of a log was asked above: it is carried out.
-    let _ = carry_out_first(log, done.records, data, low_base, low, high_base, high);
+    let _ = carry_out_first(log, done.records, data, memory);
     done
 }

@@ -1,2 +1,3 @@
 pub mod Regions
 pub mod Places
+pub mod Lent

@@ -5,7 +5,8 @@
 ghost use Rattle.std.specs.Prelude.{◌≡◌, ◌+◌, ◌≤◌, length, take, drop};
 ghost use Rattle.buffers.specs.Patch.{patch};
 ghost use Rattle.guest_memory.specs.Regions.{guest_regions, holds, shares_at, share_an_address};
-ghost use Rattle.guest_memory.specs.Places.{in_region, place_of, is_inside, range_inside, memory_of, bytes_at};
+ghost use Rattle.guest_memory.specs.Places.{in_region, place_of, is_inside, range_inside, regions_of, bytes_at};
+ghost use Rattle.guest_memory.specs.Lent.{seen, lent};
 
 // ---- Regions
 
@@ -63,6 +64,66 @@ pub fn share_an_address(regions: Regions) -> bool
     shares_at(regions, regions.low.start_addr) || shares_at(regions, regions.high.start_addr)
 }
 
+// ---- Lent
+
+// Guest memory lent to be read: the bytes of two regions, and their bases.
+#[derive(Clone, Copy, Drop)]
+pub struct GuestView<'a> {
+    pub low_base: u64,
+    pub low: &'a [u8],
+    pub high_base: u64,
+    pub high: &'a [u8],
+}
+
+// Guest memory lent to be written.
+#[derive(Drop)]
+pub struct GuestMemory<'a> {
+    pub low_base: u64,
+    pub low: &'a mut [u8],
+    pub high_base: u64,
+    pub high: &'a mut [u8],
+}
+
+impl GuestView<'_> {
+    // Its regions by their numbers.
+    pub fn regions(&self) -> Regions
+        ensures { result ≡ regions_of (seen self.now) }
+    {
+        guest_regions(
+            self.low_base,
+            self.low.len(),
+            self.high_base,
+            self.high.len(),
+        )
+    }
+}
+
+impl GuestMemory<'_> {
+    // Its regions by their numbers.
+    pub fn regions(&self) -> Regions
+        ensures { result ≡ regions_of (lent self.now) }
+    {
+        guest_regions(
+            self.low_base,
+            self.low.len(),
+            self.high_base,
+            self.high.len(),
+        )
+    }
+
+    // Lent on to be read.
+    pub fn view(&self) -> GuestView<'_>
+        ensures { seen result ≡ lent self.now }
+    {
+        GuestView {
+            low_base: self.low_base,
+            low: self.low,
+            high_base: self.high_base,
+            high: self.high,
+        }
+    }
+}
+
 // ---- Places
 
 // Where a range lies: outside, or in one of the regions from this index of its bytes on. Three cases and no Option of two: who asks where it lies takes
@@ -117,21 +178,13 @@ pub fn range_inside(regions: Regions, pointer: u64, count: u32) -> bool
 // ---- Bytes
 
 // The `count` bytes from the address `pointer` on, of whichever region holds them; none where the range is outside.
-pub fn get_slice<'a>(
-    low_base: u64,
-    low: &'a [u8],
-    high_base: u64,
-    high: &'a [u8],
-    pointer: u64,
-    count: u32,
-) -> &'a [u8]
-    ensures { result.now ≡ bytes_at (memory_of low_base low.now high_base high.now) pointer count }
+pub fn get_slice<'a>(memory: &GuestView<'a>, pointer: u64, count: u32) -> &'a [u8]
+    ensures { result.now ≡ bytes_at (seen memory.now) pointer count }
 {
-    let regions = guest_regions(low_base, low.len(), high_base, high.len());
-    match place_range(regions, pointer, count) {
-        Place::Outside => &low[0..0],
-        Place::InLow(start) => &low[start..start + (count as usize)],
-        Place::InHigh(start) => &high[start..start + (count as usize)],
+    match place_range(memory.regions(), pointer, count) {
+        Place::Outside => &memory.low[0..0],
+        Place::InLow(start) => &memory.low[start..start + (count as usize)],
+        Place::InHigh(start) => &memory.high[start..start + (count as usize)],
     }
 }
 

@@ -4,7 +4,7 @@
 ghost use Rattle.std.specs.Prelude.{◌≡◌, ◌+◌, ◌*◌, ◌<◌, ◌≤◌, length, drop, replicate};
 ghost use Rattle.buffers.specs.Patch.{patch};
 ghost use Rattle.trb.specs.declared.TransferTrbVariant.TheVariants.{SetupStage};
-ghost use Rattle.held_bytes.specs.Numbers.{bit_of, normal_of, setup_stage_of, data_stage_of, variant_of, trb_of, flags_of, setup_value, SetupFits, numbers_of};
+ghost use Rattle.held_bytes.specs.Numbers.{bit_of, normal_of, setup_stage_of, data_stage_of, event_data_of, no_op_of, variant_of, trb_of, flags_of, setup_value, SetupFits, numbers_of};
 ghost use Rattle.held_bytes.specs.Places.{place_length, numbers_at, place_bytes};
 
 use trb::{
@@ -68,7 +68,8 @@ fn setup_stage(flags: u8, value: u64) -> SetupStageTrb
     }
 }
 
-fn data_stage(flags: u8, value: u64, transfer_length: u32) -> DataStageTrb
+// The Data Stage TRB that these numbers are.
+pub fn data_stage(flags: u8, value: u64, transfer_length: u32) -> DataStageTrb
     ensures { result ≡ data_stage_of flags value transfer_length }
 {
     DataStageTrb {
@@ -79,6 +80,27 @@ fn data_stage(flags: u8, value: u64, transfer_length: u32) -> DataStageTrb
         interrupt_on_short: bit(flags, 8),
         immediate_data: bit(flags, 16),
         direction: bit(flags, 32),
+    }
+}
+
+// The Event Data TRB that these numbers are.
+pub fn event_data(flags: u8, value: u64) -> EventDataTrb
+    ensures { result ≡ event_data_of flags value }
+{
+    EventDataTrb {
+        event_data: value,
+        chain: bit(flags, 2),
+        interrupt_on_completion: bit(flags, 4),
+    }
+}
+
+// The No Op TRB that these flags are.
+pub fn no_op(flags: u8) -> NoOpTrb
+    ensures { result ≡ no_op_of flags }
+{
+    NoOpTrb {
+        chain: bit(flags, 2),
+        interrupt_on_completion: bit(flags, 4),
     }
 }
 
@@ -98,15 +120,8 @@ fn variant(kind: u8, flags: u8, value: u64, transfer_length: u32) -> TransferTrb
             direction: bit(flags, 32),
         }),
         raw_trb::ISOCH => TransferTrbVariant::Isoch,
-        raw_trb::EVENT_DATA => TransferTrbVariant::EventData(EventDataTrb {
-            event_data: value,
-            chain: bit(flags, 2),
-            interrupt_on_completion: bit(flags, 4),
-        }),
-        raw_trb::NO_OP => TransferTrbVariant::NoOp(NoOpTrb {
-            chain: bit(flags, 2),
-            interrupt_on_completion: bit(flags, 4),
-        }),
+        raw_trb::EVENT_DATA => TransferTrbVariant::EventData(event_data(flags, value)),
+        raw_trb::NO_OP => TransferTrbVariant::NoOp(no_op(flags)),
         _ => TransferTrbVariant::Unrecognized,
     }
 }

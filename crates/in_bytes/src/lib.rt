@@ -15,12 +15,10 @@ ghost use Rattle.in_bytes.specs.Layout.{head_length, block_length, endpoint_of, 
 
 use held_bytes::TrbNumbers;
 use in_td::InMode;
-use trb::{
-    EndpointId, EventDataTrb, NoOpTrb, SlotId, TdBasedNormalSubmissionState, TransferTrb,
-    TransferTrbVariant,
-};
+use trb::{EndpointId, SlotId, TdBasedNormalSubmissionState, TransferTrb, TransferTrbVariant};
 
-// Bytes before the places, and bytes of a block.
+// Bytes before the places, and bytes of a block. It is lent as a slice, and each function asks that the slice is long enough: an array would say so by its
+// type, but what a call promises is said of all bytes that were lent, of which the array would be the front alone.
 pub const HEAD: usize = 16;
 
 pub const BLOCK: usize = HEAD + held_bytes::PLACE * trb::MAX_HELD;
@@ -97,15 +95,8 @@ fn held_variant(kind: u8, flags: u8, value: u64, transfer_length: u32) -> Transf
         raw_trb::NORMAL => {
             TransferTrbVariant::Normal(held_bytes::normal(flags, value, transfer_length))
         }
-        raw_trb::EVENT_DATA => TransferTrbVariant::EventData(EventDataTrb {
-            event_data: value,
-            chain: held_bytes::bit(flags, 2),
-            interrupt_on_completion: held_bytes::bit(flags, 4),
-        }),
-        _ => TransferTrbVariant::NoOp(NoOpTrb {
-            chain: held_bytes::bit(flags, 2),
-            interrupt_on_completion: held_bytes::bit(flags, 4),
-        }),
+        raw_trb::EVENT_DATA => TransferTrbVariant::EventData(held_bytes::event_data(flags, value)),
+        _ => TransferTrbVariant::NoOp(held_bytes::no_op(flags)),
     }
 }
 

@@ -1,7 +1,7 @@
 -- Laws of a script's calls on an IN endpoint. Assumes nothing.
 use Rattle.std.specs.Prelude.{None, Ok, Option, Some}
 use Prim.Native.Nat.{ℕ, ◌+◌, ◌≤◌, min}
-use mathlib.Core.Path.{◌≡◌, refl, sym, subst}
+use mathlib.Core.Path.{◌≡◌, refl, subst}
 use mathlib.Core.Bool.{Bool, true, false, cond}
 use mathlib.Core.List.{List, []}
 use native.Mathlib.Omega.{arith}
@@ -15,12 +15,12 @@ use Rattle.trb.specs.declared.TdBasedNormalSubmissionState.{TdBasedNormalSubmiss
 use Rattle.trb.specs.declared.TransferTrb.{TransferTrb}
 use Rattle.call_log.specs.Calls.{Out, Meets}
 use Rattle.call_script.specs.declared.Call.{Call}
-use Rattle.call_script.specs.declared.Call.TheVariants.{Window, Buffers, CreateIn, CreateControl, Submit, CompleteWithResult, CompleteWithout, Cancel, Hold, MakeUpIn, MakeUpControl, AppendTrb, AppendResult, CompleteRow, Time, Captured, Bad}
+use Rattle.call_script.specs.declared.Call.TheVariants.{Window, Buffers, CreateIn, CreateControl, Submit, CompleteWithResult, CompleteWithout, Cancel, Hold, MakeUpIn, MakeUpControl, AppendTrb, AppendResult, CompleteRow, Time, Captured}
 use Rattle.call_script.specs.declared.DeviceStatus.{DeviceStatus}
 use Rattle.call_log.specs.Logs.{logged}
-use Rattle.numerals.specs.Written.{Written}
-use Rattle.numerals.proofs.WrittenLaws.{written-append, written-within}
-use Rattle.buffers.proofs.PatchLaws.{patch-none}
+use Rattle.text.specs.declared.Text.{Text}
+use Rattle.text.specs.Wrote.{HasRoom, Wrote}
+use Rattle.text.proofs.WroteLaws.{wrote-none, wrote-append, wrote-within}
 use Rattle.guest_memory.specs.Places.{Memory, regions_of}
 use Rattle.call_text.specs.Widths.{max_first, max_record_lines}
 use Rattle.call_text.proofs.RecordLaws.{take_min}
@@ -36,72 +36,62 @@ use Rattle.row_walk.specs.declared.TdResult.{TdResult}
 use Rattle.in_row.specs.Completion.{row_completion}
 use Rattle.in_row.specs.declared.TdsCompleted.{TdsCompleted}
 use Rattle.state_text.specs.Widths.{max_state, max_answer}
-use Rattle.call_answer.specs.Called.{Said, bad_said, silent_said, Called, called, Runs, Says, silent_ran}
+use Rattle.call_answer.specs.Called.{Said, bad_said, silent_said, Called, called, Runs, Says, ran_of}
 use Rattle.in_block.specs.Blocks.{stored}
 use Rattle.in_block.specs.declared.InBlock.{InBlock}
-use Rattle.call_answer.specs.declared.EndpointRan.{EndpointRan}
+use Rattle.call_answer.specs.declared.Ran.{Ran}
 use Rattle.in_calls.specs.Calls.{answered, created, submitted, completed, row_completed, create_call, submit_call, complete_call, row_call, cancel_call, hold_call, result_call, in_call, Stated}
 
 -- a call that prints nothing
-pub says-silent : (o : Said InBlock) (t : List ℕ) (at : ℕ) (r : EndpointRan InBlock) → o.text ≡ [] → r ≡ silent_ran o at → Says o t at r t
-says-silent o t at r none e = rw e (record {
-  block = refl;
-  records = refl;
-  good = refl;
-  text = rw none (record { text = sym (patch-none t at); next = omega arith; within = omega arith });
-})
+pub says-silent : {o : Said InBlock} {t : Text} {r : Ran InBlock} → o.text ≡ [] → HasRoom max_answer t → r ≡ ran_of o → Says o t r t
+says-silent none fits e = record { ran = e; text = rw none (wrote-within (omega arith) (wrote-none (omega arith))) }
 
 -- a state line behind an answer of at most so many characters
-says-answered : {a next n : ℕ} {t t' t'' text : List ℕ} {b : InBlock} {r : EndpointRan InBlock} (at : ℕ) → at + a ≤ length t → a + max_state ≤ max_answer
-    → Written a t at text next t' → Stated b n t' next r t'' → Says (answered text b n) t at r t''
-says-answered at fits most w s = record {
-  block = s.block;
-  records = s.records;
-  good = s.good;
-  text = written-within most (written-append at fits w s.text);
-}
+says-answered : {a n : ℕ} {t t' t'' : Text} {text : List ℕ} {b : InBlock} {r : Ran InBlock} → a + max_state ≤ max_answer
+    → Wrote a t text t' → Stated b n t' r t'' → Says (answered text b n) t r t''
+says-answered most w s = record { ran = s.ran; text = wrote-within most (wrote-append w s.text) }
 
 -- what a call with this state and this log comes to is what the call that was met comes to
-runs-met : {S : Type 0} {o : Out S} {l l' : List ℕ} {s : S} {r : EndpointRan InBlock} {t t' : List ℕ} {at : ℕ} {m' : Memory} (run : S → List ℕ → Called InBlock)
-    → Meets o 0 l s l' → Runs (run s l') t at r t' l' m' → Runs (run o.state (logged l 0 o.records)) t at r t' l' m'
-runs-met {o = o} {l = l} {l' = l'} {s = s} {r = r} {t = t} {t' = t'} {at = at} {m' = m'} run met p =
-    subst (λ (x : List ℕ). Runs (run o.state x) t at r t' l' m') met.log (subst (λ x. Runs (run x l') t at r t' l' m') met.state p)
+runs-met : {S : Type 0} {o : Out S} {l l' : List ℕ} {s : S} {r : Ran InBlock} {t t' : Text} {m' : Memory} (run : S → List ℕ → Called InBlock)
+    → Meets o 0 l s l' → Runs (run s l') t r t' l' m' → Runs (run o.state (logged l 0 o.records)) t r t' l' m'
+runs-met {o = o} {l = l} {l' = l'} {s = s} {r = r} {t = t} {t' = t'} {m' = m'} run met p =
+    subst (λ (x : List ℕ). Runs (run o.state x) t r t' l' m') met.log (subst (λ x. Runs (run x l') t r t' l' m') met.state p)
 
--- with room for the longest answer
-module _ {log log' t t' t'' : List ℕ} {next : ℕ} {r : EndpointRan InBlock} (at : ℕ) (b : InBlock) (m : Memory) (fits : at + max_answer ≤ length t) where
+-- an answer, and the state line behind it
+module _ {log log' : List ℕ} {t t' t'' : Text} {r : Ran InBlock} (b : InBlock) (m : Memory) where
   pub runs-submitted : {s : Submitted} (x : TransferTrb) → Meets (submission (length log) b x (regions_of m)) 0 log s log'
-      → Written (max_first + max_record_lines) t at (answer_text s.answer s.records log') next t' → Stated s.block s.records t' next r t''
-      → Runs (submit_call b x log m) t at r t'' log' m
+      → Wrote (max_first + max_record_lines) t (answer_text s.answer s.records log') t' → Stated s.block s.records t' r t''
+      → Runs (submit_call b x log m) t r t'' log' m
   unfolding submit_call
   runs-submitted x met w st =
-      runs-met (λ s l. submitted s l m) met (record { says = says-answered at (omega arith) (lit≤ tt) w st; log = refl; memory = refl })
+      runs-met (λ s l. submitted s l m) met (record { says = says-answered (lit≤ tt) w st; log = refl; memory = refl })
 
   pub runs-completed : {c : Completed} {m' : Memory} (x : Option InTrbProcessingStatus) (bytes : List ℕ)
-      → Meets (completion (length log) b x (length bytes)) 0 log c log' → Answered c.answer c.records log' bytes m t at next t' m'
-      → Stated c.block c.records t' next r t'' → Runs (complete_call b x bytes log m) t at r t'' log' m'
+      → Meets (completion (length log) b x (length bytes)) 0 log c log' → Answered c.answer c.records log' bytes m t t' m'
+      → Stated c.block c.records t' r t'' → Runs (complete_call b x bytes log m) t r t'' log' m'
   unfolding complete_call
   runs-completed x bytes met w st =
-      runs-met (λ c l. completed c l bytes m) met (record { says = says-answered at (omega arith) (lit≤ tt) w.text st; log = refl; memory = w.after })
+      runs-met (λ c l. completed c l bytes m) met (record { says = says-answered (lit≤ tt) w.text st; log = refl; memory = w.after })
 
   pub runs-row : {c : TdsCompleted} {m' : Memory} (ts : List TransferTrb) (k : ℕ) (rs : List TdResult) (n : ℕ) (bytes : List ℕ)
       → Meets (row_completion (length log) b k (take k ts) n (take n rs) (length bytes) (regions_of m)) 0 log c log'
-      → RowAnswered c.answer c.finished c.records log' bytes m t at next t' m' → Stated c.block c.records t' next r t''
-      → Runs (row_call b ts k rs n bytes log m) t at r t'' log' m'
+      → RowAnswered c.answer c.finished c.records log' bytes m t t' m' → Stated c.block c.records t' r t''
+      → Runs (row_call b ts k rs n bytes log m) t r t'' log' m'
   unfolding row_call
   runs-row ts k rs n bytes met w st =
-      runs-met (λ c l. row_completed c l bytes m) met (record { says = says-answered at (omega arith) (lit≤ tt) w.text st; log = refl; memory = w.after })
+      runs-met (λ c l. row_completed c l bytes m) met (record { says = says-answered (lit≤ tt) w.text st; log = refl; memory = w.after })
 
-module _ {t t' t'' : List ℕ} {next : ℕ} {r : EndpointRan InBlock} (at : ℕ) (fits : at + max_answer ≤ length t) where
+module _ {t t' t'' : Text} {r : Ran InBlock} where
   pub says-created : {c : Created} (e : EndpointId) (s : SlotId) (mode : InMode) → c ≡ creation e s mode
-      → Written (max_first + max_record_lines) t at (answer_text c.answer 0 []) next t' → Stated c.block 0 t' next r t'' → Says (create_call e s mode) t at r t''
+      → Wrote (max_first + max_record_lines) t (answer_text c.answer 0 []) t' → Stated c.block 0 t' r t'' → Says (create_call e s mode) t r t''
   unfolding create_call
-  says-created {c = c} e s mode made w st = subst (λ (x : Created). Says (created x) t at r t'') made (says-answered at (omega arith) (lit≤ tt) w st)
+  says-created {c = c} e s mode made w st = subst (λ (x : Created). Says (created x) t r t'') made (says-answered (lit≤ tt) w st)
 
-  pub says-cancelled : {a : InBlock} (b : InBlock) → a ≡ cancelled b → Written (max_first + max_record_lines) t at (answer_text (Ok tt) 0 []) next t'
-      → Stated a 0 t' next r t'' → Says (cancel_call b) t at r t''
+  pub says-cancelled : {a : InBlock} (b : InBlock) → a ≡ cancelled b → Wrote (max_first + max_record_lines) t (answer_text (Ok tt) 0 []) t'
+      → Stated a 0 t' r t'' → Says (cancel_call b) t r t''
   unfolding cancel_call
   says-cancelled b made w st =
-      subst (λ (x : InBlock). Says (answered (answer_text (Ok tt) 0 []) x 0) t at r t'') made (says-answered at (omega arith) (lit≤ tt) w st)
+      subst (λ (x : InBlock). Says (answered (answer_text (Ok tt) 0 []) x 0) t r t'') made (says-answered (lit≤ tt) w st)
 
 -- ---- Single calls
 
@@ -150,4 +140,3 @@ module _ (b : InBlock) (bytes log : List ℕ) (m : Memory) where
   bad-call (CompleteRow n) submit with_result without cancel hold make_up = refl
   bad-call (Time seconds microseconds) submit with_result without cancel hold make_up = refl
   bad-call (Captured bus address transfer_type) submit with_result without cancel hold make_up = refl
-  bad-call Bad submit with_result without cancel hold make_up = refl

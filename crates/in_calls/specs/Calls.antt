@@ -8,7 +8,8 @@ use Rattle.trb.specs.declared.SlotId.{SlotId}
 use Rattle.trb.specs.declared.TransferTrb.{TransferTrb}
 use Rattle.call_log.specs.Logs.{logged}
 use Rattle.guest_memory.specs.Places.{Memory, regions_of}
-use Rattle.numerals.specs.Written.{Written}
+use Rattle.text.specs.declared.Text.{Text}
+use Rattle.text.specs.Wrote.{Wrote}
 use Rattle.call_text.specs.Lines.{count_of}
 use Rattle.state_text.specs.Lines.{in_line}
 use Rattle.state_text.specs.Widths.{max_state}
@@ -30,7 +31,7 @@ use Rattle.in_endpoint.specs.Returned.{Completed}
 use Rattle.row_walk.specs.declared.TdResult.{TdResult}
 use Rattle.in_row.specs.Completion.{row_completion}
 use Rattle.in_row.specs.declared.TdsCompleted.{TdsCompleted}
-use Rattle.call_answer.specs.declared.EndpointRan.{EndpointRan}
+use Rattle.call_answer.specs.declared.Ran.{Ran}
 
 -- `st in STATE HELD`
 abbrev pub state_line : InBlock → List ℕ
@@ -115,9 +116,7 @@ in_call b other bytes log m = called (bad_said b) log m
 
 -- ---- Promises
 
--- the state line of the block b was written into the text t at index at, behind an answer of so many records
-pub record Stated (b : InBlock) (n : ℕ) (t : List ℕ) (at : ℕ) (r : EndpointRan InBlock) (t' : List ℕ) : Type 0 where
-  pub block : r.block ≡ b
-  pub records : r.records ≡ n
-  pub good : r.good ≡ true
-  pub text : Written max_state t at (state_line b) r.end t'
+-- the state line of the block b was written behind the text t, which has an answer of so many records
+pub record Stated (b : InBlock) (n : ℕ) (t : Text) (r : Ran InBlock) (t' : Text) : Type 0 where
+  pub ran : r ≡ record { left = b; records = n; good = true }
+  pub text : Wrote max_state t (state_line b) t'

@@ -1,32 +1,34 @@
 // The calls of a script on an IN endpoint.
 #![tactic(auto)]
 
-ghost use Rattle.std.specs.Prelude.{◌≡◌, ◌+◌, ◌≤◌, length};
+ghost use Rattle.std.specs.Prelude.{◌≡◌, ◌≤◌, length};
 ghost use Rattle.trb.specs.Limits.{min_row_log};
+ghost use Rattle.text.specs.Wrote.{HasRoom};
 ghost use Rattle.state_text.specs.Widths.{max_state, max_answer};
-ghost use Rattle.guest_memory.specs.Places.{memory_of};
+ghost use Rattle.guest_memory.specs.Lent.{seen, lent, SameRegions};
 ghost use Rattle.in_block.specs.Blocks.{with_state};
-ghost use Rattle.call_answer.specs.Called.{bad_said, silent_said, silent_ran, Says, Runs};
+ghost use Rattle.call_answer.specs.Called.{bad_said, silent_said, ran_of, Says, Runs};
 ghost use Rattle.in_calls.specs.Calls.{create_call, submit_call, complete_call, row_call, cancel_call, hold_call, result_of, result_call, in_call, Stated};
 
-use call_answer::EndpointRan;
+use call_answer::Ran;
 use call_script::{Call, DeviceStatus};
+use guest_memory::{GuestMemory, GuestView};
 use in_block::InBlock;
 use in_td::InMode;
 use row_walk::TdResult;
+use text::Text;
 use trb::{
     Answer, EndpointId, InTrbProcessingStatus, SlotId, TdBasedNormalSubmissionState, TransferTrb,
 };
 
 // Writes the state line, behind the answer of a call that logged so many records.
-fn answered(text: &mut [u8], at: usize, block: InBlock, records: usize) -> EndpointRan<InBlock>
-    requires { at + max_state ≤ length text.old }
-    ensures { Stated block records text.old at result text.new }
+fn answered(text: &mut Text<'_>, block: InBlock, records: usize) -> Ran<InBlock>
+    requires { HasRoom max_state text.old }
+    ensures { Stated block records text.old result text.new }
 {
-    let end = state_text::put_in_line(text, at, block.state, call_text::count(block.held));
-    EndpointRan {
-        block,
-        end,
+    state_text::put_in_line(text, block.state, call_text::count(block.held));
+    Ran {
+        left: block,
         records,
         good: true,
     }
@@ -34,70 +36,51 @@ fn answered(text: &mut [u8], at: usize, block: InBlock, records: usize) -> Endpo
 
 // Creates an IN endpoint and prints the answer.
 pub fn create(
-    text: &mut [u8],
-    at: usize,
+    text: &mut Text<'_>,
     endpoint_id: EndpointId,
     slot_id: SlotId,
     mode: InMode,
-) -> EndpointRan<InBlock>
-    requires { at + max_answer ≤ length text.old }
-    ensures { Says (create_call endpoint_id slot_id mode) text.old at result text.new }
+) -> Ran<InBlock>
+    requires { HasRoom max_answer text.old }
+    ensures { Says (create_call endpoint_id slot_id mode) text.old result text.new }
 {
     let created = in_endpoint::create(endpoint_id, slot_id, mode);
-    let next = call_answer::put_answer(text, at, created.answer, 0, &[]);
-    answered(text, next, created.block, 0)
+    call_answer::put_answer(text, created.answer, 0, &[]);
+    answered(text, created.block, 0)
 }
 
 fn submit(
-    text: &mut [u8],
-    at: usize,
+    text: &mut Text<'_>,
     log: &mut [u8],
     block: InBlock,
     t: TransferTrb,
-    low_base: u64,
-    low: &[u8],
-    high_base: u64,
-    high: &[u8],
-) -> EndpointRan<InBlock>
-    requires max_answer_in_bounds { at + max_answer ≤ length text.old }
+    memory: &GuestView<'_>,
+) -> Ran<InBlock>
+    requires has_room { HasRoom max_answer text.old }
     requires log_len_bound { length log.old ≤ min_row_log }
-    ensures { Runs (submit_call block t log.old (memory_of low_base low.now high_base high.now)) text.old at result text.new log.new (memory_of low_base low.now high_base high.now) }
+    ensures { Runs (submit_call block t log.old (seen memory.now)) text.old result text.new log.new (seen memory.now) }
 {
-    let submitted = in_submission::submit_trb(log, block, t, low_base, low, high_base, high);
-    let next = call_answer::put_answer(text, at, submitted.answer, submitted.records, log);
-    answered(text, next, submitted.block, submitted.records)
+    let submitted = in_submission::submit_trb(log, block, t, memory);
+    call_answer::put_answer(text, submitted.answer, submitted.records, log);
+    answered(text, submitted.block, submitted.records)
 }
 
 fn complete(
-    text: &mut [u8],
-    at: usize,
+    text: &mut Text<'_>,
     log: &mut [u8],
     block: InBlock,
     res: Option<InTrbProcessingStatus>,
     data: &[u8],
-    low_base: u64,
-    low: &mut [u8],
-    high_base: u64,
-    high: &mut [u8],
-) -> EndpointRan<InBlock>
-    requires max_answer_in_bounds { at + max_answer ≤ length text.old }
+    memory: &mut GuestMemory<'_>,
+) -> Ran<InBlock>
+    requires has_room { HasRoom max_answer text.old }
     requires log_len_bound { length log.old ≤ min_row_log }
-    ensures { Runs (complete_call block res «data».now log.old (memory_of low_base low.old high_base high.old)) text.old at result text.new log.new (memory_of low_base low.new high_base high.new) }
+    ensures answer { Runs (complete_call block res «data».now log.old (lent memory.old)) text.old result text.new log.new (lent memory.new) }
+    ensures same { SameRegions memory.old memory.new }
 {
     let completed = in_completion::next_completion(log, block, res, data);
-    let next = call_answer::put_completion(
-        text,
-        at,
-        completed.answer,
-        completed.records,
-        log,
-        data,
-        low_base,
-        low,
-        high_base,
-        high,
-    );
-    answered(text, next, completed.block, completed.records)
+    call_answer::put_completion(text, completed.answer, completed.records, log, data, memory);
+    answered(text, completed.block, completed.records)
 }
 
 // A device result of a script as an IN endpoint takes it; SuccessfulControlOut is none.
@@ -114,57 +97,51 @@ pub fn result_of(status: DeviceStatus) -> Option<InTrbProcessingStatus>
 }
 
 fn complete_with_result(
-    text: &mut [u8],
-    at: usize,
+    text: &mut Text<'_>,
     log: &mut [u8],
     block: InBlock,
     status: DeviceStatus,
     data: &[u8],
-    low_base: u64,
-    low: &mut [u8],
-    high_base: u64,
-    high: &mut [u8],
-) -> EndpointRan<InBlock>
-    requires max_answer_in_bounds { at + max_answer ≤ length text.old }
+    memory: &mut GuestMemory<'_>,
+) -> Ran<InBlock>
+    requires has_room { HasRoom max_answer text.old }
     requires log_len_bound { length log.old ≤ min_row_log }
-    ensures { Runs (result_call block (result_of status) «data».now log.old (memory_of low_base low.old high_base high.old)) text.old at result text.new log.new (memory_of low_base low.new high_base high.new) }
+    ensures answer { Runs (result_call block (result_of status) «data».now log.old (lent memory.old)) text.old result text.new log.new (lent memory.new) }
+    ensures same { SameRegions memory.old memory.new }
 {
     let result = result_of(status);
     match result {
-        None => call_answer::bad(block, at),
-        Some(_) => complete(
-            text, at, log, block, result, data, low_base, low, high_base, high,
-        ),
+        None => call_answer::bad(block),
+        Some(_) => complete(text, log, block, result, data, memory),
     }
 }
 
-fn cancel(text: &mut [u8], at: usize, block: InBlock) -> EndpointRan<InBlock>
-    requires { at + max_answer ≤ length text.old }
-    ensures { Says (cancel_call block) text.old at result text.new }
+fn cancel(text: &mut Text<'_>, block: InBlock) -> Ran<InBlock>
+    requires { HasRoom max_answer text.old }
+    ensures { Says (cancel_call block) text.old result text.new }
 {
-    let next = call_answer::put_answer(text, at, Ok(()), 0, &[]);
-    answered(text, next, in_endpoint::cancel(block), 0)
+    call_answer::put_answer(text, Ok(()), 0, &[]);
+    answered(text, in_endpoint::cancel(block), 0)
 }
 
-fn hold(at: usize, block: InBlock, t: TransferTrb) -> EndpointRan<InBlock>
-    ensures { result ≡ silent_ran (hold_call block t) at }
+fn hold(block: InBlock, t: TransferTrb) -> Ran<InBlock>
+    ensures { result ≡ ran_of (hold_call block t) }
 {
     if trb::MAX_HELD <= block.held {
-        return call_answer::bad(block, at);
+        return call_answer::bad(block);
     }
-    call_answer::silent(in_block::store(block, t), at)
+    call_answer::silent(in_block::store(block, t))
 }
 
-fn make_up(at: usize, block: InBlock, state: TdBasedNormalSubmissionState) -> EndpointRan<InBlock>
-    ensures { result ≡ silent_ran (silent_said (with_state block state)) at }
+fn make_up(block: InBlock, state: TdBasedNormalSubmissionState) -> Ran<InBlock>
+    ensures { result ≡ ran_of (silent_said (with_state block state)) }
 {
-    call_answer::silent(in_block::with_state(block, state), at)
+    call_answer::silent(in_block::with_state(block, state))
 }
 
 // A row of so many TRBs, with so many results; of the device's data so many bytes are given, if there are as many.
 pub fn complete_row(
-    text: &mut [u8],
-    at: usize,
+    text: &mut Text<'_>,
     log: &mut [u8],
     block: InBlock,
     row: [TransferTrb; trb::MAX_ROW],
@@ -172,68 +149,62 @@ pub fn complete_row(
     results: [TdResult; trb::MAX_ROW],
     tds: usize,
     data: &[u8],
-    low_base: u64,
-    low: &mut [u8],
-    high_base: u64,
-    high: &mut [u8],
-) -> EndpointRan<InBlock>
-    requires max_answer_in_bounds { at + max_answer ≤ length text.old }
+    memory: &mut GuestMemory<'_>,
+) -> Ran<InBlock>
+    requires has_room { HasRoom max_answer text.old }
     requires log_len_bound { length log.old ≤ min_row_log }
-    ensures { Runs (row_call block row count results tds «data».now log.old (memory_of low_base low.old high_base high.old)) text.old at result text.new log.new (memory_of low_base low.new high_base high.new) }
+    ensures answer { Runs (row_call block row count results tds «data».now log.old (lent memory.old)) text.old result text.new log.new (lent memory.new) }
+    ensures same { SameRegions memory.old memory.new }
 {
     let completed = in_row::complete_tds(
-        log, block, row, count, results, tds, low_base, low, high_base, high, data,
+        log,
+        block,
+        row,
+        count,
+        results,
+        tds,
+        &memory.view(),
+        data,
     );
-    let next = call_answer::put_row(
+    call_answer::put_row(
         text,
-        at,
         completed.answer,
         completed.finished,
         completed.records,
         log,
         data,
-        low_base,
-        low,
-        high_base,
-        high,
+        memory,
     );
-    answered(text, next, completed.block, completed.records)
+    answered(text, completed.block, completed.records)
 }
 
 // Makes a call on the endpoint. `data` is the device's data, of which the call says how much is given.
 pub fn run(
-    text: &mut [u8],
-    at: usize,
+    text: &mut Text<'_>,
     log: &mut [u8],
     block: InBlock,
     call: Call,
     data: &[u8],
-    low_base: u64,
-    low: &mut [u8],
-    high_base: u64,
-    high: &mut [u8],
-) -> EndpointRan<InBlock>
-    requires max_answer_in_bounds { at + max_answer ≤ length text.old }
+    memory: &mut GuestMemory<'_>,
+) -> Ran<InBlock>
+    requires has_room { HasRoom max_answer text.old }
     requires log_len_bound { length log.old ≤ min_row_log }
-    ensures { Runs (in_call block call «data».now log.old (memory_of low_base low.old high_base high.old)) text.old at result text.new log.new (memory_of low_base low.new high_base high.new) }
+    ensures answer { Runs (in_call block call «data».now log.old (lent memory.old)) text.old result text.new log.new (lent memory.new) }
+    ensures same { SameRegions memory.old memory.new }
 {
     match call {
-        Call::Submit(t) => submit(text, at, log, block, t, low_base, low, high_base, high),
+        Call::Submit(t) => submit(text, log, block, t, &memory.view()),
         Call::CompleteWithResult(status, n) => {
             let given = &data[..n.min(data.len())];
-            complete_with_result(
-                text, at, log, block, status, given, low_base, low, high_base, high,
-            )
+            complete_with_result(text, log, block, status, given, memory)
         }
         Call::CompleteWithout(n) => {
             let given = &data[..n.min(data.len())];
-            complete(
-                text, at, log, block, None, given, low_base, low, high_base, high,
-            )
+            complete(text, log, block, None, given, memory)
         }
-        Call::Cancel => cancel(text, at, block),
-        Call::Hold(t) => hold(at, block, t),
-        Call::MakeUpIn(state) => make_up(at, block, state),
-        _ => call_answer::bad(block, at),
+        Call::Cancel => cancel(text, block),
+        Call::Hold(t) => hold(block, t),
+        Call::MakeUpIn(state) => make_up(block, state),
+        _ => call_answer::bad(block),
     }
 }

@@ -9,7 +9,7 @@ use native.Mathlib.Omega.{arith}
 use lib.Dec.{leb, eqb}
 use borrow.Author.Tests.{eqb-true}
 use lib.ListN.{length}
-use Rattle.trb.specs.Answers.{number_of, completion_number, refusal_of, is_accepted as passed, said}
+use Rattle.trb.specs.Answers.{number_of, refusal_of, is_accepted as passed, said}
 use Rattle.trb.specs.Limits.{min_log, max_data}
 use Rattle.trb.specs.Questions.{first_no, agree}
 use Rattle.trb.specs.Answers.{Answer}
@@ -49,10 +49,10 @@ completed_as-by b e = ap (λ (x : Ending). completed_as x b) e
 -- ---- The answer
 
 module _ (a : Answer) (r : TrbProcessingResult) where
-  pub completion_answer-number : completion_number (completion_answer a r) ≡ number_of a
+  pub completion_answer-number : number_of (completion_answer a r) ≡ number_of a
   completion_answer-number = by_answer a
     where
-      by_answer : (a : Answer) → completion_number (completion_answer a r) ≡ number_of a
+      by_answer : (a : Answer) → number_of (completion_answer a r) ≡ number_of a
       by_answer (Ok tt) = refl
       by_answer (Err q) = refl
 
@@ -62,7 +62,7 @@ module _ (a : Answer) (r : TrbProcessingResult) where
   pub completion_answer-refused : passed a ≡ false → completion_answer a r ≡ Err (refusal_of (number_of a))
   completion_answer-refused e = ap (λ (x : Answer). completion_answer x r) (sym (refused-is a e))
 
-completed_as-number : (x : Ending) (b : InBlock) → completion_number (completed_as x b).state.answer ≡ 0
+completed_as-number : (x : Ending) (b : InBlock) → number_of (completed_as x b).state.answer ≡ 0
 unfolding transferred
 completed_as-number KeepCollecting b = refl
 completed_as-number (Transfer st n) b = refl
@@ -84,7 +84,7 @@ module _ (l : ℕ) (b : InBlock) (r : Option InTrbProcessingStatus) (n : ℕ) wh
   done = completed_as (ending_of b.state r n) b
 
   by-answers : (long sound due agreed short : Bool)
-      → completion_number (cond (eqb (number_by long sound due agreed short) 0) done (refused b (number_by long sound due agreed short))).state.answer ≡ number_by long sound due agreed short
+      → number_of (cond (eqb (number_by long sound due agreed short) 0) done (refused b (number_by long sound due agreed short))).state.answer ≡ number_by long sound due agreed short
   unfolding first_no refusal_of
   by-answers true true true true true = completed_as-number (ending_of b.state r n) b
   by-answers true true true true false = refl
@@ -93,7 +93,7 @@ module _ (l : ℕ) (b : InBlock) (r : Option InTrbProcessingStatus) (n : ℕ) wh
   by-answers true false due agreed short = refl
   by-answers false sound due agreed short = refl
 
-  pub completion-number : completion_number (completion l b r n).state.answer ≡ first_no (completion_questions l (facts_of b) r n)
+  pub completion-number : number_of (completion l b r n).state.answer ≡ first_no (completion_questions l (facts_of b) r n)
   unfolding completion completion_questions
   completion-number =
       by-answers (leb min_log l) (sound_block (facts_of b)) (not (submission_due b.state)) (agree (is_given r) (awaits_device b.state)) (leb n max_data)
@@ -150,6 +150,6 @@ accounted-completion l l' b res n r m waits accepts distinct isp last =
     rw (m.state, m.log, told.0, records_in-logged l 0 o.records (omega arith) m.fits) told.1
 
 -- the promise of a completion, by its number and what it came to
-pub completes : (l l' : List ℕ) (b : InBlock) (res : Option InTrbProcessingStatus) (n : ℕ) (r : call.Completed) → completion_number r.answer ≡ first_no (completion_questions (length l) (facts_of b) res n)
+pub completes : (l l' : List ℕ) (b : InBlock) (res : Option InTrbProcessingStatus) (n : ℕ) (r : call.Completed) → number_of r.answer ≡ first_no (completion_questions (length l) (facts_of b) res n)
     → Meets (completion (length l) b res n) 0 l r l' → Completes b res n l r l'
 completes l l' b res n r e m = record { number = e; met = m; result = ap (λ (x : call.Completed). said x.answer) m.state; account = accounted-completion l l' b res n r m }

@@ -1,7 +1,7 @@
 -- 01, Completion on an IN endpoint: what is done once every question was answered with yes; demand 3; and the promise of a call.
 -- Assumes nothing.
 use Rattle.std.specs.Prelude.{ℕ, ◌≡◌, Bool, true, false, List, [], ◌∷◌, length, Err, Ok, Option}
-use Rattle.trb.specs.Answers.{completion_number, refusal_of, said}
+use Rattle.trb.specs.Answers.{number_of, refusal_of, said}
 use Rattle.trb.specs.Questions.{first_no, after_questions}
 use Rattle.trb.specs.Answers.{Answer, CompletionAnswer}
 use Rattle.trb.specs.declared.CompletionCode.TheVariants as code
@@ -84,7 +84,7 @@ Accounted b n a rs =
 
 -- of a completion with the device result s, n bytes of data and the log l, which returned r and left the log l'
 pub record Completes (b : InBlock) (s : Option InTrbProcessingStatus) (n : ℕ) (l : List ℕ) (r : Completed) (l' : List ℕ) : Type 0 where
-  pub number : completion_number r.answer ≡ first_no (completion_questions (length l) (facts_of b) s n)
+  pub number : number_of r.answer ≡ first_no (completion_questions (length l) (facts_of b) s n)
   pub met : Meets (completion (length l) b s n) 0 l r l'
   pub result : said r.answer ≡ said (completion (length l) b s n).state.answer
   pub account : Accounted b n r.answer (records_in r.records l')

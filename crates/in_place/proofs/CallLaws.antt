@@ -7,7 +7,7 @@ use mathlib.Core.List.{List}
 use native.Mathlib.Omega.{arith}
 use lib.ListN.{length, take, get_or}
 use borrow.Author.Tests.{eqb-false, ne_eqb, le-leb}
-use Rattle.trb.specs.Answers.{number_of, is_accepted, refusal_of, completion_number}
+use Rattle.trb.specs.Answers.{number_of, is_accepted, refusal_of}
 use Rattle.trb.specs.Limits.{min_log, max_data}
 use Rattle.trb.specs.Refusals.{refusal_number}
 use Rattle.trb.specs.Questions.{first_no}
@@ -56,12 +56,12 @@ result_parts result.TransactionError n = (refl, refl)
 result_parts (result.TransactionErrorAt a c) n = (refl, refl)
 result_parts result.Disconnect n = (refl, refl)
 
-pub answer-parts : (a : CompletionAnswer) (n : ℕ) → ((completion_answered a n).number ≡ completion_number a) × ((completion_answered a n).records ≡ n)
+pub answer-parts : (a : CompletionAnswer) (n : ℕ) → ((completion_answered a n).number ≡ number_of a) × ((completion_answered a n).records ≡ n)
 answer-parts (Ok r) n = result_parts r n
 answer-parts (Err q) n = (refl, refl)
 
 -- the number 0 is that of an accepted completion
-pub accepted-zero : (a : CompletionAnswer) → completion_number a ≡ 0 → completions.is_accepted a ≡ true
+pub accepted-zero : (a : CompletionAnswer) → number_of a ≡ 0 → completions.is_accepted a ≡ true
 accepted-zero (Ok r) e = refl
 accepted-zero (Err q) e = absurd (eqb-false (refusal_number q) 0 (refusal_number-positive q) e)
 

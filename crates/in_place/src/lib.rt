@@ -71,16 +71,10 @@ fn goes_on(log_length: usize, block: &[u8], status: u8, data_length: usize) -> b
     requires { block_length ≤ length block.now }
     ensures { result ≡ true → GoesOn log_length (result_of status) data_length block.now }
 {
-    if status < 4 {
-        return false;
-    }
-    if !in_place_questions::is_sound_in(in_bytes::COLLECTING, block) {
-        return false;
-    }
-    if log_length < trb::MIN_LOG {
-        return false;
-    }
-    data_length <= trb::MAX_DATA
+    4 <= status
+        && in_place_questions::is_sound_in(in_bytes::COLLECTING, block)
+        && trb::MIN_LOG <= log_length
+        && data_length <= trb::MAX_DATA
 }
 
 // Completes what was submitted last; ports `next_completion` and the loop of `process_td`. Of the device's data only the length is asked

@@ -6,7 +6,7 @@ use mathlib.Core.Bool.{Bool, true, false}
 use mathlib.Core.List.{List}
 use native.Mathlib.Omega.{arith}
 use lib.ListN.{length, take}
-use Rattle.trb.specs.Answers.{number_of, is_accepted, refusal_of, completion_number}
+use Rattle.trb.specs.Answers.{number_of, is_accepted, refusal_of}
 use Rattle.trb.specs.Limits.{record_length}
 use Rattle.trb.specs.Questions.{first_no}
 use Rattle.trb.specs.Answers.{Answer}
@@ -47,7 +47,7 @@ module _ (s : Option InTrbProcessingStatus) (bytes l b : List ℕ) (m : Memory) 
       → DeliversInPlace (length l) s bytes l b m r l' b' m'
   in_place {r} {l'} {b'} {m'} c d said changed kept =
       let parts = answer-parts c.answer c.records in
-      let number : r.number ≡ completion_number c.answer = ap (λ (x : CompletionAnswered). x.number) said ∙ parts.0 in
+      let number : r.number ≡ number_of c.answer = ap (λ (x : CompletionAnswered). x.number) said ∙ parts.0 in
       let count : c.records ≡ r.records = sym (ap (λ (x : CompletionAnswered). x.records) said ∙ parts.1) in
       let accepted : r.number ≡ 0 → completions.is_accepted c.answer ≡ true = λ zero. accepted-zero c.answer (sym number ∙ zero) in
       record {

@@ -5,7 +5,7 @@ ghost use Rattle.std.specs.Prelude.{◌≡◌, ◌≤◌, length, take};
 ghost use Rattle.trb.specs.Answers.{number_of};
 ghost use Rattle.trb.specs.Limits.{max_held};
 ghost use Rattle.trb.specs.Questions.{first_no};
-ghost use Rattle.guest_memory.specs.Places.{memory_of};
+ghost use Rattle.guest_memory.specs.Lent.{lent, SameRegions};
 ghost use Rattle.in_bytes.specs.Layout.{block_length, places, block_of};
 ghost use Rattle.in_place_questions.specs.Lent.{lent_log};
 ghost use Rattle.in_place.specs.InPlace.{result_of};
@@ -14,7 +14,7 @@ ghost use Rattle.delivery.specs.Completing.{delivery_questions};
 ghost use Rattle.in_place_delivery.specs.Delivering.{DeliversInPlace};
 
 use answer_numbers::CompletionAnswered;
-use guest_memory::Regions;
+use guest_memory::{GuestMemory, Regions};
 use trb::{Answer, CompletionAnswer, InTrbProcessingStatus, Refusal, TrbProcessingResult};
 
 // Question 11, of the first `held` places: do their writes lie in one of the regions each, where the device has given so many bytes?
@@ -67,15 +67,13 @@ fn deliver(
     block: &mut [u8],
     res: Option<InTrbProcessingStatus>,
     data: &[u8],
-    low_base: u64,
-    low: &mut [u8],
-    high_base: u64,
-    high: &mut [u8],
+    memory: &mut GuestMemory<'_>,
 ) -> CompletionAnswered
     requires { block_length ≤ length block.old }
-    ensures { DeliversInPlace (length log.old) res «data».now log.old block.old (memory_of low_base low.old high_base high.old) result log.new block.new (memory_of low_base low.new high_base high.new) }
+    ensures delivered { DeliversInPlace (length log.old) res «data».now log.old block.old (lent memory.old) result log.new block.new (lent memory.new) }
+    ensures same { SameRegions memory.old memory.new }
 {
-    let regions = guest_memory::guest_regions(low_base, low.len(), high_base, high.len());
+    let regions = memory.regions();
     let asked = ask(log.len(), block, res, data.len(), regions);
     if asked.is_err() {
         let refused = in_endpoint::completion_answer(asked, TrbProcessingResult::Ok);
@@ -83,35 +81,24 @@ fn deliver(
     }
     let done = in_place::complete(log, block, res, data.len());
     // What is asked of a log was asked above: it is carried out.
-    let _ = delivery::carry_out_first(log, done.records, data, low_base, low, high_base, high);
+    let _ = delivery::carry_out_first(log, done.records, data, memory);
     done
 }
 
-// Completes what was submitted last, as `in_place::next_completion` does, and carries its log out on guest memory, the regions of `low`'s
-// and `high`'s bytes at their bases. Questions 1, 13, 2, 3, 8, 9, and last 11, before anything changes.
+// Completes what was submitted last, as `in_place::next_completion` does, and carries its log out on guest memory.
+// Questions 1, 13, 2, 3, 8, 9, and last 11, before anything changes.
 pub fn complete_and_carry_out(
     log: &mut [u8],
     block: &mut [u8],
     status: u8,
     data: &[u8],
-    low_base: u64,
-    low: &mut [u8],
-    high_base: u64,
-    high: &mut [u8],
+    memory: &mut GuestMemory<'_>,
 ) -> CompletionAnswered
-    ensures { DeliversInPlace (lent_log log.old block.old) (result_of status) «data».now log.old block.old (memory_of low_base low.old high_base high.old) result log.new block.new (memory_of low_base low.new high_base high.new) }
+    ensures delivered { DeliversInPlace (lent_log log.old block.old) (result_of status) «data».now log.old block.old (lent memory.old) result log.new block.new (lent memory.new) }
+    ensures same { SameRegions memory.old memory.new }
 {
     if block.len() < in_bytes::BLOCK {
         return answer_numbers::completed_as(Err(Refusal::BufferTooShort), 0);
     }
-    deliver(
-        log,
-        block,
-        in_place::result_of(status),
-        data,
-        low_base,
-        low,
-        high_base,
-        high,
-    )
+    deliver(log, block, in_place::result_of(status), data, memory)
 }

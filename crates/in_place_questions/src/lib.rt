@@ -16,6 +16,7 @@ use in_block::{BlockFacts, HeldTest};
 use trb::{Answer, InTrbProcessingStatus, TdBasedNormalSubmissionState};
 
 // The state of the block.
+#[tactic(auto, unfolding(in_bytes::specs::Layout::block_of))]
 pub fn state_of(block: &[u8]) -> TdBasedNormalSubmissionState
     requires { block_length ≤ length block.now }
     ensures { result ≡ (block_of block.now).state }

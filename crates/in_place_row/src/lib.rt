@@ -7,7 +7,6 @@ ghost use Rattle.trb.specs.Answers.{number_of};
 ghost use Rattle.trb.specs.Limits.{max_held, max_row};
 ghost use Rattle.trb.specs.Questions.{first_no};
 ghost use Rattle.call_log.specs.Calls.{Meets};
-ghost use Rattle.guest_memory.specs.Regions.{guest_regions};
 ghost use Rattle.in_td.specs.Normals.{requested};
 ghost use Rattle.in_block.specs.Facts.{facts_of};
 ghost use Rattle.held.specs.Places.{past_end};
@@ -28,6 +27,7 @@ use row_questions::RowTest;
 use row_walk::{RowProgress, TdAsk};
 use trb::{Answer, CompletionAnswer, EndpointId, Refusal, SlotId, TrbProcessingResult};
 
+// A number with the values beside it, since C reads it.
 // What a row answers: the number of the question that said no, or 0; the failing result, else Ok (0 Ok, 1 Stall, 2 transaction error, 3
 // disconnect), with its completion code; whether it carries an address and a cycle bit, and these; TDs finished well; records logged.
 #[repr(C)]
@@ -87,9 +87,7 @@ fn walk_row(
     let mut first = 0;
     for i in 0..tds {
         let given = row_bytes::result_at(results, i);
-        let looked = look_at_td(row, first);
-        let asked = looked.asked;
-        let end = looked.end;
+        let TdLooked { asked, end } = look_at_td(row, first);
         let head = row_bytes::trb_at(row, first);
         let records = row_walk::log_request(
             log,
@@ -244,17 +242,13 @@ pub fn complete_tds(
     block: &[u8],
     row: &[u8],
     results: &[u8],
+    regions: Regions,
     data_length: usize,
-    low_base: u64,
-    low_len: usize,
-    high_base: u64,
-    high_len: usize,
 ) -> RowAnswered
-    ensures { CompletesTdsInPlace (lent_log log.old block.now) block.now row.now results.now data_length (guest_regions low_base low_len high_base high_len) log.old result log.new }
+    ensures { CompletesTdsInPlace (lent_log log.old block.now) block.now row.now results.now data_length regions log.old result log.new }
 {
     if block.len() < in_bytes::BLOCK {
         return answered_as(Err(Refusal::BufferTooShort), 0, 0);
     }
-    let regions = guest_memory::guest_regions(low_base, low_len, high_base, high_len);
     complete(log, block, row, results, regions, data_length)
 }

@@ -4,7 +4,7 @@
 ghost use Rattle.std.specs.Prelude.{◌≡◌, true, not, [], ◌∷◌, ◌≤◌, ◌<◌, length, take};
 ghost use Rattle.trb.specs.Limits.{max_held, min_log};
 ghost use Rattle.call_log.specs.Calls.{Put};
-ghost use Rattle.guest_memory.specs.Regions.{guest_regions, share_an_address};
+ghost use Rattle.guest_memory.specs.Regions.{share_an_address};
 ghost use Rattle.in_block.specs.Facts.{held_test};
 ghost use Rattle.in_block.specs.Outcomes.{outcome_of};
 ghost use Rattle.in_endpoint.specs.Submission.{request_of};
@@ -89,7 +89,8 @@ fn share_none(regions: Regions) -> bool
     regions.high.len == 0 || !guest_memory::share_an_address(regions)
 }
 
-// Is it a Normal with chain on, and does every question say yes? So it is of every TRB of a long TD but the last, in a few tests.
+// Is it a Normal with chain on, and does every question say yes? So it is of every TRB of a long TD but the last, in a few tests. They stand one behind the
+// other: as one condition its proof would take five joins apart, one inside the other.
 fn is_collected(log_length: usize, block: &[u8], numbers: TrbNumbers, regions: Regions) -> bool
     requires { block_length ≤ length block.now }
     ensures { result ≡ true → Collected log_length block.now (trb_of numbers) regions }
@@ -120,22 +121,18 @@ fn is_collected(log_length: usize, block: &[u8], numbers: TrbNumbers, regions: R
     answer.is_ok()
 }
 
-// Takes a TRB, given by numbers; ports `submit_trb`. Of guest memory only the regions' bases and lengths are asked for.
+// Takes a TRB, given by numbers; ports `submit_trb`. Of guest memory no byte is asked for.
 pub fn submit_trb(
     log: &mut [u8],
     block: &mut [u8],
     numbers: TrbNumbers,
-    low_base: u64,
-    low_len: usize,
-    high_base: u64,
-    high_len: usize,
+    regions: Regions,
 ) -> Answered
-    ensures { SubmitsInPlace (lent_log log.old block.old) (trb_of numbers) (guest_regions low_base low_len high_base high_len) log.old block.old result log.new block.new }
+    ensures { SubmitsInPlace (lent_log log.old block.old) (trb_of numbers) regions log.old block.old result log.new block.new }
 {
     if block.len() < in_bytes::BLOCK {
         return answer_numbers::answered_as(Err(Refusal::BufferTooShort), 0);
     }
-    let regions = guest_memory::guest_regions(low_base, low_len, high_base, high_len);
     if is_collected(log.len(), block, numbers, regions) {
         let held = buffers::le16(block, 4);
         in_place_store::store(block, held, numbers, in_bytes::COLLECTING);

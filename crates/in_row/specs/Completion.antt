@@ -1,6 +1,6 @@
 -- 02, R-7: what is done of a row once every question was answered with yes, and the promise of the call. Assumes nothing.
 use Rattle.std.specs.Prelude.{ℕ, ◌≡◌, true, List, length, Err, Ok}
-use Rattle.trb.specs.Answers.{completion_number, refusal_of, said}
+use Rattle.trb.specs.Answers.{number_of, refusal_of, said}
 use Rattle.trb.specs.Questions.{first_no, after_questions}
 use Rattle.trb.specs.Answers.{CompletionAnswer}
 use Rattle.trb.specs.declared.TdBasedNormalSubmissionState.TheVariants.{SubmissionDue}
@@ -49,7 +49,7 @@ AccountedTds ts rs r log = is_accepted r.answer ≡ true → RowAccounted (row_t
 
 -- of a row with the log l, which returned r and left the log l'
 pub record CompletesTds (b : InBlock) (k : ℕ) (ts : List TransferTrb) (m : ℕ) (rs : List TdResult) (n : ℕ) (regions : Regions) (l : List ℕ) (r : TdsCompleted) (l' : List ℕ) : Type 0 where
-  pub number : completion_number r.answer ≡ first_no (row_questions (length l) regions (facts_of b) k ts m rs n)
+  pub number : number_of r.answer ≡ first_no (row_questions (length l) regions (facts_of b) k ts m rs n)
   pub met : Meets (row_completion (length l) b k ts m rs n regions) 0 l r l'
   pub result : said r.answer ≡ said (row_completion (length l) b k ts m rs n regions).state.answer
   pub account : AccountedTds ts rs r (records_in r.records l')

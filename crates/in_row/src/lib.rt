@@ -2,9 +2,11 @@
 #![tactic(auto)]
 
 ghost use Rattle.std.specs.Prelude.{length, take};
-ghost use Rattle.guest_memory.specs.Regions.{guest_regions};
+ghost use Rattle.guest_memory.specs.Places.{regions_of};
+ghost use Rattle.guest_memory.specs.Lent.{seen};
 ghost use Rattle.in_row.specs.Completion.{CompletesTds};
 
+use guest_memory::GuestView;
 use in_block::InBlock;
 use row_walk::TdResult;
 use trb::{CompletionAnswer, TransferTrb, TrbProcessingResult};
@@ -19,7 +21,7 @@ pub struct TdsCompleted {
 }
 
 // Completes a row of `count` TRBs, whole TDs with a result for each and the data joined, on an endpoint that holds nothing. Of the data and
-// of guest memory only lengths and bases are read.
+// of guest memory only lengths and bases are read. The counts stand beside the places, since a row of more than there are is refused.
 pub fn complete_tds(
     log: &mut [u8],
     block: InBlock,
@@ -27,16 +29,13 @@ pub fn complete_tds(
     count: usize,
     results: [TdResult; trb::MAX_ROW],
     tds: usize,
-    low_base: u64,
-    low: &[u8],
-    high_base: u64,
-    high: &[u8],
+    memory: &GuestView<'_>,
     data: &[u8],
 ) -> TdsCompleted
-    ensures { CompletesTds block count (take count row) tds (take tds results) (length «data».now) (guest_regions low_base (length low.now) high_base (length high.now)) log.old result log.new }
+    ensures { CompletesTds block count (take count row) tds (take tds results) (length «data».now) (regions_of (seen memory.now)) log.old result log.new }
 {
     let facts = in_block::facts_of(&block);
-    let regions = guest_memory::guest_regions(low_base, low.len(), high_base, high.len());
+    let regions = memory.regions();
     let tested = row_questions::places(count);
     let mut test = row_questions::untested();
     for t in &row[..tested] {

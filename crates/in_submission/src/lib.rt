@@ -4,10 +4,12 @@
 ghost use Rattle.std.specs.Prelude.{[], ◌∷◌, ◌<◌, ◌≤◌, ◌^◌, length};
 ghost use Rattle.trb.specs.Limits.{min_log};
 ghost use Rattle.call_log.specs.Calls.{Put};
-ghost use Rattle.guest_memory.specs.Regions.{guest_regions};
+ghost use Rattle.guest_memory.specs.Places.{regions_of};
+ghost use Rattle.guest_memory.specs.Lent.{seen};
 ghost use Rattle.in_td.specs.Normals.{requested};
 ghost use Rattle.in_endpoint.specs.Submission.{request_of, Submits};
 
+use guest_memory::GuestView;
 use in_block::{InBlock, Outcome};
 use in_endpoint::Submitted;
 use trb::{EndpointId, SlotId, TransferTrb};
@@ -28,15 +30,12 @@ pub fn submit_trb(
     log: &mut [u8],
     mut block: InBlock,
     t: TransferTrb,
-    low_base: u64,
-    low: &[u8],
-    high_base: u64,
-    high: &[u8],
+    memory: &GuestView<'_>,
 ) -> Submitted
-    ensures { Submits block t (guest_regions low_base (length low.now) high_base (length high.now)) log.old result log.new }
+    ensures { Submits block t (regions_of (seen memory.now)) log.old result log.new }
 {
     let facts = in_block::facts_of(&block);
-    let regions = guest_memory::guest_regions(low_base, low.len(), high_base, high.len());
+    let regions = memory.regions();
     let answer = in_questions::ask_submission(log.len(), facts, t, regions);
     if answer.is_err() {
         return Submitted {

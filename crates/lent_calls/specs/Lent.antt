@@ -1,9 +1,10 @@
 -- A call with the first so many bytes of each buffer: the rest stays as it was. Assumes nothing.
 use Rattle.std.specs.Prelude.{ℕ, ◌≡◌, List, ◌++◌, take, drop}
+use Rattle.text.specs.declared.Text.{Text}
 use Rattle.guest_memory.specs.Places.{Memory, memory_of}
 use Rattle.call_answer.specs.Called.{Called, Says}
 use Rattle.in_block.specs.declared.InBlock.{InBlock}
-use Rattle.call_answer.specs.declared.EndpointRan.{EndpointRan}
+use Rattle.call_answer.specs.declared.Ran.{Ran}
 use Rattle.control_block.specs.declared.ControlBlock.{ControlBlock}
 use Rattle.lent_calls.specs.declared.Lent.{Lent}
 
@@ -22,12 +23,12 @@ pub record Leaves {B : Type 0} (o : Called B) (l : Lent) (g g' a a' b b' : List 
   pub high : b' ≡ behind_lent l.high b o.memory.high
 
 -- of a call on an IN endpoint
-pub record RunsLent (o : Called InBlock) (l : Lent) (t : List ℕ) (at : ℕ) (r : EndpointRan InBlock) (t' log log' low low' high high' : List ℕ) : Type 0 where
-  pub says : Says o.said t at r t'
+pub record RunsLent (o : Called InBlock) (l : Lent) (t : Text) (r : Ran InBlock) (t' : Text) (log log' low low' high high' : List ℕ) : Type 0 where
+  pub says : Says o.said t r t'
   pub leaves : Leaves o l log log' low low' high high'
 
 -- of a call on a control endpoint, which was to leave this collect buffer
-pub record RunsControlLent (o : Called ControlBlock) (collect : List ℕ) (l : Lent) (t : List ℕ) (at : ℕ) (r : EndpointRan ControlBlock) (t' log log' collect' low low' high high' : List ℕ) : Type 0 where
-  pub says : Says o.said t at r t'
+pub record RunsControlLent (o : Called ControlBlock) (collect : List ℕ) (l : Lent) (t : Text) (r : Ran ControlBlock) (t' : Text) (log log' collect' low low' high high' : List ℕ) : Type 0 where
+  pub says : Says o.said t r t'
   pub collected : collect' ≡ collect
   pub leaves : Leaves o l log log' low low' high high'

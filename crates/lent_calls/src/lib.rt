@@ -1,18 +1,21 @@
 // The calls of a script on an endpoint, with as much of each buffer as the script lends.
 #![tactic(auto)]
 
-ghost use Rattle.std.specs.Prelude.{◌≡◌, ◌+◌, ◌≤◌, length, take};
+ghost use Rattle.std.specs.Prelude.{◌≡◌, ◌≤◌, length, take};
 ghost use Rattle.trb.specs.Limits.{min_row_log};
+ghost use Rattle.text.specs.Wrote.{HasRoom};
 ghost use Rattle.state_text.specs.Widths.{max_answer};
 ghost use Rattle.in_calls.specs.Calls.{in_call, row_call};
 ghost use Rattle.control_calls.specs.Calls.{control_call, collect_behind};
 ghost use Rattle.lent_calls.specs.Lent.{lent_memory, RunsLent, RunsControlLent};
 
-use call_answer::EndpointRan;
+use call_answer::Ran;
 use call_script::Call;
 use control_block::ControlBlock;
+use guest_memory::GuestMemory;
 use in_block::InBlock;
 use row_walk::TdResult;
+use text::Text;
 use trb::TransferTrb;
 
 // How much is lent: bytes of the log and of the collect buffer, and the bases and lengths of the regions.
@@ -28,8 +31,7 @@ pub struct Lent {
 
 // A call on an IN endpoint.
 pub fn run_in(
-    text: &mut [u8],
-    at: usize,
+    text: &mut Text<'_>,
     lent: Lent,
     block: InBlock,
     call: Call,
@@ -37,32 +39,28 @@ pub fn run_in(
     data: &[u8],
     low: &mut [u8],
     high: &mut [u8],
-) -> EndpointRan<InBlock>
-    requires max_answer_in_bounds { at + max_answer ≤ length text.old }
+) -> Ran<InBlock>
+    requires has_room { HasRoom max_answer text.old }
     requires log_len_bound { length log.old ≤ min_row_log }
-    ensures { RunsLent (in_call block call «data».now (take lent.log log.old) (lent_memory lent low.old high.old)) lent text.old at result text.new log.old log.new low.old low.new high.old high.new }
+    ensures { RunsLent (in_call block call «data».now (take lent.log log.old) (lent_memory lent low.old high.old)) lent text.old result text.new log.old log.new low.old low.new high.old high.new }
 {
     let log_end = lent.log.min(log.len());
     let low_end = lent.low.min(low.len());
     let high_end = lent.high.min(high.len());
-    in_calls::run(
-        text,
-        at,
-        &mut log[..log_end],
-        block,
-        call,
-        data,
-        lent.low_base,
-        &mut low[..low_end],
-        lent.high_base,
-        &mut high[..high_end],
-    )
+    let (low_lent, _) = low.split_at_mut(low_end);
+    let (high_lent, _) = high.split_at_mut(high_end);
+    let mut memory = GuestMemory {
+        low_base: lent.low_base,
+        low: low_lent,
+        high_base: lent.high_base,
+        high: high_lent,
+    };
+    in_calls::run(text, &mut log[..log_end], block, call, data, &mut memory)
 }
 
 // A row of so many TRBs, with so many results and so many bytes of the device's data.
 pub fn run_row(
-    text: &mut [u8],
-    at: usize,
+    text: &mut Text<'_>,
     lent: Lent,
     block: InBlock,
     row: [TransferTrb; trb::MAX_ROW],
@@ -74,18 +72,25 @@ pub fn run_row(
     data: &[u8],
     low: &mut [u8],
     high: &mut [u8],
-) -> EndpointRan<InBlock>
-    requires max_answer_in_bounds { at + max_answer ≤ length text.old }
+) -> Ran<InBlock>
+    requires has_room { HasRoom max_answer text.old }
     requires log_len_bound { length log.old ≤ min_row_log }
-    ensures { RunsLent (row_call block row count results tds (take bytes «data».now) (take lent.log log.old) (lent_memory lent low.old high.old)) lent text.old at result text.new log.old log.new low.old low.new high.old high.new }
+    ensures { RunsLent (row_call block row count results tds (take bytes «data».now) (take lent.log log.old) (lent_memory lent low.old high.old)) lent text.old result text.new log.old log.new low.old low.new high.old high.new }
 {
     let log_end = lent.log.min(log.len());
     let low_end = lent.low.min(low.len());
     let high_end = lent.high.min(high.len());
     let given = bytes.min(data.len());
+    let (low_lent, _) = low.split_at_mut(low_end);
+    let (high_lent, _) = high.split_at_mut(high_end);
+    let mut memory = GuestMemory {
+        low_base: lent.low_base,
+        low: low_lent,
+        high_base: lent.high_base,
+        high: high_lent,
+    };
     in_calls::complete_row(
         text,
-        at,
         &mut log[..log_end],
         block,
         row,
@@ -93,17 +98,13 @@ pub fn run_row(
         results,
         tds,
         &data[..given],
-        lent.low_base,
-        &mut low[..low_end],
-        lent.high_base,
-        &mut high[..high_end],
+        &mut memory,
     )
 }
 
 // A call on a control endpoint.
 pub fn run_control(
-    text: &mut [u8],
-    at: usize,
+    text: &mut Text<'_>,
     lent: Lent,
     block: ControlBlock,
     call: Call,
@@ -112,26 +113,30 @@ pub fn run_control(
     data: &[u8],
     low: &mut [u8],
     high: &mut [u8],
-) -> EndpointRan<ControlBlock>
-    requires max_answer_in_bounds { at + max_answer ≤ length text.old }
+) -> Ran<ControlBlock>
+    requires has_room { HasRoom max_answer text.old }
     requires log_len_bound { length log.old ≤ min_row_log }
-    ensures { RunsControlLent (control_call block call «data».now lent.collect collect.old (take lent.log log.old) (lent_memory lent low.old high.old)) (collect_behind block call lent.collect collect.old (take lent.log log.old) (lent_memory lent low.old high.old)) lent text.old at result text.new log.old log.new collect.new low.old low.new high.old high.new }
+    ensures { RunsControlLent (control_call block call «data».now lent.collect collect.old (take lent.log log.old) (lent_memory lent low.old high.old)) (collect_behind block call lent.collect collect.old (take lent.log log.old) (lent_memory lent low.old high.old)) lent text.old result text.new log.old log.new collect.new low.old low.new high.old high.new }
 {
     let log_end = lent.log.min(log.len());
     let low_end = lent.low.min(low.len());
     let high_end = lent.high.min(high.len());
+    let (low_lent, _) = low.split_at_mut(low_end);
+    let (high_lent, _) = high.split_at_mut(high_end);
+    let mut memory = GuestMemory {
+        low_base: lent.low_base,
+        low: low_lent,
+        high_base: lent.high_base,
+        high: high_lent,
+    };
     control_calls::run(
         text,
-        at,
         &mut log[..log_end],
         collect,
         lent.collect,
         block,
         call,
         data,
-        lent.low_base,
-        &mut low[..low_end],
-        lent.high_base,
-        &mut high[..high_end],
+        &mut memory,
     )
 }

@@ -42,19 +42,18 @@ pub fn completion_layer<A, B: Copy, X, F: FnOnce(&mut [u8], B, X, &[u8]) -> Retu
     }
 }
 
-// The layer of a submission, likewise.
-pub fn submission_layer<
-    A,
-    B: Copy,
-    X,
-    Y,
-    Z,
-    F: FnOnce(&mut [u8], B, X, Y, &[u8], Z, &[u8]) -> Returned<A, B>,
->(log: &mut [u8], block: &mut B, x: X, y: Y, low: &[u8], z: Z, high: &[u8], callee: F) -> Logged<A>
-    requires { TakesSubmission F.FnOnce callee log.old block.old x y low.now z high.now }
-    ensures { SubmitsBy F.FnOnce callee log.old block.old x y low.now z high.now result block.new log.new }
+// The layer of a submission, likewise, with guest memory lent to be read.
+pub fn submission_layer<A, B: Copy, X, M, F: FnOnce(&mut [u8], B, X, &M) -> Returned<A, B>>(
+    log: &mut [u8],
+    block: &mut B,
+    x: X,
+    memory: &M,
+    callee: F,
+) -> Logged<A>
+    requires { TakesSubmission F.FnOnce callee log.old block.old x memory.now }
+    ensures { SubmitsBy F.FnOnce callee log.old block.old x memory.now result block.new log.new }
 {
-    let r = callee(log, *block, x, y, low, z, high);
+    let r = callee(log, *block, x, memory);
     *block = r.block;
     Logged {
         answer: r.answer,
@@ -67,24 +66,13 @@ pub fn collecting_layer<
     A,
     B: Copy,
     X,
-    Y,
-    Z,
-    F: FnOnce(&mut [u8], &mut [u8], B, X, Y, &[u8], Z, &[u8]) -> Returned<A, B>,
->(
-    log: &mut [u8],
-    collect: &mut [u8],
-    block: &mut B,
-    x: X,
-    y: Y,
-    low: &[u8],
-    z: Z,
-    high: &[u8],
-    callee: F,
-) -> Logged<A>
-    requires { TakesCollecting F.FnOnce callee log.old collect.old block.old x y low.now z high.now }
-    ensures { CollectsBy F.FnOnce callee log.old collect.old block.old x y low.now z high.now result block.new log.new collect.new }
+    M,
+    F: FnOnce(&mut [u8], &mut [u8], B, X, &M) -> Returned<A, B>,
+>(log: &mut [u8], collect: &mut [u8], block: &mut B, x: X, memory: &M, callee: F) -> Logged<A>
+    requires { TakesCollecting F.FnOnce callee log.old collect.old block.old x memory.now }
+    ensures { CollectsBy F.FnOnce callee log.old collect.old block.old x memory.now result block.new log.new collect.new }
 {
-    let r = callee(log, collect, *block, x, y, low, z, high);
+    let r = callee(log, collect, *block, x, memory);
     *block = r.block;
     Logged {
         answer: r.answer,

@@ -1,6 +1,6 @@
 -- 02, R-9: what compacting a log in its own buffer answers, and the buffer afterwards. Assumes nothing.
 use Rattle.std.specs.Prelude.{ℕ, ◌*◌, ◌-◌, ◌≤◌, Bool, ◌≡◌, List, [], ◌∷◌, ◌++◌, length, replicate, Result, Ok, Err}
-use Rattle.trb.specs.Answers.{refusal_of}
+use Rattle.trb.specs.Answers.{number_of, refusal_of}
 use Rattle.trb.specs.Limits.{record_length}
 use Rattle.trb.specs.Questions.{first_no, after_questions}
 use Rattle.trb.specs.Refusals.{refusal_number}
@@ -23,11 +23,6 @@ kept_bytes log = bytes_of (compacted (rows_of log))
 unfoldable pub padded_to : ℕ → List (List ℕ) → List ℕ
 padded_to n rs = bytes_of rs ++ replicate (n - record_length * length rs) 0
 
--- the number of an answer: 0 where the log is compacted
-abbrev pub compact_number : Result ℕ Refusal → ℕ
-compact_number (Ok n) = 0
-compact_number (Err r) = refusal_number r
-
 -- 02, R-9: a malformed log is refused with 10
 abbrev pub compact_questions : List ℕ → List (Bool × ℕ)
 compact_questions log = (well_formed log, 10) ∷ []
@@ -42,6 +37,6 @@ log_after log = after_questions (compact_questions log) (λ n. log) (padded_to (
 
 -- of a call of compact with a log: it answered r and left log'
 pub record Compacts (log : List ℕ) (r : Result ℕ Refusal) (log' : List ℕ) : Type 0 where
-  pub number : compact_number r ≡ first_no (compact_questions log)
+  pub number : number_of r ≡ first_no (compact_questions log)
   pub answer : r ≡ answer_of log
   pub after : log' ≡ log_after log

@@ -4,7 +4,7 @@ use Rattle.buffers.specs.Patch.{patch}
 use Rattle.trb.specs.Limits.{record_length, max_printed_log}
 use Rattle.trb.specs.declared.Refusal.{Refusal}
 use Rattle.trb.specs.declared.Refusal.TheVariants.{MalformedLog}
-use Rattle.trb.specs.Answers.{refusal_of}
+use Rattle.trb.specs.Answers.{number_of, refusal_of}
 use Rattle.trb.specs.Questions.{first_no, after_questions}
 use Rattle.trb.specs.Refusals.{refusal_number}
 use Rattle.numerals.specs.Digits.{decimal_of}
@@ -36,18 +36,13 @@ print_questions t = (leb max_text (length t), 1) ∷ []
 unfoldable pub printed : List ℕ → List ℕ → Result ℕ Refusal
 printed l t = after_questions (print_questions t) (λ n. Err (refusal_of n)) (Ok (length (log_text l)))
 
--- the number of an answer: 0 where the log is printed
-abbrev pub print_number : Result ℕ Refusal → ℕ
-print_number (Ok n) = 0
-print_number (Err r) = refusal_number r
-
 -- the text buffer afterwards: unchanged after a no
 unfoldable pub text_after : List ℕ → List ℕ → List ℕ
 text_after l t = after_questions (print_questions t) (λ n. t) (patch t 0 (log_text l))
 
 -- of a call of print_log with the log l and the text buffer t: it returned r and left the buffer t', in which the text lies
 pub record Prints (l t : List ℕ) (r : Result ℕ Refusal) (t' : List ℕ) : Type 0 where
-  pub number : print_number r ≡ first_no (print_questions t)
+  pub number : number_of r ≡ first_no (print_questions t)
   pub printed : r ≡ printed l t
   pub text : t' ≡ text_after l t
   pub within : IfOk r (λ n. n ≤ length t')

@@ -1,22 +1,21 @@
 // The text of a log, printed into a lent buffer.
 #![tactic(auto)]
 
-ghost use Rattle.std.specs.Prelude.{◌≡◌, ◌≤◌, length};
-ghost use Rattle.numerals.specs.Written.{Written};
+ghost use Rattle.std.specs.Prelude.{◌≡◌, length};
+ghost use Rattle.text.specs.Wrote.{HasRoom, Wrote};
 ghost use Rattle.log_text.specs.Widths.{max_text};
 ghost use Rattle.log_print.specs.LogText.{refused_text, printable, log_text, Prints};
 
+use text::Text;
 use trb::Refusal;
 
 // Writes what a log that is refused prints.
 #[tactic(auto, unfolding(numerals::specs::Digits::digit_char, numerals::specs::Digits::digits, numerals::specs::Digits::trimmed, numerals::specs::Digits::decimal_of, crate::specs::LogText::refused_text))]
-fn put_refused(text: &mut [u8]) -> usize
-    requires { max_text ≤ length text.old }
-    ensures { Written max_text text.old 0 refused_text result text.new }
+fn put_refused(text: &mut Text<'_>)
+    requires { HasRoom max_text text.old }
+    ensures { Wrote max_text text.old refused_text text.new }
 {
-    let refused = b"refused 10\n";
-    buffers::copy_into(text, 0, refused);
-    refused.len()
+    text.put_word(b"refused 10\n");
 }
 
 // Is the log one that is printed?
@@ -28,14 +27,14 @@ fn printable(log: &[u8]) -> bool
 }
 
 // Writes the text of a log.
-fn put_log(text: &mut [u8], log: &[u8]) -> usize
-    requires { max_text ≤ length text.old }
-    ensures { Written max_text text.old 0 (log_text log.now) result text.new }
+fn put_log(text: &mut Text<'_>, log: &[u8])
+    requires { HasRoom max_text text.old }
+    ensures { Wrote max_text text.old (log_text log.now) text.new }
 {
     if printable(log) {
-        log_text::put_lines(text, 0, log)
+        log_text::put_lines(text, log);
     } else {
-        put_refused(text)
+        put_refused(text);
     }
 }
 
@@ -52,5 +51,10 @@ pub fn print_log(log: &[u8], text: &mut [u8]) -> Result<usize, Refusal>
     ensures { Prints log.now text.old result text.new }
 {
     trb::ask(log_text::MAX_TEXT <= text.len(), Refusal::BufferTooShort)?;
-    Ok(put_log(text, log))
+    let mut text = Text {
+        bytes: text,
+        end: 0,
+    };
+    put_log(&mut text, log);
+    Ok(text.end)
 }

@@ -5,11 +5,12 @@ ghost use Rattle.std.specs.Prelude.{◌≡◌, ◌+◌, ◌*◌, ◌/◌, ◌≤
 ghost use Rattle.trb.specs.Limits.{record_length};
 ghost use Rattle.numerals.specs.Digits.{decimal_of, hex_of};
 ghost use Rattle.numerals.specs.Widths.{decimal_places, hex_places};
-ghost use Rattle.numerals.specs.Written.{Written};
+ghost use Rattle.text.specs.Wrote.{HasRoom, Wrote};
 ghost use Rattle.log_text.specs.Widths.{max_kinds, max_ids, max_numbers, max_fields, max_line, lines_room, text_limits};
 ghost use Rattle.log_text.specs.Lines.{field, kind_fields, id_fields, number_fields, fields_of, line_of, lines_in};
 
 use call_log::Record;
+use text::Text;
 
 // ---- Limits: each has this name here and one in specs/Widths.antt; `text_limits` ties the two.
 
@@ -38,85 +39,83 @@ pub fn text_limits() -> TextLimits
 // ---- Lines
 
 // Writes a number in decimal and a space behind it.
-fn put_decimal_field(text: &mut [u8], at: usize, n: u32) -> usize
-    requires { at + (decimal_places + 1) ≤ length text.old }
-    ensures { Written (decimal_places + 1) text.old at (field (decimal_of n)) result text.new }
+fn put_decimal_field(text: &mut Text<'_>, n: u32)
+    requires { HasRoom (decimal_places + 1) text.old }
+    ensures { Wrote (decimal_places + 1) text.old (field (decimal_of n)) text.new }
 {
-    let next = written_numbers::put_decimal(text, at, n);
-    numerals::put_char(text, next, b' ')
+    written_numbers::put_decimal(text, n);
+    text.put_char(b' ');
 }
 
 // Writes a number in hex and a space behind it.
-fn put_hex_field(text: &mut [u8], at: usize, n: u64) -> usize
-    requires { at + (hex_places + 1) ≤ length text.old }
-    ensures { Written (hex_places + 1) text.old at (field (hex_of n)) result text.new }
+fn put_hex_field(text: &mut Text<'_>, n: u64)
+    requires { HasRoom (hex_places + 1) text.old }
+    ensures { Wrote (hex_places + 1) text.old (field (hex_of n)) text.new }
 {
-    let next = written_numbers::put_hex(text, at, n);
-    numerals::put_char(text, next, b' ')
+    written_numbers::put_hex(text, n);
+    text.put_char(b' ');
 }
 
 // Writes kind, code and flag.
-fn put_kinds(text: &mut [u8], at: usize, record: Record) -> usize
-    requires { at + max_kinds ≤ length text.old }
-    ensures { Written max_kinds text.old at (kind_fields «record») result text.new }
+fn put_kinds(text: &mut Text<'_>, record: Record)
+    requires { HasRoom max_kinds text.old }
+    ensures { Wrote max_kinds text.old (kind_fields «record») text.new }
 {
-    let code_at = put_decimal_field(text, at, record.kind as u32);
-    let flag_at = put_decimal_field(text, code_at, record.code as u32);
-    put_decimal_field(text, flag_at, record.flag as u32)
+    put_decimal_field(text, record.kind as u32);
+    put_decimal_field(text, record.code as u32);
+    put_decimal_field(text, record.flag as u32);
 }
 
 // Writes endpoint and slot.
-fn put_ids(text: &mut [u8], at: usize, record: Record) -> usize
-    requires { at + max_ids ≤ length text.old }
-    ensures { Written max_ids text.old at (id_fields «record») result text.new }
+fn put_ids(text: &mut Text<'_>, record: Record)
+    requires { HasRoom max_ids text.old }
+    ensures { Wrote max_ids text.old (id_fields «record») text.new }
 {
-    let slot_at = put_decimal_field(text, at, record.endpoint_id.0 as u32);
-    put_decimal_field(text, slot_at, record.slot_id.0 as u32)
+    put_decimal_field(text, record.endpoint_id.0 as u32);
+    put_decimal_field(text, record.slot_id.0 as u32);
 }
 
 // Writes address, length and start.
-fn put_numbers(text: &mut [u8], at: usize, record: Record) -> usize
-    requires { at + max_numbers ≤ length text.old }
-    ensures { Written max_numbers text.old at (number_fields «record») result text.new }
+fn put_numbers(text: &mut Text<'_>, record: Record)
+    requires { HasRoom max_numbers text.old }
+    ensures { Wrote max_numbers text.old (number_fields «record») text.new }
 {
-    let length_at = put_hex_field(text, at, record.address);
-    let start_at = put_decimal_field(text, length_at, record.length);
-    put_decimal_field(text, start_at, record.start)
+    put_hex_field(text, record.address);
+    put_decimal_field(text, record.length);
+    put_decimal_field(text, record.start);
 }
 
 // Writes the fields of a record but its last bytes.
-fn put_fields(text: &mut [u8], at: usize, record: Record) -> usize
-    requires { at + max_fields ≤ length text.old }
-    ensures { Written max_fields text.old at (fields_of «record») result text.new }
+fn put_fields(text: &mut Text<'_>, record: Record)
+    requires { HasRoom max_fields text.old }
+    ensures { Wrote max_fields text.old (fields_of «record») text.new }
 {
-    let ids_at = put_kinds(text, at, record);
-    let numbers_at = put_ids(text, ids_at, record);
-    put_numbers(text, numbers_at, record)
+    put_kinds(text, record);
+    put_ids(text, record);
+    put_numbers(text, record);
 }
 
 // Writes the line of record number `index` of a log.
-pub fn put_line(text: &mut [u8], at: usize, log: &[u8], index: usize) -> usize
-    requires max_line_in_bounds { at + max_line ≤ length text.old }
+pub fn put_line(text: &mut Text<'_>, log: &[u8], index: usize)
+    requires max_line_in_bounds { HasRoom max_line text.old }
     requires index_in_bounds { record_length * (index + 1) ≤ length log.now }
-    ensures { Written max_line text.old at (line_of (drop (record_length * index) log.now)) result text.new }
+    ensures { Wrote max_line text.old (line_of (drop (record_length * index) log.now)) text.new }
 {
     let record = call_log::read_record(log, index);
-    let bytes_at = put_fields(text, at, record);
+    put_fields(text, record);
     let from = trb::RECORD_LENGTH * index + 24;
     let to = from + 8;
-    let end = written_numbers::put_bytes(text, bytes_at, &log[from..to]);
-    numerals::put_char(text, end, b'\n')
+    written_numbers::put_bytes(text, &log[from..to]);
+    text.put_char(b'\n');
 }
 
 // Writes a line for each record of a log.
-pub fn put_lines(text: &mut [u8], at: usize, log: &[u8]) -> usize
-    requires { at + lines_room (length log.now) ≤ length text.old }
-    ensures { Written (lines_room (length log.now)) text.old at (lines_in (length log.now / record_length) log.now) result text.new }
+pub fn put_lines(text: &mut Text<'_>, log: &[u8])
+    requires { HasRoom (lines_room (length log.now)) text.old }
+    ensures { Wrote (lines_room (length log.now)) text.old (lines_in (length log.now / record_length) log.now) text.new }
 {
     let records = log.len() / trb::RECORD_LENGTH;
-    let mut next = at;
     for index in 0..records {
-        next = put_line(text, next, log, index);
+        put_line(text, log, index);
     }
-    next
 }

@@ -2,4 +2,3 @@ pub mod ListLaws
 pub mod DigitLaws
 pub mod PlaceLaws
 pub mod NumberLaws
-pub mod WrittenLaws

@@ -1,10 +1,9 @@
-// The digits of a number in decimal and in hex, and a character written into a lent buffer. `written_numbers` writes whole numbers.
+// The digits of a number in decimal and in hex. `written_numbers` writes them.
 #![tactic(auto)]
 
-ghost use Rattle.std.specs.Prelude.{◌≡◌, [], ◌∷◌, ◌*◌, ◌/◌, ◌%◌, ◌<◌, ◌≤◌, ◌^◌, length, drop};
+ghost use Rattle.std.specs.Prelude.{◌≡◌, ◌*◌, ◌/◌, ◌%◌, ◌<◌, ◌≤◌, ◌^◌, length, drop};
 ghost use Rattle.numerals.specs.Digits.{digit_char, trimmed, FirstPlace};
 ghost use Rattle.numerals.specs.Widths.{decimal_places, width_table};
-ghost use Rattle.numerals.specs.Written.{Written};
 
 // ---- Widths: each has this name here and one in specs/Widths.antt; `widths` ties the two.
 
@@ -43,15 +42,6 @@ pub fn digit_char(digit: u8) -> u8
     } else {
         b'a' + (digit - 10)
     }
-}
-
-// Writes a character, and returns the index behind it, as all writers do.
-pub fn put_char(text: &mut [u8], at: usize, character: u8) -> usize
-    requires { at < length text.old }
-    ensures { Written 1 text.old at (character ∷ []) result text.new }
-{
-    text[at] = character;
-    at + 1
 }
 
 // How many leading zeros the digits have, the last digit not counted.

@@ -8,6 +8,7 @@ ghost use Rattle.control_bytes.specs.Layout.{block_length};
 ghost use Rattle.control_in_place.specs.InPlace.{block_question, lent_log, raw_trb, CreatesInPlace, SubmitsInPlace, CompletesInPlace, result_of};
 
 use answer_numbers::{Answered, CompletionAnswered};
+use guest_memory::GuestView;
 use held_bytes::TrbNumbers;
 
 // Bytes of a block.
@@ -59,7 +60,13 @@ pub extern "C" fn polvihe_control_submit<'a>(
         value,
         transfer_length,
     };
-    control_in_place::submit_trb(log, collect, block, numbers, low_base, low, high_base, high)
+    let memory = GuestView {
+        low_base,
+        low,
+        high_base,
+        high,
+    };
+    control_in_place::submit_trb(log, collect, block, numbers, &memory)
 }
 
 // Takes a TRB, given by its 16 bytes in the ring, and its address.
@@ -78,9 +85,13 @@ pub extern "C" fn polvihe_control_submit_raw<'a>(
     ensures { SubmitsInPlace (lent_log log.old block.old) (raw_trb raw.now addr) (memory_of low_base low.now high_base high.now) log.old collect.old block.old result log.new collect.new block.new }
 {
     let bytes = *raw;
-    control_in_place::submit_raw(
-        log, collect, block, bytes, addr, low_base, low, high_base, high,
-    )
+    let memory = GuestView {
+        low_base,
+        low,
+        high_base,
+        high,
+    };
+    control_in_place::submit_raw(log, collect, block, bytes, addr, &memory)
 }
 
 // Completes what was submitted last. Status: 0 a successful IN transfer, 1 Stall, 2 a transaction error, 3 a disconnect, 4 a successful OUT

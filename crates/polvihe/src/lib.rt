@@ -29,6 +29,7 @@ ghost use Rattle.polvihe.specs.GuestMemory.{CarriesOut};
 use answer_numbers::{Answered, CompletionAnswered};
 use capture_numbers::RecordRead;
 use capture_record::CaptureEvent;
+use guest_memory::GuestMemory;
 use held_bytes::TrbNumbers;
 use trb::UsbRequest;
 
@@ -47,9 +48,13 @@ pub extern "C" fn polvihe_carry_out(
 ) -> u32
     ensures { CarriesOut log.now «data».now (memory_of low_base low.old high_base high.old) result (memory_of low_base low.new high_base high.new) }
 {
-    answer_numbers::number_of(carry_out::carry_out(
-        log, data, low_base, low, high_base, high,
-    )) as u32
+    let mut memory = GuestMemory {
+        low_base,
+        low,
+        high_base,
+        high,
+    };
+    trb::number_of(carry_out::carry_out(log, data, &mut memory)) as u32
 }
 
 // ---- Raw TRBs
@@ -452,7 +457,8 @@ pub extern "C" fn polvihe_in_submit(
         value,
         transfer_length,
     };
-    in_place_submission::submit_trb(log, block, numbers, low_base, low_len, high_base, high_len)
+    let regions = guest_memory::guest_regions(low_base, low_len, high_base, high_len);
+    in_place_submission::submit_trb(log, block, numbers, regions)
 }
 
 // Completes what was submitted last, with so many bytes of the device's data. Status: 0 Success, 1 Stall, 2 a transaction error, 3 a

@@ -22,15 +22,6 @@ pub extern "C" fn polvihe_in_complete_row(
 ) -> RowAnswered
     ensures { CompletesTdsInPlace (lent_log log.old block.now) block.now row.now results.now data_length (guest_regions low_base low_len high_base high_len) log.old result log.new }
 {
-    in_place_row::complete_tds(
-        log,
-        block,
-        row,
-        results,
-        data_length,
-        low_base,
-        low_len,
-        high_base,
-        high_len,
-    )
+    let regions = guest_memory::guest_regions(low_base, low_len, high_base, high_len);
+    in_place_row::complete_tds(log, block, row, results, regions, data_length)
 }

@@ -1,13 +1,14 @@
-// The answers of the program `raw_trbs`, laid into a text buffer. Every writer returns the index behind what it wrote.
+// The answers of the program `raw_trbs`.
 #![tactic(auto)]
 
-ghost use Rattle.std.specs.Prelude.{◌≡◌, ◌+◌, ◌*◌, ◌≤◌, length};
+ghost use Rattle.std.specs.Prelude.{◌≡◌};
 ghost use Rattle.trb.specs.Trbs.{transfer_length};
-ghost use Rattle.numerals.specs.Written.{Written};
+ghost use Rattle.text.specs.Wrote.{HasRoom, Wrote};
 ghost use Rattle.raw_text.specs.RawLines.{kind_of, flags_number, flags_of, setup_number, a_of, trb_line, bytes_line, encoded_line, max_raw_answer, raw_limits};
 ghost use Rattle.raw_text.specs.Flags.{Flag};
 
 use raw_trb::DecodedTrb;
+use text::Text;
 use trb::{Refusal, SetupStageTrb, TransferTrbVariant};
 
 // ---- Limits: the constant has this name here and one in specs/RawLines.antt; `raw_limits` ties the two.
@@ -153,37 +154,37 @@ fn a_of(variant: TransferTrbVariant) -> u64
 }
 
 // `KIND FLAGS A B` of a decoded TRB.
-pub fn put_decoded(text: &mut [u8], at: usize, decoded: DecodedTrb) -> usize
-    requires { at + max_raw_answer ≤ length text.old }
-    ensures { Written max_raw_answer text.old at (trb_line decoded.variant decoded.cycle_bit (transfer_length decoded.variant)) result text.new }
+pub fn put_decoded(text: &mut Text<'_>, decoded: DecodedTrb)
+    requires { HasRoom max_raw_answer text.old }
+    ensures { Wrote max_raw_answer text.old (trb_line decoded.variant decoded.cycle_bit (transfer_length decoded.variant)) text.new }
 {
     let variant = decoded.variant;
-    let flags_at = written_numbers::put_hex(text, at, kind_of(variant));
-    let a_at = call_text::put_hex_behind(text, flags_at, flags_of(variant, decoded.cycle_bit));
-    let b_at = call_text::put_hex_behind(text, a_at, a_of(variant));
+    written_numbers::put_hex(text, kind_of(variant));
+    call_text::put_hex_behind(text, flags_of(variant, decoded.cycle_bit));
+    call_text::put_hex_behind(text, a_of(variant));
     let length = trb::transfer_length(variant);
-    let end = call_text::put_hex_behind(text, b_at, length as u64);
-    numerals::put_char(text, end, b'\n')
+    call_text::put_hex_behind(text, length as u64);
+    text.put_char(b'\n');
 }
 
 // ---- An encoded TRB
 
 #[tactic(auto, unfolding(crate::specs::RawLines::bytes_line))]
-fn put_bytes_line(text: &mut [u8], at: usize, bytes: [u8; 16]) -> usize
-    requires { at + max_raw_answer ≤ length text.old }
-    ensures { Written max_raw_answer text.old at (bytes_line bytes) result text.new }
+fn put_bytes_line(text: &mut Text<'_>, bytes: [u8; 16])
+    requires { HasRoom max_raw_answer text.old }
+    ensures { Wrote max_raw_answer text.old (bytes_line bytes) text.new }
 {
-    let end = written_numbers::put_bytes(text, at, &bytes);
-    numerals::put_char(text, end, b'\n')
+    written_numbers::put_bytes(text, &bytes);
+    text.put_char(b'\n');
 }
 
 // Its 32 digits, or `no NUMBER`.
-pub fn put_encoded(text: &mut [u8], at: usize, encoded: Result<[u8; 16], Refusal>) -> usize
-    requires { at + max_raw_answer ≤ length text.old }
-    ensures { Written max_raw_answer text.old at (encoded_line encoded) result text.new }
+pub fn put_encoded(text: &mut Text<'_>, encoded: Result<[u8; 16], Refusal>)
+    requires { HasRoom max_raw_answer text.old }
+    ensures { Wrote max_raw_answer text.old (encoded_line encoded) text.new }
 {
     match encoded {
-        Ok(bytes) => put_bytes_line(text, at, bytes),
-        Err(refusal) => call_text::put_refused(text, at, u8::from(refusal)),
+        Ok(bytes) => put_bytes_line(text, bytes),
+        Err(refusal) => call_text::put_refused(text, u8::from(refusal)),
     }
 }

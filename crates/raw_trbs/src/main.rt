@@ -9,6 +9,7 @@ use call_script::RawLine;
 use script_lines::{Found, Step};
 use std::io;
 use std::io::{Read, Write};
+use text::Text;
 
 // How far a run has come: lines taken, bytes of the text not yet written out, whether every line was good, and whether there may be more.
 #[derive(Clone, Copy)]
@@ -57,16 +58,21 @@ fn run_line<W: Write>(
         return Ok(bad_line(progress));
     };
     let at = script_lines::make_room(writer, text, progress.end, raw_text::MAX_RAW_ANSWER)?;
-    let end = match asked {
-        RawLine::Decode(decoded) => raw_text::put_decoded(text, at, decoded),
+    let mut text = Text {
+        bytes: text,
+        end: at,
+    };
+    match asked {
+        RawLine::Decode(decoded) => raw_text::put_decoded(&mut text, decoded),
         RawLine::Encode(t) => {
             let encoded = raw_trb_encoder::encode(t.variant, t.cycle_bit);
-            raw_text::put_encoded(text, at, encoded)
+            raw_text::put_encoded(&mut text, encoded);
         }
-    };
-    Ok(good_line(progress, end))
+    }
+    Ok(good_line(progress, text.end))
 }
 
+// What a step found, as in `capture_runner`.
 fn run_step<W: Write>(
     writer: &mut W,
     text: &mut [u8],

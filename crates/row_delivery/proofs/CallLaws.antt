@@ -10,7 +10,7 @@ use native.Mathlib.Omega.{arith}
 use lib.Dec.{eqb}
 use borrow.Author.Tests.{eqb-true}
 use lib.ListN.{length, take, length-take}
-use Rattle.trb.specs.Answers.{completion_number}
+use Rattle.trb.specs.Answers.{number_of}
 use Rattle.trb.specs.Limits.{record_length}
 use Rattle.trb.specs.Questions.{first_no}
 use Rattle.trb.specs.Answers.{Answer, CompletionAnswer}
@@ -42,7 +42,7 @@ use Rattle.row_delivery.proofs.TdLaws.{tds-in-regions, given-few}
 use Rattle.row_delivery.proofs.RowLaws.{started-delivered}
 
 -- a call that was accepted has the number 0
-accepted-number : (a : CompletionAnswer) → is_accepted a ≡ true → completion_number a ≡ 0
+accepted-number : (a : CompletionAnswer) → is_accepted a ≡ true → number_of a ≡ 0
 accepted-number (Ok r) h = refl
 accepted-number (Err q) h = absurd (true≢false (sym h))
 

@@ -1,7 +1,7 @@
 -- 01, What changes shape: a thin entry accepts the TD as a lent row of TRB records and answers, refusals included, as completion does
 -- for a block holding that row and awaiting the device. Assumes nothing.
 use Rattle.std.specs.Prelude.{ℕ, ◌≡◌, true, List, ◌++◌, length, take, replicate, Option}
-use Rattle.trb.specs.Answers.{completion_number}
+use Rattle.trb.specs.Answers.{number_of}
 use Rattle.trb.specs.Limits.{max_held}
 use Rattle.trb.specs.Questions.{first_no}
 use Rattle.trb.specs.Answers.{CompletionAnswer}
@@ -37,7 +37,7 @@ row_completion l e s mode ts r n = without_block (completion l (row_block e s mo
 
 -- of a row with the device result res, n bytes of data and the log l, which returned r and left the log l'
 pub record CompletesRow (e : EndpointId) (s : SlotId) (mode : InMode) (ts : List TransferTrb) (res : Option InTrbProcessingStatus) (n : ℕ) (l : List ℕ) (r : Logged CompletionAnswer) (l' : List ℕ) : Type 0 where
-  pub number : completion_number r.answer ≡ first_no (completion_questions (length l) (facts_of (row_block e s mode ts)) res n)
+  pub number : number_of r.answer ≡ first_no (completion_questions (length l) (facts_of (row_block e s mode ts)) res n)
   pub met : Meets (row_completion (length l) e s mode ts res n) 0 l r l'
 
 -- 00, demand 3, of the row: an accepted completion logs the guest's account of what the device did

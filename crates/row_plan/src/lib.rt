@@ -43,6 +43,7 @@ pub fn ask(
 ) -> RowPlan
     ensures { result ≡ row_plan log_length endpoint_id slot_id mode row_length found res data_length }
 {
+    // A row by itself has no block whose facts these were.
     let facts = BlockFacts {
         endpoint_id,
         slot_id,

@@ -15,7 +15,7 @@ use in_block::BlockFacts;
 use row_walk::TdResult;
 use trb::{Answer, InTrbProcessingStatus, Refusal, TransferTrb, TransferTrbVariant};
 
-// What one loop over a row finds: the first no of questions 4, 21, 5 and 6; TRBs of a TD that has not ended; whether every kind is
+// What one loop over a row finds, all of it whatever is refused: the first no of questions 4, 21, 5 and 6; TRBs of a TD that has not ended; whether every kind is
 // supported; TDs that have ended; whether the one that has not has a Normal; whether each was given what it may be; bytes given.
 #[derive(Clone, Copy)]
 pub struct RowTest {

@@ -6,6 +6,7 @@ ghost use Rattle.trb.specs.Limits.{max_collected};
 ghost use Rattle.script_bytes.specs.Bytes.{guest_byte, device_byte, guest_bytes, device_bytes, weighted_sum};
 
 // The byte at guest address base + k.
+#[tactic(auto, unfolding(crate::specs::Bytes::guest_byte))]
 fn guest_byte(base: u64, k: usize) -> u8
     ensures { result ≡ guest_byte base k }
 {
@@ -22,6 +23,7 @@ pub fn fill_guest(window: &mut [u8], base: u64)
 }
 
 // The device's byte number k.
+#[tactic(auto, unfolding(crate::specs::Bytes::device_byte))]
 fn device_byte(k: usize) -> u8
     ensures { result ≡ device_byte k }
 {
@@ -38,6 +40,7 @@ pub fn fill_device(device: &mut [u8])
 }
 
 // The sum over the bytes of (k + 1) times byte k, modulo 2^32.
+#[tactic(auto, unfolding(crate::specs::Bytes::weighted_sum))]
 pub fn weighted_sum(bytes: &[u8]) -> u32
     requires { length bytes.now ≤ max_collected }
     ensures { result ≡ weighted_sum 0 0 bytes.now }

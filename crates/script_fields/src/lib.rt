@@ -9,7 +9,7 @@ ghost use Rattle.script_fields.specs.Fields.{max_numbers, fields_of, within_limi
 // Numbers of a line.
 pub const MAX_NUMBERS: usize = 5;
 
-// A line's letter, and the numbers behind it; zeros behind the last number.
+// A line's letter, and the numbers behind it; zeros behind the last number. A count beside the places: there is no heap.
 #[derive(Clone, Copy)]
 pub struct Fields {
     pub letter: u8,

@@ -24,7 +24,7 @@ pub fn input_buffer() -> [u8; PIECE]
     [0u8; PIECE]
 }
 
-// What a step found: a whole line, a piece of input, the input's end, or a line that is too long or that no line feed ends.
+// What a step found: a whole line, a piece of input, the input's end, or a line that is too long or that no line feed ends. Each is taken for itself.
 #[derive(Clone, Copy)]
 pub enum Found {
     Line,
@@ -34,7 +34,7 @@ pub enum Found {
 }
 
 // What was read behind an unfinished line: a piece, with so many bytes in the buffer then; or nothing, since the input has ended there, or ended in the
-// line, or the line is too long.
+// line, or the line is too long. Three cases and no Option: each is taken for itself.
 #[derive(Clone, Copy)]
 pub enum Refilled {
     Piece(usize),

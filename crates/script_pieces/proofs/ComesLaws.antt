@@ -5,7 +5,7 @@ use mathlib.Core.Bool.{Bool, true, false, cond, true≢false}
 use mathlib.Core.List.{List, [], ◌∷◌, ◌++◌, append_assoc}
 use native.Mathlib.Omega.{arith}
 use lib.ListN.{length, take}
-use Rattle.session_calls.specs.Answers.{State, Answer, answer_of}
+use Rattle.session_calls.specs.Answers.{State, Answer, line_answer}
 use Rattle.script_run.specs.Runs.{lines_of, Unfed, Run, run_with, line_call, going_on, take_line, take_lines, end_of, run_of, Reading, take_piece}
 use Rattle.script_run.proofs.PieceLaws.{rest-unfed, piece-none, piece-append}
 use Rattle.script_pieces.specs.declared.Taken.{Taken}
@@ -19,7 +19,7 @@ going-behind w false p o = refl
 
 take_line-behind : (bytes w : List ℕ) (p : Run) (l : List ℕ) → take_line bytes (behind_text w p) l ≡ behind_text w (take_line bytes p l)
 unfolding take_line
-take_line-behind bytes w p l = going-behind w p.good p (answer_of bytes p.state (line_call l))
+take_line-behind bytes w p l = going-behind w p.good p (line_answer bytes p.state (line_call l))
 
 -- what was printed before changes nothing
 take_lines-behind : (bytes w : List ℕ) (p : Run) (ls : List (List ℕ)) → take_lines bytes (behind_text w p) ls ≡ behind_text w (take_lines bytes p ls)
@@ -36,7 +36,7 @@ take_lines-bad : (bytes : List ℕ) (p : Run) (ls : List (List ℕ)) → p.good 
 unfolding take_lines take_line
 take_lines-bad bytes p [] e = refl
 take_lines-bad bytes p (l ∷ ls) e =
-    ap (λ (q : Run). take_lines bytes q ls) (bad-stays p.good p (answer_of bytes p.state (line_call l)) e) ∙ take_lines-bad bytes p ls e
+    ap (λ (q : Run). take_lines bytes q ls) (bad-stays p.good p (line_answer bytes p.state (line_call l)) e) ∙ take_lines-bad bytes p ls e
 
 end_of-bad : (p : Run) (rest : List ℕ) → p.good ≡ false → end_of p rest ≡ p
 unfolding end_of

@@ -8,8 +8,10 @@ ghost use Rattle.session_calls.specs.Answers.{state_of};
 ghost use Rattle.script_pieces.specs.Pieces.{TakesLines};
 
 use session::Session;
+use text::Text;
 
-// What was taken: the session behind it, the index of the first byte that was not, how many lines, where their text ends, and whether every line was good.
+// What was taken: the session behind it, the index of the first byte that was not, how many lines, where their text ends, and whether every line was good: the
+// others are there either way.
 #[derive(Clone, Copy)]
 pub struct Taken {
     pub session: Session,
@@ -53,9 +55,12 @@ pub fn take_lines(
         if room < taken.end {
             return taken;
         }
+        let mut printed = Text {
+            bytes: text,
+            end: taken.end,
+        };
         let ran = script_run::take_line(
-            text,
-            taken.end,
+            &mut printed,
             taken.session,
             &input[taken.next..stop],
             log,
@@ -65,10 +70,10 @@ pub fn take_lines(
             high,
         );
         taken = Taken {
-            session: ran.session,
+            session: ran.left,
             next: stop + 1,
             lines: taken.lines + 1,
-            end: ran.end,
+            end: printed.end,
             good: ran.good,
         };
     }

@@ -1,13 +1,14 @@
 -- docs/CALLS.md: a script's run. One call to a line; a line that has no such form, is too long, or that no line feed ends, ends the run with `bad line N`,
 -- N counted from 1, and nothing after it is read. Assumes nothing.
-use Rattle.std.specs.Prelude.{ℕ, ◌+◌, ◌≤◌, ◌≡◌, Bool, true, false, cond, List, [], ◌∷◌, ◌++◌, eqb, leb, length, take, get_or}
+use Rattle.std.specs.Prelude.{ℕ, ◌+◌, ◌≤◌, ◌≡◌, Bool, true, false, cond, List, [], ◌∷◌, ◌++◌, eqb, leb, length, take, get_or, Option, None}
+use Rattle.text.specs.declared.Text.{Text}
 use Rattle.state_text.specs.Widths.{max_answer}
 use Rattle.call_script.specs.Calls.{call_of}
 use Rattle.call_script.specs.declared.Call.{Call}
-use Rattle.call_script.specs.declared.Call.TheVariants.{Bad}
 use Rattle.script_lines.specs.Lines.{line_feed, max_line}
-use Rattle.session.specs.declared.Ran.{Ran}
-use Rattle.session_calls.specs.Answers.{State, Answer, answer_of}
+use Rattle.call_answer.specs.declared.Ran.{Ran}
+use Rattle.session.specs.declared.Session.{Session}
+use Rattle.session_calls.specs.Answers.{State, Answer, line_answer}
 
 -- ---- Lines
 
@@ -39,9 +40,9 @@ pub record Run : Type 0 where
   pub text : List ℕ
   pub good : Bool
 
--- the call of a line
-unfoldable pub line_call : List ℕ → Call
-line_call l = cond (leb (length l) max_line) (call_of l) Bad
+-- the call of a line, if it asks for one
+unfoldable pub line_call : List ℕ → Option Call
+line_call l = cond (leb (length l) max_line) (call_of l) None
 
 -- a run whose next line was answered so
 abbrev pub going_on : Run → Answer → Run
@@ -49,7 +50,7 @@ going_on p o = record { state = o.state; lines = p.lines + 1; text = p.text ++ o
 
 -- with these bytes of the device's data; behind a bad line none is taken
 unfoldable pub take_line : List ℕ → Run → List ℕ → Run
-take_line bytes p l = cond p.good (going_on p (answer_of bytes p.state (line_call l))) p
+take_line bytes p l = cond p.good (going_on p (line_answer bytes p.state (line_call l))) p
 
 unfoldable pub take_lines : List ℕ → Run → List (List ℕ) → Run
 take_lines bytes p [] = p
@@ -73,11 +74,13 @@ run_of bytes p input = end_of (take_lines bytes p (lines_of input).whole) (lines
 abbrev pub run_with : State → ℕ → List ℕ → ℕ → Bool → Run
 run_with s lines t n good = record { state = s; lines = lines; text = take n t; good = good }
 
--- a line l was taken in the state s, with the first at bytes of the text t printed: r was returned, the text became t', and the state s'
-pub record TakesLine (bytes l : List ℕ) (s : State) (t : List ℕ) (at : ℕ) (r : Ran) (t' : List ℕ) (s' : State) : Type 0 where
-  pub taken : (n : ℕ) → run_with s' (n + 1) t' r.end r.good ≡ take_line bytes (run_with s n t at true) l
-  pub behind : (k : ℕ) → r.end ≤ k → get_or t' k 0 ≡ get_or t k 0
-  pub within : r.end ≤ at + max_answer
+-- a line l was taken in the state s, behind the text t: r was returned, the text became t', and the state s'
+pub record TakesLine (bytes l : List ℕ) (s : State) (t : Text) (r : Ran Session) (t' : Text) (s' : State) : Type 0 where
+  pub taken : (n : ℕ) → run_with s' (n + 1) t'.bytes.now t'.end r.good ≡ take_line bytes (run_with s n t.bytes.now t.end true) l
+  pub behind : (k : ℕ) → t'.end ≤ k → get_or t'.bytes.now k 0 ≡ get_or t.bytes.now k 0
+  pub within : t'.end ≤ t.end + max_answer
+  pub size : length t'.bytes.now ≡ length t.bytes.now
+  pub same : t'.bytes.ghost_name ≡ t.bytes.ghost_name
 
 -- ---- The same by pieces
 

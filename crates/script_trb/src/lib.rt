@@ -180,14 +180,13 @@ fn status_stage(fields: TrbFields) -> Option<TransferTrb>
 fn event_data(fields: TrbFields) -> Option<TransferTrb>
     ensures { result ≡ event_data_trb fields }
 {
-    let flags = fields.flags;
     if !has_only(fields, CHAINED_FLAGS, u64::MAX, 0) {
         return None;
     }
     let event_data = EventDataTrb {
         event_data: fields.a,
-        chain: has_flag(flags, CHAIN),
-        interrupt_on_completion: has_flag(flags, INTERRUPT_ON_COMPLETION),
+        chain: has_flag(fields.flags, CHAIN),
+        interrupt_on_completion: has_flag(fields.flags, INTERRUPT_ON_COMPLETION),
     };
     with_variant(fields, TransferTrbVariant::EventData(event_data))
 }
@@ -196,13 +195,12 @@ fn event_data(fields: TrbFields) -> Option<TransferTrb>
 fn no_op(fields: TrbFields) -> Option<TransferTrb>
     ensures { result ≡ no_op_trb fields }
 {
-    let flags = fields.flags;
     if !has_only(fields, CHAINED_FLAGS, 0, 0) {
         return None;
     }
     let no_op = NoOpTrb {
-        chain: has_flag(flags, CHAIN),
-        interrupt_on_completion: has_flag(flags, INTERRUPT_ON_COMPLETION),
+        chain: has_flag(fields.flags, CHAIN),
+        interrupt_on_completion: has_flag(fields.flags, INTERRUPT_ON_COMPLETION),
     };
     with_variant(fields, TransferTrbVariant::NoOp(no_op))
 }

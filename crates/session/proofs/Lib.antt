@@ -1,1 +1,1 @@
-pub mod EndpointLaws
+pub mod OptionLaws

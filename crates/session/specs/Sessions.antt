@@ -12,11 +12,10 @@ use Rattle.control_block.specs.declared.ControlBlock.{ControlBlock}
 use Rattle.control_block.specs.declared.GuestRelease.TheVariants.{Release4}
 use Rattle.row_walk.specs.declared.TdResult.{TdResult}
 use Rattle.call_script.specs.Limits.{max_lent_log}
-use Rattle.call_answer.specs.declared.EndpointRan.{EndpointRan}
+use Rattle.call_answer.specs.declared.Ran.{Ran}
 use Rattle.lent_calls.specs.declared.Lent.{Lent}
 use Rattle.held.specs.declared.EndpointKind.{EndpointKind}
 use Rattle.held.specs.declared.EndpointKind.TheVariants.{In, Control}
-use Rattle.session.specs.declared.Ran.{Ran}
 use Rattle.session.specs.declared.Session.{Session}
 
 -- guest memory at the start: one region of this base and length
@@ -160,13 +159,12 @@ bad_quiet s = record { session = s; good = false }
 abbrev pub good_quiet : Session → Quiet
 good_quiet s = record { session = s; good = true }
 
--- the text's next index being at
-abbrev pub quiet_ran : Quiet → ℕ → Ran
-quiet_ran o at = record { session = o.session; end = at; records = 0; good = o.good }
+abbrev pub quiet_ran : Quiet → Ran Session
+quiet_ran o = record { left = o.session; records = 0; good = o.good }
 
 -- what a call on an endpoint left
-abbrev pub in_ran : Session → EndpointRan InBlock → Ran
-in_ran s r = record { session = with_in_block s r.block; end = r.end; records = r.records; good = r.good }
+abbrev pub in_ran : Session → Ran InBlock → Ran Session
+in_ran s r = record { left = with_in_block s r.left; records = r.records; good = r.good }
 
-abbrev pub control_ran : Session → EndpointRan ControlBlock → Ran
-control_ran s r = record { session = with_control_block s r.block; end = r.end; records = r.records; good = r.good }
+abbrev pub control_ran : Session → Ran ControlBlock → Ran Session
+control_ran s r = record { left = with_control_block s r.left; records = r.records; good = r.good }

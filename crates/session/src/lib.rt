@@ -2,9 +2,9 @@
 #![tactic(auto)]
 
 ghost use Rattle.std.specs.Prelude.{◌≡◌};
-ghost use Rattle.session.specs.Sessions.{new_session, is_in_endpoint, with_in_block, with_control_block, without_row, lent_of, quiet_ran, bad_quiet, good_quiet, in_ran, control_ran};
+ghost use Rattle.session.specs.Sessions.{new_session, is_in_endpoint, with_in_block, with_control_block, without_row, lent_of, in_ran, control_ran};
 
-use call_answer::EndpointRan;
+use call_answer::Ran;
 use control_block::{ControlBlock, GuestRelease};
 use held::EndpointKind;
 use in_block::InBlock;
@@ -36,15 +36,6 @@ pub struct Session {
     pub row_count: usize,
     pub results: [TdResult; trb::MAX_ROW],
     pub result_count: usize,
-}
-
-// What a line leaves: the session, the index behind the answer, how many records were logged, and whether the line was good.
-#[derive(Clone, Copy)]
-pub struct Ran {
-    pub session: Session,
-    pub end: usize,
-    pub records: usize,
-    pub good: bool,
 }
 
 // A script's session before its first line.
@@ -80,57 +71,31 @@ pub fn is_in(endpoint: Option<EndpointKind>) -> bool
     matches!(endpoint, Some(EndpointKind::In))
 }
 
-// A bad line: nothing is done and nothing printed.
-pub fn bad(session: Session, at: usize) -> Ran
-    ensures { result ≡ quiet_ran (bad_quiet session) at }
-{
-    Ran {
-        session,
-        end: at,
-        records: 0,
-        good: false,
-    }
-}
-
-// A good line that prints nothing.
-pub fn silent(session: Session, at: usize) -> Ran
-    ensures { result ≡ quiet_ran (good_quiet session) at }
-{
-    Ran {
-        session,
-        end: at,
-        records: 0,
-        good: true,
-    }
-}
-
 // What a call on an IN endpoint leaves, which calls are made on from here on.
-pub fn after_in(session: Session, ran: EndpointRan<InBlock>) -> Ran
+pub fn after_in(session: Session, ran: Ran<InBlock>) -> Ran<Session>
     ensures { result ≡ in_ran session ran }
 {
     Ran {
-        session: Session {
+        left: Session {
             endpoint: Some(EndpointKind::In),
-            in_block: ran.block,
+            in_block: ran.left,
             ..session
         },
-        end: ran.end,
         records: ran.records,
         good: ran.good,
     }
 }
 
 // What a call on a control endpoint leaves, likewise.
-pub fn after_control(session: Session, ran: EndpointRan<ControlBlock>) -> Ran
+pub fn after_control(session: Session, ran: Ran<ControlBlock>) -> Ran<Session>
     ensures { result ≡ control_ran session ran }
 {
     Ran {
-        session: Session {
+        left: Session {
             endpoint: Some(EndpointKind::Control),
-            control_block: ran.block,
+            control_block: ran.left,
             ..session
         },
-        end: ran.end,
         records: ran.records,
         good: ran.good,
     }

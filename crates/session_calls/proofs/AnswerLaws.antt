@@ -1,11 +1,14 @@
 -- What each kind of line promises, from what its callee promises. Assumes nothing.
 use Rattle.std.specs.Prelude.{None, Option, Some}
 use Prim.Native.Nat.{ℕ}
-use mathlib.Core.Path.{◌≡◌, refl, sym, subst}
+use mathlib.Core.Path.{◌≡◌, refl, subst}
 use mathlib.Core.List.{List}
 use native.Mathlib.Omega.{arith}
 use lib.ListN.{take}
-use Rattle.buffers.proofs.PatchLaws.{patch-none}
+use Rattle.state_text.specs.Widths.{max_answer}
+use Rattle.text.specs.declared.Text.{Text}
+use Rattle.text.specs.Wrote.{HasRoom}
+use Rattle.text.proofs.WroteLaws.{wrote-none, wrote-within}
 use Rattle.trb.specs.declared.EndpointId.{EndpointId}
 use Rattle.trb.specs.declared.SlotId.{SlotId}
 use Rattle.in_td.specs.declared.InMode.{InMode}
@@ -15,95 +18,95 @@ use Rattle.control_block.specs.declared.GuestRelease.{GuestRelease}
 use Rattle.call_answer.specs.Called.{Called, Says}
 use Rattle.call_script.specs.declared.Call.{Call}
 use Rattle.in_calls.specs.Calls.{in_call, row_call, create_call}
-use Rattle.call_answer.specs.declared.EndpointRan.{EndpointRan}
+use Rattle.call_answer.specs.declared.Ran.{Ran}
 use Rattle.control_calls.specs.Calls.{control_call, collect_behind, create_call as create_control_call}
 use Rattle.lent_calls.specs.Lent.{lent_memory, RunsLent, RunsControlLent}
 use Rattle.lent_calls.specs.declared.Lent.{Lent}
 use Rattle.session.specs.Sessions.{Quiet, bad_quiet, quiet_ran, in_ran, control_ran, with_in_block, with_control_block, without_row, lent_of}
 use Rattle.held.specs.declared.EndpointKind.{EndpointKind}
 use Rattle.held.specs.declared.EndpointKind.TheVariants.{In, Control}
-use Rattle.session.specs.declared.Ran.{Ran}
+use Rattle.call_answer.specs.declared.Ran.{Ran}
 use Rattle.session.specs.declared.Session.{Session}
 use Rattle.session_lines.specs.Lines.{MovesWindow}
 use Rattle.session_calls.specs.Answers.{State, state_of, quietly, saying, called_state, moving_window, endpoint_answer, endpoint_row_answer, in_answer, row_answer, control_answer, in_creation, control_creation, Answers}
 
 -- ---- Lines that print nothing
 
-module _ {r : Ran} (s : State) (t : List ℕ) (at : ℕ) where
-  pub answers-quiet : (q : Quiet) → r ≡ quiet_ran q at → Answers (quietly s q) t at r t (state_of r.session s.log s.collect s.low s.high)
+module _ {r : Ran Session} (s : State) {t : Text} (room : HasRoom max_answer t) where
+  pub answers-quiet : (q : Quiet) → r ≡ quiet_ran q → Answers (quietly s q) t r t (state_of r.left s.log s.collect s.low s.high)
   answers-quiet q e = rw e (record {
     state = refl;
     records = refl;
     good = refl;
-    text = record { text = sym (patch-none t at); next = omega arith; within = omega arith };
+    text = wrote-within (omega arith) (wrote-none (omega arith));
   })
 
-  pub answers-window : {a n b k : ℕ} {low' high' : List ℕ} → MovesWindow s.session at a n b k r s.low low' s.high high'
-      → Answers (moving_window s a n b k) t at r t (state_of r.session s.log s.collect low' high')
+  pub answers-window : {a n b k : ℕ} {low' high' : List ℕ} → MovesWindow s.session a n b k r s.low low' s.high high'
+      → Answers (moving_window s a n b k) t r t (state_of r.left s.log s.collect low' high')
   answers-window w = rw (w.ran, w.low, w.high) (record {
     state = refl;
     records = refl;
     good = refl;
-    text = record { text = sym (patch-none t at); next = omega arith; within = omega arith };
+    text = wrote-within (omega arith) (wrote-none (omega arith));
   })
 
 -- ---- Calls on an endpoint, made on the session x, with what s lends
 
-module _ (s : State) (x : Session) {r : Ran} {t t' log' low' high' : List ℕ} {at : ℕ} where
-  called-in : {o : Called InBlock} {ran : EndpointRan InBlock} → RunsLent o (lent_of s.session) t at ran t' s.log log' s.low low' s.high high' → r ≡ in_ran x ran
-      → Answers (saying o.said (called_state s (with_in_block x o.said.block) o s.collect)) t at r t' (state_of r.session log' s.collect low' high')
-  called-in run e = rw e (record {
-    state = rw (run.says.block, run.leaves.log, run.leaves.low, run.leaves.high);
-    records = run.says.records;
-    good = run.says.good;
+module _ (s : State) (x : Session) {r : Ran Session} {t t' : Text} {log' low' high' : List ℕ} where
+  called-in : {o : Called InBlock} {ran : Ran InBlock} → RunsLent o (lent_of s.session) t ran t' s.log log' s.low low' s.high high' → r ≡ in_ran x ran
+      → Answers (saying o.said (called_state s (with_in_block x o.said.block) o s.collect)) t r t' (state_of r.left log' s.collect low' high')
+  called-in run e = rw (e, run.says.ran) (record {
+    state = rw (run.leaves.log, run.leaves.low, run.leaves.high);
+    records = refl;
+    good = refl;
     text = run.says.text;
   })
 
-  called-control : {o : Called ControlBlock} {collect collect' : List ℕ} {ran : EndpointRan ControlBlock}
-      → RunsControlLent o collect (lent_of s.session) t at ran t' s.log log' collect' s.low low' s.high high' → r ≡ control_ran x ran
-      → Answers (saying o.said (called_state s (with_control_block x o.said.block) o collect)) t at r t' (state_of r.session log' collect' low' high')
-  called-control run e = rw e (record {
-    state = rw (run.says.block, run.leaves.log, run.collected, run.leaves.low, run.leaves.high);
-    records = run.says.records;
-    good = run.says.good;
+  called-control : {o : Called ControlBlock} {collect collect' : List ℕ} {ran : Ran ControlBlock}
+      → RunsControlLent o collect (lent_of s.session) t ran t' s.log log' collect' s.low low' s.high high' → r ≡ control_ran x ran
+      → Answers (saying o.said (called_state s (with_control_block x o.said.block) o collect)) t r t' (state_of r.left log' collect' low' high')
+  called-control run e = rw (e, run.says.ran) (record {
+    state = rw (run.leaves.log, run.collected, run.leaves.low, run.leaves.high);
+    records = refl;
+    good = refl;
     text = run.says.text;
   })
 
-module _ (x : Session) (log collect low high : List ℕ) {l : Lent} {t t' log' low' high' : List ℕ} {at : ℕ} {r : Ran} (lent : l ≡ lent_of x) where
-  pub answers-in : {ran : EndpointRan InBlock} (bytes : List ℕ) (c : Call)
-      → RunsLent (in_call x.in_block c bytes (take l.log log) (lent_memory l low high)) l t at ran t' log log' low low' high high' → r ≡ in_ran x ran
-      → Answers (in_answer bytes (state_of x log collect low high) c) t at r t' (state_of r.session log' collect low' high')
+module _ (x : Session) (log collect low high : List ℕ) {l : Lent} {t t' : Text} {log' low' high' : List ℕ} {r : Ran Session} (lent : l ≡ lent_of x) where
+  pub answers-in : {ran : Ran InBlock} (bytes : List ℕ) (c : Call)
+      → RunsLent (in_call x.in_block c bytes (take l.log log) (lent_memory l low high)) l t ran t' log log' low low' high high' → r ≡ in_ran x ran
+      → Answers (in_answer bytes (state_of x log collect low high) c) t r t' (state_of r.left log' collect low' high')
   unfolding in_answer
   answers-in {ran = ran} bytes c run e =
       called-in (state_of x log collect low high) x
       (subst
-      (λ (y : Lent). RunsLent (in_call x.in_block c bytes (take y.log log) (lent_memory y low high)) y t at ran t' log log' low low' high high')
+      (λ (y : Lent). RunsLent (in_call x.in_block c bytes (take y.log log) (lent_memory y low high)) y t ran t' log log' low low' high high')
       lent run) e
 
-  pub answers-row : {ran : EndpointRan InBlock} {y : Session} (bytes : List ℕ) (n : ℕ)
+  pub answers-row : {ran : Ran InBlock} {y : Session} (bytes : List ℕ) (n : ℕ)
       → RunsLent (row_call x.in_block x.row x.row_count x.results x.result_count (take n bytes) (take l.log log) (lent_memory l low high))
-      l t at ran t' log log' low low' high high' → y ≡ without_row x → r ≡ in_ran y ran
-      → Answers (row_answer bytes (state_of x log collect low high) n) t at r t' (state_of r.session log' collect low' high')
+      l t ran t' log log' low low' high high' → y ≡ without_row x → r ≡ in_ran y ran
+      → Answers (row_answer bytes (state_of x log collect low high) n) t r t' (state_of r.left log' collect low' high')
   unfolding row_answer
   answers-row {ran = ran} bytes n run emptied e =
       called-in (state_of x log collect low high) (without_row x)
       (subst
       (λ (z : Lent). RunsLent (row_call x.in_block x.row x.row_count x.results x.result_count (take n bytes) (take z.log log) (lent_memory z low high))
-      z t at ran t' log log' low low' high high')
+      z t ran t' log log' low low' high high')
       lent run)
       (subst (λ (z : Session). r ≡ in_ran z ran) emptied e)
 
-  pub answers-control : {ran : EndpointRan ControlBlock} {collect' : List ℕ} (bytes : List ℕ) (c : Call)
+  pub answers-control : {ran : Ran ControlBlock} {collect' : List ℕ} (bytes : List ℕ) (c : Call)
       → RunsControlLent (control_call x.control_block c bytes l.collect collect (take l.log log) (lent_memory l low high))
-      (collect_behind x.control_block c l.collect collect (take l.log log) (lent_memory l low high)) l t at ran t' log log' collect' low low' high high'
+      (collect_behind x.control_block c l.collect collect (take l.log log) (lent_memory l low high)) l t ran t' log log' collect' low low' high high'
       → r ≡ control_ran x ran
-      → Answers (control_answer bytes (state_of x log collect low high) c) t at r t' (state_of r.session log' collect' low' high')
+      → Answers (control_answer bytes (state_of x log collect low high) c) t r t' (state_of r.left log' collect' low' high')
   unfolding control_answer
   answers-control {ran = ran} {collect' = collect'} bytes c run e =
       called-control (state_of x log collect low high) x
       (subst
       (λ (y : Lent). RunsControlLent (control_call x.control_block c bytes y.collect collect (take y.log log) (lent_memory y low high))
-      (collect_behind x.control_block c y.collect collect (take y.log log) (lent_memory y low high)) y t at ran t' log log' collect' low low' high high')
+      (collect_behind x.control_block c y.collect collect (take y.log log) (lent_memory y low high)) y t ran t' log log' collect' low low' high high')
       lent run) e
 
 -- on the endpoint that there is
@@ -136,13 +139,13 @@ module _ {e : Option EndpointKind} (bytes : List ℕ) (s : State) where
 
 -- ---- Creation
 
-module _ (x : Session) {y : Session} (log collect low high : List ℕ) {t t' : List ℕ} {at : ℕ} {r : Ran} (emptied : y ≡ without_row x) (e : EndpointId) (i : SlotId) where
-  pub answers-in-creation : {ran : EndpointRan InBlock} (mode : InMode) → Says (create_call e i mode) t at ran t' → r ≡ in_ran y ran
-      → Answers (in_creation (state_of x log collect low high) e i mode) t at r t' (state_of r.session log collect low high)
+module _ (x : Session) {y : Session} (log collect low high : List ℕ) {t t' : Text} {r : Ran Session} (emptied : y ≡ without_row x) (e : EndpointId) (i : SlotId) where
+  pub answers-in-creation : {ran : Ran InBlock} (mode : InMode) → Says (create_call e i mode) t ran t' → r ≡ in_ran y ran
+      → Answers (in_creation (state_of x log collect low high) e i mode) t r t' (state_of r.left log collect low high)
   unfolding in_creation
-  answers-in-creation mode says made = rw (made, emptied) (record { state = rw says.block; records = says.records; good = says.good; text = says.text })
+  answers-in-creation mode says made = rw (made, emptied, says.ran) (record { state = refl; records = refl; good = refl; text = says.text })
 
-  pub answers-control-creation : {ran : EndpointRan ControlBlock} (release : GuestRelease) → Says (create_control_call e i release collect) t at ran t' → r ≡ control_ran y ran
-      → Answers (control_creation (state_of x log collect low high) e i release) t at r t' (state_of r.session log collect low high)
+  pub answers-control-creation : {ran : Ran ControlBlock} (release : GuestRelease) → Says (create_control_call e i release collect) t ran t' → r ≡ control_ran y ran
+      → Answers (control_creation (state_of x log collect low high) e i release) t r t' (state_of r.left log collect low high)
   unfolding control_creation
-  answers-control-creation release says made = rw (made, emptied) (record { state = rw says.block; records = says.records; good = says.good; text = says.text })
+  answers-control-creation release says made = rw (made, emptied, says.ran) (record { state = refl; records = refl; good = refl; text = says.text })

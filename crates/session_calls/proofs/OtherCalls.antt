@@ -9,7 +9,7 @@ use Rattle.trb.specs.declared.TransferTrb.{TransferTrb}
 use Rattle.control_block.specs.declared.GuestRelease.{GuestRelease}
 use Rattle.in_td.specs.declared.InMode.{InMode}
 use Rattle.call_script.specs.declared.Call.{Call}
-use Rattle.call_script.specs.declared.Call.TheVariants.{Window, Buffers, CreateIn, CreateControl, Submit, CompleteWithResult, CompleteWithout, Cancel, Hold, MakeUpIn, MakeUpControl, AppendTrb, AppendResult, CompleteRow, Time, Captured, Bad}
+use Rattle.call_script.specs.declared.Call.TheVariants.{Window, Buffers, CreateIn, CreateControl, Submit, CompleteWithResult, CompleteWithout, Cancel, Hold, MakeUpIn, MakeUpControl, AppendTrb, AppendResult, CompleteRow, Time, Captured}
 use Rattle.call_script.specs.declared.InTransferType.{InTransferType}
 use Rattle.session_calls.specs.Answers.{State, endpoint_answer, answer_of}
 
@@ -44,4 +44,3 @@ module _ (bytes : List ℕ) (s : State) where
   answer_of-other (CompleteRow n) h = absurd (h.complete_row n refl)
   answer_of-other (Time seconds microseconds) h = absurd (h.time seconds microseconds refl)
   answer_of-other (Captured bus address transfer_type) h = absurd (h.captured bus address transfer_type refl)
-  answer_of-other Bad h = refl

@@ -3,20 +3,21 @@ use Rattle.std.specs.Prelude.{ℕ, ◌≡◌, Bool, true, List, [], take, None, 
 use Rattle.trb.specs.declared.EndpointId.{EndpointId}
 use Rattle.trb.specs.declared.SlotId.{SlotId}
 use Rattle.guest_memory.specs.Places.{Memory}
-use Rattle.numerals.specs.Written.{Written}
+use Rattle.text.specs.declared.Text.{Text}
+use Rattle.text.specs.Wrote.{Wrote}
 use Rattle.state_text.specs.Widths.{max_answer}
 use Rattle.in_td.specs.declared.InMode.{InMode}
 use Rattle.control_block.specs.declared.GuestRelease.{GuestRelease}
 use Rattle.call_answer.specs.Called.{Said, Called}
 use Rattle.call_script.specs.declared.Call.{Call}
-use Rattle.call_script.specs.declared.Call.TheVariants.{Window, Buffers, CreateIn, CreateControl, Submit, CompleteWithResult, CompleteWithout, Cancel, Hold, MakeUpIn, MakeUpControl, AppendTrb, AppendResult, CompleteRow, Time, Captured, Bad}
+use Rattle.call_script.specs.declared.Call.TheVariants.{Window, Buffers, CreateIn, CreateControl, Submit, CompleteWithResult, CompleteWithout, Cancel, Hold, MakeUpIn, MakeUpControl, AppendTrb, AppendResult, CompleteRow, Time, Captured}
 use Rattle.in_calls.specs.Calls.{in_call, row_call, create_call}
 use Rattle.control_calls.specs.Calls.{control_call, collect_behind, create_call as create_control_call}
 use Rattle.lent_calls.specs.Lent.{lent_memory, behind_lent}
 use Rattle.session.specs.Sessions.{Quiet, bad_quiet, good_quiet, with_in_block, with_control_block, with_lengths, without_row, lent_of}
 use Rattle.held.specs.declared.EndpointKind.{EndpointKind}
 use Rattle.held.specs.declared.EndpointKind.TheVariants.{In, Control}
-use Rattle.session.specs.declared.Ran.{Ran}
+use Rattle.call_answer.specs.declared.Ran.{Ran}
 use Rattle.session.specs.declared.Session.{Session}
 use Rattle.session_lines.specs.Lines.{region_filled, window_moved, append_trb, append_result}
 
@@ -139,13 +140,17 @@ answer_of bytes s (AppendResult status n) = quietly s (append_result s.session (
 answer_of bytes s (CompleteRow n) = endpoint_row_answer s.session.endpoint bytes s n
 answer_of bytes s (Time seconds microseconds) = quietly s (good_quiet s.session)
 answer_of bytes s (Captured bus address transfer_type) = quietly s (good_quiet s.session)
-answer_of bytes s Bad = endpoint_answer s.session.endpoint bytes s Bad
+
+-- a line, which asks for this call or for none: it is bad then
+abbrev pub line_answer : List ℕ → State → Option Call → Answer
+line_answer bytes s (Some c) = answer_of bytes s c
+line_answer bytes s None = quietly s (bad_quiet s.session)
 
 -- ---- The promise
 
--- a call that was to be answered by o, with the text t from index at on, returned r and left the text t' and the state s'
-pub record Answers (o : Answer) (t : List ℕ) (at : ℕ) (r : Ran) (t' : List ℕ) (s' : State) : Type 0 where
+-- a call that was to be answered by o, behind the text t, returned r and left the text t' and the state s'
+pub record Answers (o : Answer) (t : Text) (r : Ran Session) (t' : Text) (s' : State) : Type 0 where
   pub state : s' ≡ o.state
   pub records : r.records ≡ o.records
   pub good : r.good ≡ o.good
-  pub text : Written max_answer t at o.text r.end t'
+  pub text : Wrote max_answer t o.text t'

@@ -7,7 +7,7 @@ use Rattle.script_bytes.specs.Bytes.{guest_bytes}
 use Rattle.lent_calls.specs.Lent.{behind_lent}
 use Rattle.session.specs.Sessions.{Quiet, bad_quiet, good_quiet, quiet_ran, is_in_endpoint, with_regions, with_row}
 use Rattle.held.specs.declared.EndpointKind.{EndpointKind}
-use Rattle.session.specs.declared.Ran.{Ran}
+use Rattle.call_answer.specs.declared.Ran.{Ran}
 use Rattle.session.specs.declared.Session.{Session}
 
 -- ---- `w`: guest memory is filled anew
@@ -30,8 +30,8 @@ window_moved s low_base low_length high_base high_length low high =
     with_regions s low_base (region_length low_length low) high_base (region_length high_length high)
 
 -- the session with other regions was returned, and both were filled: a became a', and b became b'
-pub record MovesWindow (s : Session) (at low_base low_length high_base high_length : ℕ) (r : Ran) (a a' b b' : List ℕ) : Type 0 where
-  pub ran : r ≡ quiet_ran (good_quiet (window_moved s low_base low_length high_base high_length a b)) at
+pub record MovesWindow (s : Session) (low_base low_length high_base high_length : ℕ) (r : Ran Session) (a a' b b' : List ℕ) : Type 0 where
+  pub ran : r ≡ quiet_ran (good_quiet (window_moved s low_base low_length high_base high_length a b))
   pub low : a' ≡ region_filled low_base low_length a
   pub high : b' ≡ region_filled high_base high_length b
 

@@ -6,8 +6,9 @@ ghost use Rattle.trb.specs.Limits.{max_row};
 ghost use Rattle.session.specs.Sessions.{with_lengths, quiet_ran, good_quiet};
 ghost use Rattle.session_lines.specs.Lines.{FillsRegion, MovesWindow, with_trb, append_trb, with_result, append_result};
 
+use call_answer::Ran;
 use row_walk::TdResult;
-use session::{Ran, Session};
+use session::Session;
 use trb::TransferTrb;
 
 // ---- Guest memory
@@ -24,15 +25,14 @@ fn fill_region(memory: &mut [u8], base: u64, length: usize) -> usize
 // `w`: guest memory from here on.
 pub fn move_window(
     session: Session,
-    at: usize,
     low_base: u64,
     low_length: usize,
     high_base: u64,
     high_length: usize,
     low: &mut [u8],
     high: &mut [u8],
-) -> Ran
-    ensures { MovesWindow session at low_base low_length high_base high_length result low.old low.new high.old high.new }
+) -> Ran<Session>
+    ensures { MovesWindow session low_base low_length high_base high_length result low.old low.new high.old high.new }
 {
     let low_end = fill_region(low, low_base, low_length);
     let high_end = fill_region(high, high_base, high_length);
@@ -43,19 +43,19 @@ pub fn move_window(
         high_length: high_end,
         ..session
     };
-    session::silent(next, at)
+    call_answer::silent(next)
 }
 
 // `b`: lengths of the lent log and collect buffer from here on.
-pub fn lend_buffers(session: Session, at: usize, log_length: usize, collect_length: usize) -> Ran
-    ensures { result ≡ quiet_ran (good_quiet (with_lengths session log_length collect_length)) at }
+pub fn lend_buffers(session: Session, log_length: usize, collect_length: usize) -> Ran<Session>
+    ensures { result ≡ quiet_ran (good_quiet (with_lengths session log_length collect_length)) }
 {
     let next = Session {
         log_length,
         collect_length,
         ..session
     };
-    session::silent(next, at)
+    call_answer::silent(next)
 }
 
 // ---- The row that is being written down
@@ -76,13 +76,13 @@ fn with_trb(session: Session, t: TransferTrb) -> Session
 
 // `q`: the TRB goes to the row's end.
 #[tactic(auto, unfolding(crate::specs::Lines::append_trb))]
-pub fn append_trb(session: Session, at: usize, t: TransferTrb) -> Ran
-    ensures { result ≡ quiet_ran (append_trb session t) at }
+pub fn append_trb(session: Session, t: TransferTrb) -> Ran<Session>
+    ensures { result ≡ quiet_ran (append_trb session t) }
 {
     if trb::MAX_ROW < session.row_count || !session::is_in(session.endpoint) {
-        return session::bad(session, at);
+        return call_answer::bad(session);
     }
-    session::silent(with_trb(session, t), at)
+    call_answer::silent(with_trb(session, t))
 }
 
 // Its next TD is given this.
@@ -101,11 +101,11 @@ fn with_result(session: Session, given: TdResult) -> Session
 
 // `e`: the device result of the row's next TD.
 #[tactic(auto, unfolding(crate::specs::Lines::append_result))]
-pub fn append_result(session: Session, at: usize, given: TdResult) -> Ran
-    ensures { result ≡ quiet_ran (append_result session given) at }
+pub fn append_result(session: Session, given: TdResult) -> Ran<Session>
+    ensures { result ≡ quiet_ran (append_result session given) }
 {
     if trb::MAX_ROW < session.result_count || !session::is_in(session.endpoint) {
-        return session::bad(session, at);
+        return call_answer::bad(session);
     }
-    session::silent(with_result(session, given), at)
+    call_answer::silent(with_result(session, given))
 }

@@ -1,6 +1,7 @@
 -- 02, R-10: the shapes as text, one to a line, in a lent buffer. Assumes nothing.
-use Rattle.std.specs.Prelude.{ℕ, ◌+◌, ◌≤◌, ◌≡◌, List, [], ◌∷◌, ◌++◌, map, length}
-use Rattle.numerals.specs.Written.{Written}
+use Rattle.std.specs.Prelude.{ℕ, ◌≡◌, List, [], ◌∷◌, ◌++◌, map, length}
+use Rattle.text.specs.declared.Text.{Text}
+use Rattle.text.specs.Wrote.{HasRoom, Wrote}
 use Rattle.log_text.specs.Lines.{line_feed}
 use Rattle.shapes.specs.Letters.{Word, byte_of}
 use Rattle.shapes.specs.Lists.{shapes_up_to}
@@ -18,7 +19,8 @@ shapes_text m = lines [] (shapes_up_to m)
 abbrev pub max_text : ℕ
 max_text = 24579
 
--- the buffer t became t'; where it has room for the text from index at on, that is written there, and r is the index behind it
-pub record Laid (text t t' : List ℕ) (at r : ℕ) : Type 0 where
-  pub same_length : length t' ≡ length t
-  pub written : at + length text ≤ length t → Written (length text) t at text r t'
+-- the text t became t'; where its buffer has room for the bytes, they were written
+pub record Laid (bytes : List ℕ) (t t' : Text) : Type 0 where
+  pub same : t'.bytes.ghost_name ≡ t.bytes.ghost_name
+  pub size : length t'.bytes.now ≡ length t.bytes.now
+  pub wrote : HasRoom (length bytes) t → Wrote (length bytes) t bytes t'

@@ -4,7 +4,7 @@ use mathlib.Core.Bool.{Bool, true, false}
 use mathlib.Core.Path.{◌≡◌, refl, ap, ◌∙◌}
 use mathlib.Core.List.{List, [], ◌∷◌}
 use lib.ListN.{length}
-use Rattle.trb.specs.Answers.{refusal_of}
+use Rattle.trb.specs.Answers.{number_of, refusal_of}
 use Rattle.trb.specs.Questions.{first_no, after_questions}
 use Rattle.trb.specs.Refusals.{refusal_number}
 use Rattle.log_check.specs.WellFormed.{well_formed}
@@ -32,7 +32,7 @@ count-answer_of log = by (well_formed log) (length (compacted (rows_of log)))
     by true k = refl
     by false k = refl
 
-number-answered_as : (r : Result ℕ Refusal) → (answered_as r).number ≡ compacting.compact_number r
+number-answered_as : (r : Result ℕ Refusal) → (answered_as r).number ≡ number_of r
 number-answered_as (Ok n) = refl
 number-answered_as (Err q) = refl
 

@@ -8,6 +8,7 @@ ghost use Rattle.log_text.specs.Widths.{max_line};
 ghost use Rattle.stored_logs.specs.Stored.{check_questions, Compacts, Prints};
 
 use answer_numbers::Answered;
+use text::Text;
 use trb::Refusal;
 
 // A refused call made nothing.
@@ -58,6 +59,13 @@ pub fn print(log: &[u8], text: &mut [u8]) -> Answered
     if !log_check::well_formed(log) {
         return refused(Refusal::MalformedLog);
     }
-    let count = log_text::put_lines(text, 0, log);
-    Answered { number: 0, count }
+    let mut text = Text {
+        bytes: text,
+        end: 0,
+    };
+    log_text::put_lines(&mut text, log);
+    Answered {
+        number: 0,
+        count: text.end,
+    }
 }

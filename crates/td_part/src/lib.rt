@@ -7,6 +7,7 @@ ghost use Rattle.td_part.specs.Parts.{Within, of_normal, of_data_stage, edtla_af
 
 use trb::{CompletionCode, DataStageTrb, EndpointId, NormalTrb, SlotId};
 
+// The Rust's enum of that name, in place of an Option of the bytes missed.
 #[derive(Clone, Copy)]
 pub enum TdProcessingState {
     Default,
@@ -22,7 +23,8 @@ pub struct TdInfo {
     pub data_length: u32,
 }
 
-// What each TRB changes: where in the device's data the next write starts, the EDTLA, and the number of records logged.
+// What each TRB changes: where in the device's data the next write starts, the EDTLA, and the number of records logged. A turn asks for room in the log behind
+// these records, and uses it up: so that is a fact of each turn, and no invariant of a log and its records.
 #[derive(Clone, Copy)]
 pub struct TdProgress {
     pub start: u32,

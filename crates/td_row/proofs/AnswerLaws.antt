@@ -9,7 +9,7 @@ use lib.Dec.{leb, eqb}
 use lib.ListN.{length, take, replicate}
 use lib.Seq.{take-length, take-take, take-append_seam}
 use borrow.Author.Tests.{leb-true, eqb-true}
-use Rattle.trb.specs.Answers.{completion_number, CompletionAnswer}
+use Rattle.trb.specs.Answers.{number_of, CompletionAnswer}
 use Rattle.trb.specs.Limits.{max_held}
 use Rattle.trb.specs.Questions.{first_no, agree}
 use Rattle.trb.specs.declared.EndpointId.{EndpointId}
@@ -145,7 +145,7 @@ module _ (e : EndpointId) (s : SlotId) (mode : InMode) (ts : List TransferTrb) w
     row-answered t plan p r l' tested planned walked answered =
         let plan-is : plan ≡ row_plan (length l) e s mode (length ts) (held_test ts) res n = planned ∙ ap (λ (x : HeldTest). row_plan (length l) e s mode (length ts) x res n) tested in
         let m : Meets (row_completion (length l) e s mode ts res n) 0 l r l' = rw answered (subst Answers (sym plan-is) answers-plan p l' walked) in
-        (record { number = ap (λ (x : Logged CompletionAnswer). completion_number x.answer) m.state ∙ completion-number (length l) block res n; met = m }, accounted-row r l' m)
+        (record { number = ap (λ (x : Logged CompletionAnswer). number_of x.answer) m.state ∙ completion-number (length l) block res n; met = m }, accounted-row r l' m)
 
     pub walkable : (t : HeldTest) (plan : RowPlan) → t ≡ held_test ts → plan ≡ row_plan (length l) e s mode (length ts) t res n → Walkable plan ts (length l)
     walkable t plan tested planned =

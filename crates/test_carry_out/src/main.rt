@@ -3,36 +3,36 @@
 #![tactic(auto)]
 
 use call_log::Record;
+use guest_memory::GuestMemory;
 use std::io;
 use trb::{Answer, CompletionCode, EndpointId, SlotId};
 
 // The guest address of the 16 bytes, where a case gives no other.
 const BASE: u64 = 0x8000;
 
-fn print(rt: &impl Print, text: &[u8]) -> io::Result<()> {
-    rt.write_all(text)
-}
-
 fn print_answer(rt: &impl Print, answer: Answer) -> io::Result<()> {
     match answer {
-        Ok(()) => print(rt, b"accepted "),
-        Err(refusal) => {
-            let number = u8::from(refusal);
-            print!(rt; "refused {number} ")
-        }
+        Ok(()) => rt.write_all(b"accepted "),
+        Err(refusal) => print!(rt; "refused {} ", u8::from(refusal)),
     }
 }
 
 // A log, carried out with guest memory in one region, at `base`.
 fn case(rt: &impl Print, name: &[u8], base: u64, log: &[u8]) -> io::Result<()> {
-    let mut memory = [b'.'; 16];
+    let mut low = [b'.'; 16];
     let mut none = [b'.'; 1];
-    let answer = carry_out::carry_out(log, b"abcdefgh", base, &mut memory, 0, &mut none[..0]);
-    print(rt, name)?;
-    print(rt, b": ")?;
+    let mut memory = GuestMemory {
+        low_base: base,
+        low: &mut low,
+        high_base: 0,
+        high: &mut none[..0],
+    };
+    let answer = carry_out::carry_out(log, b"abcdefgh", &mut memory);
+    rt.write_all(name)?;
+    rt.write_all(b": ")?;
     print_answer(rt, answer)?;
-    print(rt, &memory)?;
-    print(rt, b"\n")
+    rt.write_all(&low)?;
+    rt.write_all(b"\n")
 }
 
 // A log, carried out with guest memory in two regions.
@@ -40,19 +40,16 @@ fn case_in_two(
     rt: &impl Print,
     name: &[u8],
     log: &[u8],
-    low_base: u64,
-    low: &mut [u8],
-    high_base: u64,
-    high: &mut [u8],
+    memory: &mut GuestMemory<'_>,
 ) -> io::Result<()> {
-    let answer = carry_out::carry_out(log, b"abcdefgh", low_base, low, high_base, high);
-    print(rt, name)?;
-    print(rt, b": ")?;
+    let answer = carry_out::carry_out(log, b"abcdefgh", memory);
+    rt.write_all(name)?;
+    rt.write_all(b": ")?;
     print_answer(rt, answer)?;
-    print(rt, low)?;
-    print(rt, b" ")?;
-    print(rt, high)?;
-    print(rt, b"\n")
+    rt.write_all(memory.low)?;
+    rt.write_all(b" ")?;
+    rt.write_all(memory.high)?;
+    rt.write_all(b"\n")
 }
 
 fn write(address: u64, length: u32, start: u32) -> Record {
@@ -227,7 +224,13 @@ fn log_in_two(
 ) -> io::Result<()> {
     let mut low = [b'.'; 8];
     let mut high = [b'.'; 8];
-    case_in_two(rt, name, log, low_base, &mut low, high_base, &mut high)
+    let mut memory = GuestMemory {
+        low_base,
+        low: &mut low,
+        high_base,
+        high: &mut high,
+    };
+    case_in_two(rt, name, log, &mut memory)
 }
 
 // A log of one write, likewise.
@@ -248,7 +251,13 @@ fn one_in_two(
 fn high_empty(rt: &impl Print, name: &[u8], low_base: u64, high_base: u64) -> io::Result<()> {
     let mut low = [b'.'; 8];
     let mut high = [b'.'; 1];
-    case_in_two(rt, name, b"", low_base, &mut low, high_base, &mut high[..0])
+    let mut memory = GuestMemory {
+        low_base,
+        low: &mut low,
+        high_base,
+        high: &mut high[..0],
+    };
+    case_in_two(rt, name, b"", &mut memory)
 }
 
 // Below and above the 4 GiB hole, and without one.

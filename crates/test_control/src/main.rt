@@ -4,6 +4,7 @@
 #![tactic(auto)]
 
 use control_block::{ControlBlock, GuestRelease};
+use guest_memory::GuestView;
 use std::io;
 use trb::{
     Answer, CompletionAnswer, ControlRequestProcessingResult, ControlSubmissionState, DataStageTrb,
@@ -89,69 +90,54 @@ fn unrecognized(addr: u64) -> TransferTrb {
 
 // ---- Printing
 
-fn print(rt: &impl Print, text: &[u8]) -> io::Result<()> {
-    rt.write_all(text)
-}
-
-fn print_number(rt: &impl Print, number: u64) -> io::Result<()> {
-    print(rt, b" ")?;
-    rt.print(number)
-}
-
 fn print_refusal(rt: &impl Print, refusal: Refusal) -> io::Result<()> {
-    let number = u8::from(refusal);
-    print(rt, b"refused")?;
-    print_number(rt, number as u64)
+    print!(rt; "refused {}", u8::from(refusal))
 }
 
 fn print_answer(rt: &impl Print, addr: u64, answer: Answer) -> io::Result<()> {
-    print(rt, b"TRB")?;
-    print_number(rt, addr)?;
-    print(rt, b": ")?;
+    print!(rt; "TRB {addr}: ")?;
     match answer {
-        Ok(()) => print(rt, b"accepted")?,
+        Ok(()) => rt.write_all(b"accepted")?,
         Err(refusal) => print_refusal(rt, refusal)?,
     }
-    print(rt, b"\n")
+    rt.write_all(b"\n")
 }
 
 fn print_result(rt: &impl Print, res: TrbProcessingResult) -> io::Result<()> {
     match res {
-        TrbProcessingResult::Ok => print(rt, b"Ok"),
-        TrbProcessingResult::Stall => print(rt, b"Stall"),
-        TrbProcessingResult::StallAt(_, _) => print(rt, b"Stall at an address"),
-        TrbProcessingResult::TrbError => print(rt, b"TrbError"),
-        TrbProcessingResult::TransactionError => print(rt, b"TransactionError"),
-        TrbProcessingResult::TransactionErrorAt(_, _) => print(
-            rt,
-            b"TransactionError at an address",
-        ),
-        TrbProcessingResult::Disconnect => print(rt, b"Disconnect"),
+        TrbProcessingResult::Ok => rt.write_all(b"Ok"),
+        TrbProcessingResult::Stall => rt.write_all(b"Stall"),
+        TrbProcessingResult::StallAt(_, _) => rt.write_all(b"Stall at an address"),
+        TrbProcessingResult::TrbError => rt.write_all(b"TrbError"),
+        TrbProcessingResult::TransactionError => rt.write_all(b"TransactionError"),
+        TrbProcessingResult::TransactionErrorAt(_, _) => {
+            rt.write_all(b"TransactionError at an address")
+        }
+        TrbProcessingResult::Disconnect => rt.write_all(b"Disconnect"),
     }
 }
 
 fn print_completion(rt: &impl Print, answer: CompletionAnswer) -> io::Result<()> {
-    print(rt, b"  completed: ")?;
+    rt.write_all(b"  completed: ")?;
     match answer {
         Ok(result) => print_result(rt, result)?,
         Err(refusal) => print_refusal(rt, refusal)?,
     }
-    print(rt, b"\n")
+    rt.write_all(b"\n")
 }
 
 fn print_record(rt: &impl Print, log: &[u8], index: usize) -> io::Result<()> {
-    if index < trb::MAX_RECORDS {
-        if trb::MIN_LOG <= log.len() {
-            let record = call_log::read_record(log, index);
-            print(rt, b"   ")?;
-            print_number(rt, record.kind as u64)?;
-            print_number(rt, record.code as u64)?;
-            print_number(rt, record.address)?;
-            print_number(rt, record.length as u64)?;
-            print_number(rt, record.start as u64)?;
-            print_number(rt, record.request_type as u64)?;
-            print(rt, b"\n")?;
-        }
+    if index < trb::MAX_RECORDS && trb::MIN_LOG <= log.len() {
+        let record = call_log::read_record(log, index);
+        println!(rt;
+            "    {} {} {} {} {} {}",
+            record.kind,
+            record.code,
+            record.address,
+            record.length,
+            record.start,
+            record.request_type
+        )?;
     }
     Ok(())
 }
@@ -193,14 +179,21 @@ fn collect_buffer() -> [u8; COLLECT] {
 fn complete(rt: &impl Print, block: ControlBlock) -> io::Result<ControlBlock> {
     let mut log = log_buffer();
     let device = [7u8; 18];
-    let state = block.state;
-    let result = device_result(state);
+    let result = device_result(block.state);
     let completed = control_completion::next_completion(&mut log, block, result, &device);
-    let answer = completed.answer;
-    print_completion(rt, answer)?;
+    print_completion(rt, completed.answer)?;
     print_records(rt, &log, completed.records)?;
-    let next = completed.block;
-    Ok(next)
+    Ok(completed.block)
+}
+
+// Guest memory of one region, the bytes of `window` from address 0 on.
+fn memory_in(window: &[u8]) -> GuestView<'_> {
+    GuestView {
+        low_base: 0,
+        low: window,
+        high_base: 0,
+        high: b"",
+    }
 }
 
 // Submits a TRB, and prints what comes of it.
@@ -212,21 +205,11 @@ fn submit(
 ) -> io::Result<ControlBlock> {
     let mut log = log_buffer();
     let mut collect = collect_buffer();
-    let submitted = control_submission::submit_trb(
-        &mut log,
-        &mut collect,
-        block,
-        t,
-        0,
-        window,
-        0,
-        b"",
-    );
-    let answer = submitted.answer;
-    print_answer(rt, t.addr, answer)?;
+    let memory = memory_in(window);
+    let submitted = control_submission::submit_trb(&mut log, &mut collect, block, t, &memory);
+    print_answer(rt, t.addr, submitted.answer)?;
     print_records(rt, &log, submitted.records)?;
-    let next = submitted.block;
-    Ok(next)
+    Ok(submitted.block)
 }
 
 // Submits and completes the first `count` TRBs of a row.
@@ -251,16 +234,8 @@ fn run(
 fn pass(window: &[u8], block: ControlBlock, t: TransferTrb) -> ControlBlock {
     let mut log = log_buffer();
     let mut collect = collect_buffer();
-    let submitted = control_submission::submit_trb(
-        &mut log,
-        &mut collect,
-        block,
-        t,
-        0,
-        window,
-        0,
-        b"",
-    );
+    let memory = memory_in(window);
+    let submitted = control_submission::submit_trb(&mut log, &mut collect, block, t, &memory);
     let between = submitted.block;
     let completed = control_completion::next_completion(&mut log, between, None, b"");
     let next = completed.block;
@@ -323,9 +298,7 @@ fn after_unrecognized() -> [TransferTrb; ROW] {
 }
 
 fn fresh() -> ControlBlock {
-    let created = control_endpoint::create(EndpointId(3), SlotId(2), GuestRelease::Release4);
-    let block = created.block;
-    block
+    control_endpoint::create(EndpointId(3), SlotId(2), GuestRelease::Release4).block
 }
 
 // A Setup and a chained Data stage of this length.
@@ -345,11 +318,11 @@ fn lengthened(window: &[u8], block: ControlBlock, rounds: usize) -> ControlBlock
 }
 
 fn run_rows(rt: &impl Print, window: &[u8]) -> io::Result<()> {
-    print(rt, b"An Unrecognized TRB before the status stage\n")?;
+    rt.write_all(b"An Unrecognized TRB before the status stage\n")?;
     run(rt, window, fresh(), unrecognized_in_a_chain(), 4)?;
-    print(rt, b"65,536 bytes, 65,535, one more, none more\n")?;
+    rt.write_all(b"65,536 bytes, 65,535, one more, none more\n")?;
     run(rt, window, fresh(), collected_limit(), 5)?;
-    print(rt, b"The 512th held TRB, the 513th, and Setup\n")?;
+    rt.write_all(b"The 512th held TRB, the 513th, and Setup\n")?;
     let full = pass_often(
         window,
         started(window, 0),
@@ -358,7 +331,7 @@ fn run_rows(rt: &impl Print, window: &[u8]) -> io::Result<()> {
     );
     run(rt, window, full, held_limit(), 5)?;
     // 32,769 TRBs of 131,071 bytes ask for 4,295,065,599 bytes, which is 98,303 modulo 2^32.
-    print(rt, b"A request length past 2^32\n")?;
+    rt.write_all(b"A request length past 2^32\n")?;
     let long = lengthened(window, started(window, 131071), 64);
     run(rt, window, long, after_unrecognized(), 3)
 }

@@ -2,6 +2,7 @@
 // case's name, the answer with the number of records, and the bytes of both regions afterwards.
 #![tactic(auto)]
 
+use guest_memory::GuestMemory;
 use in_block::InBlock;
 use in_endpoint::Completed;
 use in_td::InMode;
@@ -17,21 +18,10 @@ const HIGH: u64 = 0x1_0000_0000;
 
 const SHORT_LOG: usize = trb::MIN_LOG - 1;
 
-fn print(rt: &impl Print, text: &[u8]) -> io::Result<()> {
-    rt.write_all(text)
-}
-
 fn print_answer(rt: &impl Print, done: Completed) -> io::Result<()> {
-    let answer = done.answer;
-    match answer {
-        Ok(_) => {
-            let records = done.records;
-            print!(rt; "accepted, {records} records ")
-        }
-        Err(refusal) => {
-            let number = u8::from(refusal);
-            print!(rt; "refused {number} ")
-        }
+    match done.answer {
+        Ok(_) => print!(rt; "accepted, {} records ", done.records),
+        Err(refusal) => print!(rt; "refused {} ", u8::from(refusal)),
     }
 }
 
@@ -48,16 +38,20 @@ fn case_with_log(
 ) -> io::Result<()> {
     let mut low = [b'.'; 8];
     let mut high = [b'.'; 8];
-    let done = delivery::complete_and_carry_out(
-        log, block, res, data, low_base, &mut low, high_base, &mut high,
-    );
-    print(rt, name)?;
-    print(rt, b": ")?;
+    let mut memory = GuestMemory {
+        low_base,
+        low: &mut low,
+        high_base,
+        high: &mut high,
+    };
+    let done = delivery::complete_and_carry_out(log, block, res, data, &mut memory);
+    rt.write_all(name)?;
+    rt.write_all(b": ")?;
     print_answer(rt, done)?;
-    print(rt, &low)?;
-    print(rt, b" ")?;
-    print(rt, &high)?;
-    print(rt, b"\n")
+    rt.write_all(&low)?;
+    rt.write_all(b" ")?;
+    rt.write_all(&high)?;
+    rt.write_all(b"\n")
 }
 
 fn case(

@@ -2,6 +2,7 @@
 // a case's name, the answer with the number of records and of TDs finished well, and the bytes of both regions afterwards.
 #![tactic(auto)]
 
+use guest_memory::GuestMemory;
 use in_block::InBlock;
 use in_row::TdsCompleted;
 use in_td::InMode;
@@ -28,22 +29,13 @@ struct Row {
     tds: usize,
 }
 
-fn print(rt: &impl Print, text: &[u8]) -> io::Result<()> {
-    rt.write_all(text)
-}
-
 fn print_answer(rt: &impl Print, done: TdsCompleted) -> io::Result<()> {
-    let answer = done.answer;
-    match answer {
-        Ok(_) => {
-            let records = done.records;
-            let finished = done.finished;
-            print!(rt; "accepted, {records} records, {finished} finished ")
-        }
-        Err(refusal) => {
-            let number = u8::from(refusal);
-            print!(rt; "refused {number} ")
-        }
+    match done.answer {
+        Ok(_) => print!(rt;
+            "accepted, {} records, {} finished ",
+            done.records, done.finished
+        ),
+        Err(refusal) => print!(rt; "refused {} ", u8::from(refusal)),
     }
 }
 
@@ -65,26 +57,31 @@ fn case_with_log(
         length: 0,
     };
     let mut results = [nothing; trb::MAX_ROW];
-    let given = row.trbs;
-    let gave = row.results;
-    let tds = row.tds;
-    trbs[0] = given[0];
-    trbs[1] = given[1];
-    trbs[2] = given[2];
-    trbs[3] = given[3];
-    results[0] = gave[0];
-    results[1] = gave[1];
-    results[2] = gave[2];
+    trbs[..row.trbs.len()].copy_from_slice(&row.trbs);
+    results[..row.results.len()].copy_from_slice(&row.results);
+    let mut memory = GuestMemory {
+        low_base: LOW,
+        low: &mut low,
+        high_base,
+        high: &mut high,
+    };
     let done = row_delivery::complete_tds_and_carry_out(
-        log, block, trbs, 4, results, tds, data, LOW, &mut low, high_base, &mut high,
+        log,
+        block,
+        trbs,
+        row.trbs.len(),
+        results,
+        row.tds,
+        data,
+        &mut memory,
     );
-    print(rt, name)?;
-    print(rt, b": ")?;
+    rt.write_all(name)?;
+    rt.write_all(b": ")?;
     print_answer(rt, done)?;
-    print(rt, &low)?;
-    print(rt, b" ")?;
-    print(rt, &high)?;
-    print(rt, b"\n")
+    rt.write_all(&low)?;
+    rt.write_all(b" ")?;
+    rt.write_all(&high)?;
+    rt.write_all(b"\n")
 }
 
 fn case(

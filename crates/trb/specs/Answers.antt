@@ -20,20 +20,15 @@ CompletionAnswer = Result TrbProcessingResult Refusal
 
 -- ---- Numbers
 
--- of creation, submission and carry-out: 0 where the call is accepted
-abbrev pub number_of : Answer → ℕ
-number_of (Ok tt) = 0
+-- of any answer: 0 where the call is accepted
+abbrev pub number_of : {A : Type 0} → Result A Refusal → ℕ
+number_of (Ok a) = 0
 number_of (Err r) = refusal_number r
 
 -- every question was answered yes
 abbrev pub is_accepted : Answer → Bool
 is_accepted (Ok tt) = true
 is_accepted (Err r) = false
-
--- of a completion
-abbrev pub completion_number : CompletionAnswer → ℕ
-completion_number (Ok r) = 0
-completion_number (Err r) = refusal_number r
 
 -- ---- The refusal with a number
 

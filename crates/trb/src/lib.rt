@@ -3,6 +3,7 @@
 #![tactic(auto)]
 
 ghost use Rattle.std.specs.Prelude.{◌≡◌, cond, Ok, Err};
+ghost use Rattle.trb.specs.Answers.{number_of};
 ghost use Rattle.trb.specs.Ids.{ids_in_range};
 ghost use Rattle.trb.specs.Limits.{limit_table};
 ghost use Rattle.trb.specs.Trbs.{transfer_length, immediate_of, chain_of};
@@ -362,6 +363,16 @@ pub fn ask(yes: bool, refusal: Refusal) -> Answer
 
 // What completion answers.
 pub type CompletionAnswer = Result<TrbProcessingResult, Refusal>;
+
+// The number of any answer: document 01's for a no, 0 for a call that was accepted.
+pub fn number_of<A: Copy>(answer: Result<A, Refusal>) -> u8
+    ensures { result ≡ number_of answer }
+{
+    match answer {
+        Ok(_) => 0,
+        Err(refusal) => u8::from(refusal),
+    }
+}
 
 // What creation returns: the answer, and the block.
 #[derive(Clone, Copy)]

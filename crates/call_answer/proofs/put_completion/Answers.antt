@@ -1,24 +1,23 @@
 -- `call_answer::put_completion` meets its contract: first line, records and carry-out's line stand one behind the other. Assumes nothing.
 use mathlib.Core.Path.{refl}
-use native.Mathlib.Omega.{arith}
 use lib.Dec.{lit≤}
-use Rattle.numerals.proofs.WrittenLaws.{written-append, written-within}
+use Rattle.text.proofs.WroteLaws.{wrote-append, wrote-within}
 use Rattle.call_answer.specs.Answers.{completion_text, completion_memory}
 use Rattle.call_answer.proofs.put_completion.Goals as goal
 
-pub returns-in-Ok : goal.returns-in-Ok
+pub returns-in-Ok-clause-answer : goal.returns-in-Ok-clause-answer
 unfolding completion_text completion_memory
-returns-in-Ok c =
+returns-in-Ok-clause-answer c =
     rw c.in-Ok.is
     (record {
-      text = written-append c.args.at (omega (arith, c.requires.max_carried_out_in_bounds))
-          (written-append c.args.at (omega (arith, c.requires.max_carried_out_in_bounds)) (rw c.count.ensures at c.put_completed-next.ensures) c.put_first_records-end.ensures)
-          c.put_carry_out.ensures.text;
-      after = c.put_carry_out.ensures.after;
+      text = wrote-append
+          (wrote-append (rw c.count.ensures at c.put_completed.ensures) c.put_first_records.ensures)
+          c.put_carry_out.ensures.answer.text;
+      after = c.put_carry_out.ensures.answer.after;
     })
 
-pub returns-in-Err : goal.returns-in-Err
+pub returns-in-Err-clause-answer : goal.returns-in-Err-clause-answer
 unfolding completion_text completion_memory
-returns-in-Err c =
+returns-in-Err-clause-answer c =
     rw c.in-Err.is
-    (record { text = written-within (lit≤ tt) (rw c.from.ensures at c.put_refused.ensures); after = refl })
+    (record { text = wrote-within (lit≤ tt) (rw c.from.ensures at c.put_refused.ensures); after = refl })

@@ -1,8 +1,6 @@
 -- `call_captures::put_result` meets its contract: on no endpoint nothing is laid. Assumes nothing.
-use Rattle.std.proofs.Common.{arith}
-use Rattle.captured_calls.proofs.WrittenLaws.{lays-none}
-use Rattle.session.proofs.EndpointLaws.{on-none}
+use Rattle.captured_calls.proofs.WrittenLaws.{laid-none}
 use Rattle.call_captures.proofs.put_result.Goals as goal
 
 pub returns-in_default : goal.returns-in_default
-returns-in_default c = rw (on-none _ c.in_default.not-Some) (lays-none c.args.output.now 0 (omega arith))
+returns-in_default c = rw c.in_default.is (laid-none c.requires)

@@ -1,10 +1,9 @@
 -- `call_text::put_decimal_behind` meets its contract: the number stands behind the space. Assumes nothing.
-use native.Mathlib.Omega.{arith}
-use Rattle.numerals.proofs.WrittenLaws.{written-append}
+use Rattle.text.proofs.WroteLaws.{wrote-append}
 use Rattle.call_text.proofs.put_decimal_behind.Goals as goal
 
 pub returns : goal.returns
 returns c =
-    written-append c.args.at (omega (arith, c.requires))
-    c.put_char-next.ensures
+    wrote-append
+    c.put_char.ensures
     c.put_decimal.ensures

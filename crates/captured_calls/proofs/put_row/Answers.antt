@@ -8,7 +8,7 @@ use native.Mathlib.Omega.{arith}
 use lib.Dec.{eqb}
 use lib.ListN.{length, take}
 use Rattle.trb.specs.Limits.{max_row}
-use Rattle.captured_calls.proofs.WrittenLaws.{continues-start, continues-turn, continues-end}
+use Rattle.captured_calls.proofs.WrittenLaws.{remaining-all, remaining-less, remaining-none}
 use Rattle.captured_calls.proofs.LeastLaws.{take-least}
 use Rattle.captured_calls.proofs.RowLaws.{row-turn, row-end}
 use Rattle.captured_calls.proofs.put_row.Goals.{Start}
@@ -23,25 +23,11 @@ module _ (s : Start) where
   result-places = omega arith
 
 pub loop-td-init : goal.loop-td-init
-loop-td-init c = (c.min-trbs.ensures, (c.min-logged.ensures, (omega arith, rw sub-zero (continues-start _ c.args.output.now c.args.at c.requires))))
-
-pub td_at-found-requires : goal.td_at-found-requires
-td_at-found-requires c = omega (arith, c.loop-td.invariant.0)
-
-pub part_end-end-requires : goal.part_end-end-requires
-part_end-end-requires c = c.loop-td.invariant.1.1.0
-
-pub slice_bounds-put_td-count : goal.slice_bounds-put_td-count
-slice_bounds-put_td-count c = omega (arith, c.part_end-end.ensures)
-
-pub put_td-put-requires : goal.put_td-put-requires
-put_td-put-requires c =
-    let l = c.loop-td in
-    (l.invariant.1.1.1.inside, omega (arith, l.invariant.1.0))
+loop-td-init c = (c.min-trbs.ensures, (c.min-logged.ensures, (omega arith, rw sub-zero (remaining-all _ c.requires))))
 
 pub loop-td-preserved : goal.loop-td-preserved
 loop-td-preserved c =
-    let put = c.put_td-put in
+    let put = c.put_td-from in
     let span = c.td_at-found.ensures in
     let l = c.loop-td in (
       l.invariant.0,
@@ -49,19 +35,16 @@ loop-td-preserved c =
         l.invariant.1.0,
         (
           omega (arith, c.part_end-end.ensures, l.invariant.1.1.0),
-          continues-turn _ _ _
-              (row-turn _ _ _ c.args.results c.min-logged.result c.args.log.now c.args.«data».now _ _ l.from _ (omega (arith, c.loop-td-test.true, result-places (goal.at.loop-td-preserved c).Start)) _ _ put.result.from _ (ap (λ (k : ℕ). not (eqb k 0)) span.count) span.end put.ensures.behind c.part_end-end.ensures)
+          remaining-less
+              (row-turn _ _ _ c.args.results c.min-logged.result c.args.log.now c.args.«data».now _ _ l.from _ (omega (arith, c.loop-td-test.true, result-places (goal.at.loop-td-preserved c).Start)) _ _ put.result _ (ap (λ (k : ℕ). not (eqb k 0)) span.count) span.end put.ensures.left c.part_end-end.ensures)
               l.invariant.1.1.1
-              put.ensures.lays,
+              put.ensures.laid,
         ),
       ),
     )
-
-pub shape_of-output : goal.shape_of-output
-shape_of-output c = c.loop-td.invariant.1.1.1.size
 
 pub returns : goal.returns
 returns c =
     let l = c.loop-td in
     let row = take-least c.args.row c.args.count c.min-trbs.result (rw (places (goal.at.returns c).Start) l.invariant.0) in
-    rw (← l.invariant.1.0, ← row) (continues-end _ (row-end _ _ (take c.min-trbs.result c.args.row) c.args.results c.min-logged.result c.args.log.now c.args.«data».now l.first l.td l.from l.start (omega (arith, c.loop-td-test.false, result-places (goal.at.returns c).Start))) l.invariant.1.1.1)
+    rw (← l.invariant.1.0, ← row) (remaining-none (row-end _ _ (take c.min-trbs.result c.args.row) c.args.results c.min-logged.result c.args.log.now c.args.«data».now l.first l.td l.from l.start (omega (arith, c.loop-td-test.false, result-places (goal.at.returns c).Start))) l.invariant.1.1.1)

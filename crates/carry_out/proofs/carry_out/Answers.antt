@@ -3,4 +3,4 @@ use Rattle.std.proofs.Common.{rules}
 use Rattle.carry_out.proofs.carry_out.Goals as goal
 
 pub perform_writes-requires : goal.perform_writes-requires
-perform_writes-requires c = rw (← c.guest_regions-regions.ensures) (search rules)
+perform_writes-requires c = rw (← c.regions-regions.ensures) (search rules)

@@ -11,32 +11,32 @@ use Rattle.carry_out.proofs.perform_write.Goals as goal
 
 pub write_bulk-requires : goal.write_bulk-requires
 write_bulk-requires c = (
-  (placed-low _ _ _ _ (rw (c.place_range.ensures, c.guest_regions-regions.ensures) at c.in-InLow.is)).fits,
+  (placed-low _ _ _ _ (rw (c.place_range.ensures, c.regions-regions.ensures) at c.in-InLow.is)).fits,
   write_in_range-end _ _ c.args.«record» (sym c.moves_bytes.ensures ∙ c.if-moves_bytes.true) c.requires,
 )
 
 pub write_bulk-requires-in-InHigh : goal.write_bulk-requires-in-InHigh
 write_bulk-requires-in-InHigh c = (
-  (placed-high _ _ _ _ (rw (c.place_range.ensures, c.guest_regions-regions.ensures) at c.in-InHigh.is)).fits,
+  (placed-high _ _ _ _ (rw (c.place_range.ensures, c.regions-regions.ensures) at c.in-InHigh.is)).fits,
   write_in_range-end _ _ c.args.«record» (sym c.moves_bytes.ensures ∙ c.if-moves_bytes.true) c.requires,
 )
 
-pub returns-in-Outside : goal.returns-in-Outside
+pub returns-in-Outside-clause-after : goal.returns-in-Outside-clause-after
 unfolding after_record
-returns-in-Outside c = rw (← c.moves_bytes.ensures, c.if-moves_bytes.true, ← c.guest_regions-regions.ensures, ← c.place_range.ensures, c.in-Outside.is)
+returns-in-Outside-clause-after c = rw (← c.moves_bytes.ensures, c.if-moves_bytes.true, ← c.regions-regions.ensures, ← c.place_range.ensures, c.in-Outside.is)
 
-pub returns-in-InLow : goal.returns-in-InLow
+pub returns-in-InLow-clause-after : goal.returns-in-InLow-clause-after
 unfolding after_record
-returns-in-InLow c =
-    rw (← c.moves_bytes.ensures, c.if-moves_bytes.true, ← c.guest_regions-regions.ensures, ← c.place_range.ensures, c.in-InLow.is)
-    (ap (λ (low : List ℕ). memory_of c.args.low_base low c.args.high_base c.args.high.now) c.write_bulk.ensures)
+returns-in-InLow-clause-after c =
+    rw (← c.moves_bytes.ensures, c.if-moves_bytes.true, ← c.regions-regions.ensures, ← c.place_range.ensures, c.in-InLow.is)
+    (ap (λ (low : List ℕ). memory_of c.args.memory.now.low_base low c.args.memory.now.high_base c.args.memory.now.high.now) c.write_bulk.ensures)
 
-pub returns-in-InHigh : goal.returns-in-InHigh
+pub returns-in-InHigh-clause-after : goal.returns-in-InHigh-clause-after
 unfolding after_record
-returns-in-InHigh c =
-    rw (← c.moves_bytes.ensures, c.if-moves_bytes.true, ← c.guest_regions-regions.ensures, ← c.place_range.ensures, c.in-InHigh.is)
-    (ap (λ (high : List ℕ). memory_of c.args.low_base c.args.low.now c.args.high_base high) c.write_bulk-in-InHigh.ensures)
+returns-in-InHigh-clause-after c =
+    rw (← c.moves_bytes.ensures, c.if-moves_bytes.true, ← c.regions-regions.ensures, ← c.place_range.ensures, c.in-InHigh.is)
+    (ap (λ (high : List ℕ). memory_of c.args.memory.now.low_base c.args.memory.now.low.now c.args.memory.now.high_base high) c.write_bulk-in-InHigh.ensures)
 
-pub returns-else-moves_bytes : goal.returns-else-moves_bytes
+pub returns-else-moves_bytes-clause-after : goal.returns-else-moves_bytes-clause-after
 unfolding after_record
-returns-else-moves_bytes c = rw (← c.moves_bytes.ensures, c.if-moves_bytes.false)
+returns-else-moves_bytes-clause-after c = rw (← c.moves_bytes.ensures, c.if-moves_bytes.false)

@@ -3,4 +3,4 @@ use Rattle.control_calls.proofs.CallLaws.{says-cancelled}
 use Rattle.control_calls.proofs.cancel.Goals as goal
 
 pub returns : goal.returns
-returns c = says-cancelled c.args.at c.requires _ _ c.cancel.ensures c.put_answer-next.ensures c.answered.ensures
+returns c = says-cancelled _ _ c.cancel.ensures c.put_answer.ensures c.answered.ensures

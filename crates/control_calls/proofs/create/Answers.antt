@@ -3,4 +3,4 @@ use Rattle.control_calls.proofs.CallLaws.{says-created}
 use Rattle.control_calls.proofs.create.Goals as goal
 
 pub returns : goal.returns
-returns c = says-created c.args.at c.requires _ _ _ _ c.create-created.ensures.met c.put_answer-next.ensures c.answered.ensures
+returns c = says-created _ _ _ _ c.create-created.ensures.met c.put_answer.ensures c.answered.ensures

@@ -12,32 +12,32 @@ slice_bounds-given-end c = rw c.min.ensures (sym (length-take-le _ _ (omega arit
 pub slice_bounds-given-end-in-CompleteWithout : goal.slice_bounds-given-end-in-CompleteWithout
 slice_bounds-given-end-in-CompleteWithout c = rw c.min-in-CompleteWithout.ensures (sym (length-take-le _ _ (omega arith)))
 
-pub returns-in-Submit : goal.returns-in-Submit
+pub returns-in-Submit-clause-answer : goal.returns-in-Submit-clause-answer
 unfolding control_call collect_behind
-returns-in-Submit c = rw c.in-Submit.is c.submit.ensures
+returns-in-Submit-clause-answer c = rw c.in-Submit.is (rw c.view.ensures at c.submit.ensures)
 
-pub returns-in-CompleteWithResult : goal.returns-in-CompleteWithResult
+pub returns-in-CompleteWithResult-clause-answer : goal.returns-in-CompleteWithResult-clause-answer
 unfolding control_call collect_behind
-returns-in-CompleteWithResult c = rw (c.in-CompleteWithResult.is, ← c.result_of.ensures, ← take-least _ _ c.min.ensures) (record { runs = c.complete.ensures; collected = refl })
+returns-in-CompleteWithResult-clause-answer c = rw (c.in-CompleteWithResult.is, ← c.result_of.ensures, ← take-least _ _ c.min.ensures) (record { runs = c.complete.ensures.answer; collected = refl })
 
-pub returns-in-CompleteWithout : goal.returns-in-CompleteWithout
+pub returns-in-CompleteWithout-clause-answer : goal.returns-in-CompleteWithout-clause-answer
 unfolding control_call collect_behind
-returns-in-CompleteWithout c = rw (c.in-CompleteWithout.is, ← take-least _ _ c.min-in-CompleteWithout.ensures) (record { runs = c.complete-in-CompleteWithout.ensures; collected = refl })
+returns-in-CompleteWithout-clause-answer c = rw (c.in-CompleteWithout.is, ← take-least _ _ c.min-in-CompleteWithout.ensures) (record { runs = c.complete-in-CompleteWithout.ensures.answer; collected = refl })
 
-pub returns-in-Cancel : goal.returns-in-Cancel
+pub returns-in-Cancel-clause-answer : goal.returns-in-Cancel-clause-answer
 unfolding control_call collect_behind
-returns-in-Cancel c = rw c.in-Cancel.is (record { runs = record { says = c.cancel.ensures; log = refl; memory = refl }; collected = refl })
+returns-in-Cancel-clause-answer c = rw c.in-Cancel.is (record { runs = record { says = c.cancel.ensures; log = refl; memory = refl }; collected = refl })
 
-pub returns-in-Hold : goal.returns-in-Hold
+pub returns-in-Hold-clause-answer : goal.returns-in-Hold-clause-answer
 unfolding control_call collect_behind
-returns-in-Hold c = rw c.in-Hold.is (record { runs = record { says = says-silent _ _ _ _ (text-hold_call _ _) c.hold.ensures; log = refl; memory = refl }; collected = refl })
+returns-in-Hold-clause-answer c = rw c.in-Hold.is (record { runs = record { says = says-silent (text-hold_call _ _) c.requires.has_room c.hold.ensures; log = refl; memory = refl }; collected = refl })
 
-pub returns-in-MakeUpControl : goal.returns-in-MakeUpControl
+pub returns-in-MakeUpControl-clause-answer : goal.returns-in-MakeUpControl-clause-answer
 unfolding control_call collect_behind
-returns-in-MakeUpControl c = rw c.in-MakeUpControl.is (record { runs = record { says = says-silent _ _ _ _ refl c.make_up.ensures; log = refl; memory = refl }; collected = refl })
+returns-in-MakeUpControl-clause-answer c = rw c.in-MakeUpControl.is (record { runs = record { says = says-silent refl c.requires.has_room c.make_up.ensures; log = refl; memory = refl }; collected = refl })
 
-pub returns-in_default : goal.returns-in_default
-returns-in_default c =
+pub returns-in_default-clause-answer : goal.returns-in_default-clause-answer
+returns-in_default-clause-answer c =
     let no = c.in_default in
     rw (bad-call _ _ _ _ _ _ c.args.call no.not-Submit no.not-CompleteWithResult no.not-CompleteWithout no.not-Cancel no.not-Hold no.not-MakeUpControl, kept-collect _ _ _ _ _ c.args.call no.not-Submit)
-    (record { runs = record { says = says-silent _ _ _ _ refl c.bad.ensures; log = refl; memory = refl }; collected = refl })
+    (record { runs = record { says = says-silent refl c.requires.has_room c.bad.ensures; log = refl; memory = refl }; collected = refl })

@@ -13,9 +13,9 @@ slice_bounds-submit_trb-end-2 c = rw c.min-end.ensures (sym (length-take-le _ _ 
 
 pub returns : goal.returns
 returns c =
-    let kept = collected-behind c.args.block c.args.t c.args.lent c.args.collect.now _ _ c.min-end.ensures c.submit_trb-submitted.ensures.collect in
+    let kept = collected-behind c.args.block c.args.t c.args.collect_lent c.args.collect.now _ _ c.min-end.ensures c.submit_trb-submitted.ensures.collect in
     record {
-      runs = runs-submitted c.args.at c.args.block _ c.requires.max_answer_in_bounds _ c.args.lent c.args.collect.now (take-least _ _ c.min-end.ensures)
-          c.submit_trb-submitted.ensures.met kept c.put_answer-next.ensures c.answered.ensures;
+      runs = runs-submitted c.args.block _ _ c.args.collect_lent c.args.collect.now (take-least _ _ c.min-end.ensures)
+          c.submit_trb-submitted.ensures.met kept c.put_answer.ensures c.answered.ensures;
       collected = kept;
     }

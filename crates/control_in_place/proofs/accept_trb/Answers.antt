@@ -5,7 +5,7 @@ use mathlib.Core.List.{[]}
 use Rattle.buffers.specs.Patch.{patch}
 use lib.ListN.{length}
 use Rattle.held_bytes.specs.Numbers.{trb_of}
-use Rattle.guest_memory.specs.Places.{memory_of}
+use Rattle.guest_memory.specs.Lent.{seen}
 use Rattle.control_block.specs.Facts.{facts_of}
 use Rattle.control_transfer.specs.Data.{bytes_of}
 use Rattle.control_transfer.specs.Transfers.{collects, collectable}
@@ -16,7 +16,7 @@ use Rattle.control_in_place.proofs.accept_trb.Goals.{Start}
 use Rattle.control_in_place.proofs.accept_trb.Goals as goal
 
 passed : (s : Start) → let a = s.args in Passed (length a.log.now) (length a.collect.now) (facts_of (block_of a.block.now)) a.outcome (trb_of a.numbers)
-passed s = let a = s.args in pass a.log.now a.collect.now a.block.now (trb_of a.numbers) (memory_of a.low_base a.low.now a.high_base a.high.now) a.outcome s.requires.acceptable
+passed s = let a = s.args in pass a.log.now a.collect.now a.block.now (trb_of a.numbers) (seen a.memory.now) a.outcome s.requires.acceptable
 
 pub log_submission-records-requires : goal.log_submission-records-requires
 log_submission-records-requires c = (c.requires.acceptable.long, ((passed (goal.at.log_submission-records-requires c).Start).log-long, (passed (goal.at.log_submission-records-requires c).Start).held))
@@ -29,13 +29,13 @@ collect_data-requires c =
 pub take_trb-requires : goal.take_trb-requires
 take_trb-requires c =
     let a = c.args in
-    record { block_length_in_bounds = (c.requires.acceptable.long, ((passed (goal.at.take_trb-requires c).Start).held, ((passed (goal.at.take_trb-requires c).Start).collected, c.requires.data_value))); holdable = holdable a.log.now a.collect.now a.block.now (trb_of a.numbers) (memory_of a.low_base a.low.now a.high_base a.high.now) a.outcome c.requires.acceptable }
+    record { block_length_in_bounds = (c.requires.acceptable.long, ((passed (goal.at.take_trb-requires c).Start).held, ((passed (goal.at.take_trb-requires c).Start).collected, c.requires.data_value))); holdable = holdable a.log.now a.collect.now a.block.now (trb_of a.numbers) (seen a.memory.now) a.outcome c.requires.acceptable }
 
 pub returns : goal.returns
 returns c =
     let old = c.transfer-transfer.ensures in
     record {
       log = c.log_submission-records.ensures;
-      collect = c.collect_data.ensures ∙ (λ j. patch c.args.collect.now (old j).collected (cond (collects c.args.outcome (old j).direction) (bytes_of (memory_of c.args.low_base c.args.low.now c.args.high_base c.args.high.now) (c.requires.data_value j)) []));
+      collect = c.collect_data.ensures ∙ (λ j. patch c.args.collect.now (old j).collected (cond (collects c.args.outcome (old j).direction) (bytes_of (seen c.args.memory.now) (c.requires.data_value j)) []));
       becomes = c.take_trb.ensures;
     }

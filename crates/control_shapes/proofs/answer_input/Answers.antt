@@ -12,5 +12,5 @@ returns g c =
     let read = c.in_ok-read.ensures in
     on_ok_weaker c.write_all.result
     (λ written. writes-for answer_text 4 longer-same _ _ (take c.in_ok-read.read c.read_full.new.buffer) read.bytes (λ short. read.end (omega (arith, short, read.bound.1))) _ _
-    (subst (Appends _ _) (text-first c.put_answer-end.ensures) written))
+    (subst (Appends _ _) (text-first _ c.put_text-end.ensures.text c.put_text-end.ensures.length) written))
     c.write_all.ensures.bytes

@@ -9,7 +9,8 @@ use Rattle.call_log.specs.declared.Record.{Record}
 use Rattle.call_log.specs.Calls.{Put, Meets, counted}
 use Rattle.held.specs.Places.{cleared}
 use Rattle.guest_memory.specs.declared.Regions.{Regions}
-use Rattle.guest_memory.specs.Places.{memory_of, regions_of}
+use Rattle.guest_memory.specs.Places.{regions_of}
+use Rattle.guest_memory.specs.Lent.{seen}
 use Rattle.td_part.specs.declared.TdProgress.{TdProgress}
 use Rattle.phase_table.specs.declared.Outcome.{Outcome}
 use Rattle.phase_table.specs.Outcomes.{holds, restarts}
@@ -30,25 +31,25 @@ use Rattle.control_submission.proofs.submit_trb.Goals as goal
 
 numbered-by : (k : After-ask_submission-answer) → let s = k.args in
     number_of k.ask_submission-answer.result
-    ≡ first_no (submission_questions (length s.log.now) (length s.collect.now) (facts_of s.block) k.trb_outcome-outcome.result s.t (regions_of (memory_of s.low_base s.low.now s.high_base s.high.now)))
+    ≡ first_no (submission_questions (length s.log.now) (length s.collect.now) (facts_of s.block) k.trb_outcome-outcome.result s.t (regions_of (seen s.memory.now)))
 numbered-by k =
     let s = k.args in
     let b = s.block in
     (rw k.facts_of-facts.ensures at k.ask_submission-answer.ensures)
-    ∙ ap (λ (rs : Regions). first_no (submission_questions (length s.log.now) (length s.collect.now) (facts_of b) k.trb_outcome-outcome.result s.t rs)) k.guest_regions-regions.ensures
+    ∙ ap (λ (rs : Regions). first_no (submission_questions (length s.log.now) (length s.collect.now) (facts_of b) k.trb_outcome-outcome.result s.t rs)) k.regions-regions.ensures
 
 numbered : (k : After-ask_submission-answer) → let s = k.args in
-    number_of k.ask_submission-answer.result ≡ first_no (questions_of (length s.log.now) (length s.collect.now) s.block s.t (regions_of (memory_of s.low_base s.low.now s.high_base s.high.now)))
+    number_of k.ask_submission-answer.result ≡ first_no (questions_of (length s.log.now) (length s.collect.now) s.block s.t (regions_of (seen s.memory.now)))
 numbered k =
     let s = k.args in
     numbered-by k
-    ∙ ap (λ (o : Outcome). first_no (submission_questions (length s.log.now) (length s.collect.now) (facts_of s.block) o s.t (regions_of (memory_of s.low_base s.low.now s.high_base s.high.now)))) k.trb_outcome-outcome.ensures
+    ∙ ap (λ (o : Outcome). first_no (submission_questions (length s.log.now) (length s.collect.now) (facts_of s.block) o s.t (regions_of (seen s.memory.now)))) k.trb_outcome-outcome.ensures
 
 pass : (k : After-ask_submission-answer) → k.ask_submission-answer.result ≡ Ok tt → let s = k.args in
     Passed (length s.log.now) (length s.collect.now) (facts_of s.block) k.trb_outcome-outcome.result s.t
 pass k told =
     let s = k.args in
-    passed (facts_of s.block) k.trb_outcome-outcome.result s.t (regions_of (memory_of s.low_base s.low.now s.high_base s.high.now)) (length s.log.now) (length s.collect.now) (sym (numbered-by k) ∙ ap number_of told)
+    passed (facts_of s.block) k.trb_outcome-outcome.result s.t (regions_of (seen s.memory.now)) (length s.log.now) (length s.collect.now) (sym (numbered-by k) ∙ ap number_of told)
 
 -- ---- The places that are dropped
 
@@ -195,7 +196,7 @@ transfer_after-transfer-requires c = (pass (goal.at.transfer_after-transfer-requ
 pub returns-in-Err : goal.returns-in-Err
 returns-in-Err c =
     let s = c.args in
-    submits-refused s.block s.t (memory_of s.low_base s.low.now s.high_base s.high.now) s.log.now s.collect.now _ c.ask_submission-answer.result c.in-Err.is (numbered (goal.at.returns-in-Err c).After-ask_submission-answer)
+    submits-refused s.block s.t (seen s.memory.now) s.log.now s.collect.now _ c.ask_submission-answer.result c.in-Err.is (numbered (goal.at.returns-in-Err c).After-ask_submission-answer)
 
 pub returns-after-is_held : goal.returns-after-is_held
 returns-after-is_held c =
@@ -211,7 +212,7 @@ returns-after-is_held c =
     let room : length b.trbs ≡ max_held = omega arith in
     let empty = blank b s.t s.log.now s.collect.now o d p drops room l.log l.progress l.trbs l.j l.invariant c.loop-j-test.false in
     let written = logged b s.t s.log.now s.collect.now o d p drops room l.log l.progress l.trbs l.j l.invariant c.loop-j-test.false c.log_request-records.result c.log_request-records.new.log c.log_request-records.ensures in
-    submits-accepted b s.t (memory_of s.low_base s.low.now s.high_base s.high.now) s.log.now s.collect.now o c.trb_outcome-outcome.ensures (sym (numbered k.After-ask_submission-answer) ∙ ap number_of told) _ _ _
+    submits-accepted b s.t (seen s.memory.now) s.log.now s.collect.now o c.trb_outcome-outcome.ensures (sym (numbered k.After-ask_submission-answer) ∙ ap number_of told) _ _ _
     (submitted-by b s.t o c.ask_submission-answer.result c.log_request-records.result c.transfer_after-transfer.result c.state_after-state.result c.if-is_held.held c.if-is_held.trbs told written.1 c.transfer_after-transfer.ensures c.state_after-state.ensures
     (elim c.if-is_held.branch [
       | then-is_held w ↦ leaves-stored b s.t o c.if-is_held.held l.trbs c.if-is_held.trbs (sym c.is_held.ensures ∙ w.if-is_held.true) empty (w.held-is ∙ ap (λ (n : ℕ). b.held - n + 1) drops) (w.trbs-is ∙ ap (λ (n : ℕ). set l.trbs (b.held - n) s.t) drops)

@@ -11,42 +11,35 @@ back k n = omega arith
 
 pub overflow_add-result : goal.overflow_add-result
 overflow_add-result c =
-    let placing = c in
-    let found = rw placing.guest_regions-regions.ensures at (sym placing.place_range.ensures ∙ c.in-InLow.is) in
+    let found = rw c.regions.ensures at (sym c.place_range.ensures ∙ c.in-InLow.is) in
     omega (arith, (placed-low _ _ _ _ found).fits)
 
 pub slice_bounds-result-end-in-InLow : goal.slice_bounds-result-end-in-InLow
 slice_bounds-result-end-in-InLow c =
-    let placing = c in
-    let found = rw placing.guest_regions-regions.ensures at (sym placing.place_range.ensures ∙ c.in-InLow.is) in
+    let found = rw c.regions.ensures at (sym c.place_range.ensures ∙ c.in-InLow.is) in
     omega (arith, (placed-low _ _ _ _ found).fits)
 
 pub overflow_add-result-in-InHigh : goal.overflow_add-result-in-InHigh
 overflow_add-result-in-InHigh c =
-    let placing = c in
-    let found = rw placing.guest_regions-regions.ensures at (sym placing.place_range.ensures ∙ c.in-InHigh.is) in
+    let found = rw c.regions.ensures at (sym c.place_range.ensures ∙ c.in-InHigh.is) in
     omega (arith, (placed-high _ _ _ _ found).fits)
 
 pub slice_bounds-result-end-in-InHigh : goal.slice_bounds-result-end-in-InHigh
 slice_bounds-result-end-in-InHigh c =
-    let placing = c in
-    let found = rw placing.guest_regions-regions.ensures at (sym placing.place_range.ensures ∙ c.in-InHigh.is) in
+    let found = rw c.regions.ensures at (sym c.place_range.ensures ∙ c.in-InHigh.is) in
     omega (arith, (placed-high _ _ _ _ found).fits)
 
 pub returns-in-Outside : goal.returns-in-Outside
 unfolding bytes_at
 returns-in-Outside c =
-    let placing = c in
-    rw (← placing.guest_regions-regions.ensures, ← placing.place_range.ensures, c.in-Outside.is)
+    rw (← c.regions.ensures, ← c.place_range.ensures, c.in-Outside.is)
 
 pub returns-in-InLow : goal.returns-in-InLow
 unfolding bytes_at
 returns-in-InLow c =
-    let placing = c in
-    rw (back, ← placing.guest_regions-regions.ensures, ← placing.place_range.ensures, c.in-InLow.is)
+    rw (back, ← c.regions.ensures, ← c.place_range.ensures, c.in-InLow.is)
 
 pub returns-in-InHigh : goal.returns-in-InHigh
 unfolding bytes_at
 returns-in-InHigh c =
-    let placing = c in
-    rw (back, ← placing.guest_regions-regions.ensures, ← placing.place_range.ensures, c.in-InHigh.is)
+    rw (back, ← c.regions.ensures, ← c.place_range.ensures, c.in-InHigh.is)

@@ -3,4 +3,4 @@ use mathlib.Core.Path.{refl}
 use Rattle.in_calls.proofs.answered.Goals as goal
 
 pub returns : goal.returns
-returns c = record { block = refl; records = refl; good = refl; text = rw c.count.ensures at c.put_in_line-end.ensures }
+returns c = record { ran = refl; text = rw c.count.ensures at c.put_in_line.ensures }

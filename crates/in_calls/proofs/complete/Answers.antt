@@ -2,5 +2,5 @@
 use Rattle.in_calls.proofs.CallLaws.{runs-completed}
 use Rattle.in_calls.proofs.complete.Goals as goal
 
-pub returns : goal.returns
-returns c = runs-completed c.args.at _ _ c.requires.max_answer_in_bounds _ _ c.next_completion-completed.ensures.met c.put_completion-next.ensures c.answered.ensures
+pub returns-clause-answer : goal.returns-clause-answer
+returns-clause-answer c = runs-completed _ _ _ _ c.next_completion-completed.ensures.met c.put_completion.ensures.answer c.answered.ensures

@@ -1,7 +1,7 @@
 -- `in_calls::hold` meets its contract: no place left is a bad line. Assumes nothing.
 use mathlib.Core.Path.{ap, ◌∙◌}
 use borrow.Author.Tests.{le-leb, lt-leb}
-use Rattle.call_answer.specs.Called.{silent_said, silent_ran}
+use Rattle.call_answer.specs.Called.{silent_said, ran_of}
 use Rattle.in_block.specs.declared.InBlock.{InBlock}
 use Rattle.in_calls.specs.Calls.{hold_call}
 use Rattle.in_calls.proofs.hold.Goals as goal
@@ -12,4 +12,4 @@ returns-then-block-ge-MAX_HELD c = rw (le-leb _ _ c.if-block-ge-MAX_HELD.true) c
 
 pub returns : goal.returns
 unfolding hold_call
-returns c = rw (lt-leb _ _ c.if-block-ge-MAX_HELD.false) (c.silent.ensures ∙ ap (λ (b : InBlock). silent_ran (silent_said b) c.args.at) c.store.ensures)
+returns c = rw (lt-leb _ _ c.if-block-ge-MAX_HELD.false) (c.silent.ensures ∙ ap (λ (b : InBlock). ran_of (silent_said b)) c.store.ensures)

@@ -12,32 +12,32 @@ slice_bounds-given-end c = rw c.min.ensures (sym (length-take-le _ _ (omega arit
 pub slice_bounds-given-end-in-CompleteWithout : goal.slice_bounds-given-end-in-CompleteWithout
 slice_bounds-given-end-in-CompleteWithout c = rw c.min-in-CompleteWithout.ensures (sym (length-take-le _ _ (omega arith)))
 
-pub returns-in-Submit : goal.returns-in-Submit
+pub returns-in-Submit-clause-answer : goal.returns-in-Submit-clause-answer
 unfolding in_call
-returns-in-Submit c = rw c.in-Submit.is c.submit.ensures
+returns-in-Submit-clause-answer c = rw c.in-Submit.is (rw c.view.ensures at c.submit.ensures)
 
-pub returns-in-CompleteWithResult : goal.returns-in-CompleteWithResult
+pub returns-in-CompleteWithResult-clause-answer : goal.returns-in-CompleteWithResult-clause-answer
 unfolding in_call
-returns-in-CompleteWithResult c = rw (c.in-CompleteWithResult.is, ← take-least _ _ c.min.ensures) c.complete_with_result.ensures
+returns-in-CompleteWithResult-clause-answer c = rw (c.in-CompleteWithResult.is, ← take-least _ _ c.min.ensures) c.complete_with_result.ensures.answer
 
-pub returns-in-CompleteWithout : goal.returns-in-CompleteWithout
+pub returns-in-CompleteWithout-clause-answer : goal.returns-in-CompleteWithout-clause-answer
 unfolding in_call
-returns-in-CompleteWithout c = rw (c.in-CompleteWithout.is, ← take-least _ _ c.min-in-CompleteWithout.ensures) c.complete.ensures
+returns-in-CompleteWithout-clause-answer c = rw (c.in-CompleteWithout.is, ← take-least _ _ c.min-in-CompleteWithout.ensures) c.complete.ensures.answer
 
-pub returns-in-Cancel : goal.returns-in-Cancel
+pub returns-in-Cancel-clause-answer : goal.returns-in-Cancel-clause-answer
 unfolding in_call
-returns-in-Cancel c = rw c.in-Cancel.is (record { says = c.cancel.ensures; log = refl; memory = refl })
+returns-in-Cancel-clause-answer c = rw c.in-Cancel.is (record { says = c.cancel.ensures; log = refl; memory = refl })
 
-pub returns-in-Hold : goal.returns-in-Hold
+pub returns-in-Hold-clause-answer : goal.returns-in-Hold-clause-answer
 unfolding in_call
-returns-in-Hold c = rw c.in-Hold.is (record { says = says-silent _ _ _ _ (text-hold_call _ _) c.hold.ensures; log = refl; memory = refl })
+returns-in-Hold-clause-answer c = rw c.in-Hold.is (record { says = says-silent (text-hold_call _ _) c.requires.has_room c.hold.ensures; log = refl; memory = refl })
 
-pub returns-in-MakeUpIn : goal.returns-in-MakeUpIn
+pub returns-in-MakeUpIn-clause-answer : goal.returns-in-MakeUpIn-clause-answer
 unfolding in_call
-returns-in-MakeUpIn c = rw c.in-MakeUpIn.is (record { says = says-silent _ _ _ _ refl c.make_up.ensures; log = refl; memory = refl })
+returns-in-MakeUpIn-clause-answer c = rw c.in-MakeUpIn.is (record { says = says-silent refl c.requires.has_room c.make_up.ensures; log = refl; memory = refl })
 
-pub returns-in_default : goal.returns-in_default
-returns-in_default c =
+pub returns-in_default-clause-answer : goal.returns-in_default-clause-answer
+returns-in_default-clause-answer c =
     let no = c.in_default in
     rw (bad-call _ _ _ _ c.args.call no.not-Submit no.not-CompleteWithResult no.not-CompleteWithout no.not-Cancel no.not-Hold no.not-MakeUpIn)
-    (record { says = says-silent _ _ _ _ refl c.bad.ensures; log = refl; memory = refl })
+    (record { says = says-silent refl c.requires.has_room c.bad.ensures; log = refl; memory = refl })

@@ -3,4 +3,4 @@ use Rattle.in_calls.proofs.CallLaws.{runs-submitted}
 use Rattle.in_calls.proofs.submit.Goals as goal
 
 pub returns : goal.returns
-returns c = runs-submitted c.args.at _ _ c.requires.max_answer_in_bounds _ c.submit_trb-submitted.ensures.met c.put_answer-next.ensures c.answered.ensures
+returns c = runs-submitted _ _ _ c.submit_trb-submitted.ensures.met c.put_answer.ensures c.answered.ensures

@@ -5,7 +5,7 @@ use mathlib.Core.Path.{◌≡◌, sym, ap, ◌∙◌}
 use native.Mathlib.Omega.{arith}
 use lib.ListN.{length}
 use lib.Seq.{length-take-le}
-use Rattle.trb.specs.Answers.{number_of, completion_number}
+use Rattle.trb.specs.Answers.{number_of}
 use Rattle.trb.specs.Limits.{max_held, record_length}
 use Rattle.trb.specs.Questions.{first_no}
 use Rattle.trb.proofs.AnswerLaws.{answered-yes, answered-no, answered-all, accepted-if, refused-if}
@@ -63,7 +63,7 @@ returns-then-is_err c =
     let number' = rw c.facts_of-facts.ensures at c.ask_completion-asked.ensures in
     let failed = refused-if _ (sym c.if-is_err.ensures.value) in
     completes s.log.now _ b s.res n _
-    (ap completion_number c.completion_answer.ensures ∙ completion_answer-number c.ask_completion-asked.result _ ∙ number')
+    (ap number_of c.completion_answer.ensures ∙ completion_answer-number c.ask_completion-asked.result _ ∙ number')
     (meets (answered-no _ (refused b) (completed_as (ending_of b.state s.res n) b) c.ask_completion-asked.result number' failed)
     (record { state = rw (c.completion_answer.ensures, completion_answer-refused c.ask_completion-asked.result _ failed); log = sym (logged_none s.log.now 0); fits = tt }))
 
@@ -78,7 +78,7 @@ returns-in-KeepCollecting c =
     let o = (goal.at.returns-in-KeepCollecting c).Else-is_err in
     let result-is = c.completion_answer-in-KeepCollecting.ensures ∙ completion_answer-accepted c.ask_completion-asked.result _ (accepted-if _ (sym c.if-is_err.ensures.value)) in
     completes s.log.now _ b s.res n _
-    (ap completion_number c.completion_answer-in-KeepCollecting.ensures ∙ completion_answer-number c.ask_completion-asked.result _ ∙ number o)
+    (ap number_of c.completion_answer-in-KeepCollecting.ensures ∙ completion_answer-number c.ask_completion-asked.result _ ∙ number o)
     (meets (ended o ∙ completed_as-by b (sym c.ending_of-ending.ensures ∙ c.in-KeepCollecting.is))
     (meets-silent 0 s.log.now (rw result-is)))
 
@@ -100,7 +100,7 @@ returns-in-Transfer c =
     let result-is = c.completion_answer-in-Transfer.ensures ∙ completion_answer-accepted c.ask_completion-asked.result _ (accepted-if _ (sym c.if-is_err.ensures.value)) in
     let p = c.process_td-processed.ensures in
     completes s.log.now _ b s.res n _
-    (ap completion_number c.completion_answer-in-Transfer.ensures ∙ completion_answer-number c.ask_completion-asked.result _ ∙ number o)
+    (ap number_of c.completion_answer-in-Transfer.ensures ∙ completion_answer-number c.ask_completion-asked.result _ ∙ number o)
     (meets (ended o ∙ completed_as-by b (sym c.ending_of-ending.ensures ∙ c.in-Transfer.is))
     (record {
       state = rw (result-is, c.clear.ensures, p.state, c.td_of-td.ensures, process_td-counts);
@@ -120,6 +120,6 @@ returns-in-ReportUnsupported c =
     let result-is = c.completion_answer-in-ReportUnsupported.ensures ∙ completion_answer-accepted c.ask_completion-asked.result _ (accepted-if _ (sym c.if-is_err.ensures.value)) in
     let p = c.report_unsupported.ensures in
     completes s.log.now _ b s.res n _
-    (ap completion_number c.completion_answer-in-ReportUnsupported.ensures ∙ completion_answer-number c.ask_completion-asked.result _ ∙ number o)
+    (ap number_of c.completion_answer-in-ReportUnsupported.ensures ∙ completion_answer-number c.ask_completion-asked.result _ ∙ number o)
     (meets (ended o ∙ completed_as-by b (sym c.ending_of-ending.ensures ∙ c.in-ReportUnsupported.is))
     (record { state = rw (result-is, c.clear-in-ReportUnsupported.ensures); log = p.log; fits = p.fits }))

@@ -7,7 +7,8 @@ use Rattle.trb.specs.Questions.{first_no}
 use Rattle.trb.specs.Answers.{CompletionAnswer}
 use Rattle.trb.specs.declared.TrbProcessingResult.TheVariants as result
 use Rattle.trb.proofs.AnswerLaws.{answered-all, accepted-if, refused-if}
-use Rattle.guest_memory.specs.Places.{memory_of, regions_of}
+use Rattle.guest_memory.specs.Places.{regions_of}
+use Rattle.guest_memory.specs.Lent.{lent}
 use Rattle.guest_memory.specs.declared.Regions.{Regions}
 use Rattle.answer_numbers.specs.Numbers.{completion_answered}
 use Rattle.in_bytes.specs.Layout.{block_of}
@@ -16,30 +17,30 @@ use Rattle.in_place_delivery.proofs.CallLaws.{refused-in-place, log-long-in-plac
 use Rattle.in_place_delivery.proofs.deliver.Goals.{After-ask-asked, Else-is_err}
 use Rattle.in_place_delivery.proofs.deliver.Goals as goal
 
-number : (c : After-ask-asked) → number_of c.ask-asked.result ≡ first_no (delivery_questions (length c.args.log.now) (block_of c.args.block.now) c.args.res (length c.args.data.now) (regions_of (memory_of c.args.low_base c.args.low.now c.args.high_base c.args.high.now)))
+number : (c : After-ask-asked) → number_of c.ask-asked.result ≡ first_no (delivery_questions (length c.args.log.now) (block_of c.args.block.now) c.args.res (length c.args.data.now) (regions_of (lent c.args.memory.now)))
 number c =
     c.ask-asked.ensures
     ∙ ap (λ (regions : Regions). first_no (delivery_questions (length c.args.log.now) (block_of c.args.block.now) c.args.res (length c.args.data.now) regions))
-    c.guest_regions-regions.ensures
+    c.regions-regions.ensures
 
-none : (c : Else-is_err) → first_no (delivery_questions (length c.args.log.now) (block_of c.args.block.now) c.args.res (length c.args.data.now) (regions_of (memory_of c.args.low_base c.args.low.now c.args.high_base c.args.high.now))) ≡ 0
+none : (c : Else-is_err) → first_no (delivery_questions (length c.args.log.now) (block_of c.args.block.now) c.args.res (length c.args.data.now) (regions_of (lent c.args.memory.now))) ≡ 0
 none c =
-    let number' : number_of c.ask-asked.result ≡ first_no (delivery_questions (length c.args.log.now) (block_of c.args.block.now) c.args.res (length c.args.data.now) (regions_of (memory_of c.args.low_base c.args.low.now c.args.high_base c.args.high.now))) =
+    let number' : number_of c.ask-asked.result ≡ first_no (delivery_questions (length c.args.log.now) (block_of c.args.block.now) c.args.res (length c.args.data.now) (regions_of (lent c.args.memory.now))) =
     c.ask-asked.ensures
     ∙ ap (λ (regions : Regions). first_no (delivery_questions (length c.args.log.now) (block_of c.args.block.now) c.args.res (length c.args.data.now) regions))
-    c.guest_regions-regions.ensures in
+    c.regions-regions.ensures in
     answered-all c.ask-asked.result _ number' (accepted-if _ (sym c.is_err.ensures.value ∙ c.if-is_err.false))
 
-pub returns-then-is_err : goal.returns-then-is_err
-returns-then-is_err c =
-    refused-in-place c.args.res c.args.data.now c.args.log.now c.args.block.now (memory_of c.args.low_base c.args.low.now c.args.high_base c.args.high.now) c.ask-asked.result result.Ok (number (goal.at.returns-then-is_err c).After-ask-asked)
+pub returns-then-is_err-clause-delivered : goal.returns-then-is_err-clause-delivered
+returns-then-is_err-clause-delivered c =
+    refused-in-place c.args.res c.args.data.now c.args.log.now c.args.block.now (lent c.args.memory.now) c.ask-asked.result result.Ok (number (goal.at.returns-then-is_err-clause-delivered c).After-ask-asked)
     (refused-if _ (sym c.is_err.ensures.value ∙ c.if-is_err.true))
     (c.completed_as.ensures ∙ ap (λ (x : CompletionAnswer). completion_answered x 0) c.completion_answer-refused.ensures)
 
 pub carry_out_first-requires : goal.carry_out_first-requires
-carry_out_first-requires c = log-long-in-place c.args.res c.args.data.now c.args.log.now c.args.block.now (memory_of c.args.low_base c.args.low.now c.args.high_base c.args.high.now) (none (goal.at.carry_out_first-requires c).Else-is_err) c.complete-done.ensures
+carry_out_first-requires c = log-long-in-place c.args.res c.args.data.now c.args.log.now c.args.block.now (lent c.args.memory.now) (none (goal.at.carry_out_first-requires c).Else-is_err) c.complete-done.ensures
 
-pub returns : goal.returns
-returns c =
-    delivered-in-place c.args.res c.args.data.now c.args.log.now c.args.block.now (memory_of c.args.low_base c.args.low.now c.args.high_base c.args.high.now) (none (goal.at.returns c).Else-is_err) c.complete-done.ensures
-    c.carry_out_first.result _ c.carry_out_first.ensures
+pub returns-clause-delivered : goal.returns-clause-delivered
+returns-clause-delivered c =
+    delivered-in-place c.args.res c.args.data.now c.args.log.now c.args.block.now (lent c.args.memory.now) (none (goal.at.returns-clause-delivered c).Else-is_err) c.complete-done.ensures
+    c.carry_out_first.result _ c.carry_out_first.ensures.answer

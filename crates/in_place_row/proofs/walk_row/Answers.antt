@@ -27,7 +27,7 @@ use Rattle.row_bytes.specs.Layout.{trbs_in, results_in}
 use Rattle.row_bytes.proofs.CellLaws.{length-trbs_in}
 use Rattle.in_place_row.proofs.LookLaws.{found_at}
 use Rattle.in_place_row.proofs.KeptLaws.{places-from}
-use Rattle.in_place_row.proofs.walk_row.Goals.{After-log_request-records, After-look_at_td-looked, After-unprocessed_from-from, In-loop-i}
+use Rattle.in_place_row.proofs.walk_row.Goals.{After-log_request-records, After-look_at_td-end, After-unprocessed_from-from, In-loop-i}
 use Rattle.in_place_row.proofs.walk_row.Goals as goal
 
 -- where a TD is left
@@ -39,7 +39,7 @@ module _ (c : In-loop-i) where
   inside = row_more _ _ _ _ _ _ c.requires.1.1.1 _ _ _ _ c.loop-i.invariant left
 
 -- where it was looked at
-module _ (c : After-look_at_td-looked) where
+module _ (c : After-look_at_td-end) where
   -- what was given for it
   abbrev given : TdResult
   given = c.result_at-given.result
@@ -47,8 +47,8 @@ module _ (c : After-look_at_td-looked) where
   given-for : get_or (results_in c.args.results.now) c.loop-i.i past_results ≡ given
   given-for = sym c.result_at-given.ensures
 
-  found : c.loop-i.first < length (trbs_in c.args.row.now) → Found (trbs_in c.args.row.now) c.loop-i.first c.look_at_td-looked.result.asked c.look_at_td-looked.result.end
-  found inside = found_at (trbs_in c.args.row.now) c.loop-i.first c.look_at_td-looked.result inside c.look_at_td-looked.ensures
+  found : c.loop-i.first < length (trbs_in c.args.row.now) → Found (trbs_in c.args.row.now) c.loop-i.first c.look_at_td-end.result.asked c.look_at_td-end.result.end
+  found inside = found_at (trbs_in c.args.row.now) c.loop-i.first c.look_at_td-end.result inside c.look_at_td-end.ensures
 
   data-fits : c.loop-i.i < length (results_in c.args.results.now) → c.loop-i.so_far.start + given.length < 2 ^ 32
   data-fits left =
@@ -57,7 +57,7 @@ module _ (c : After-look_at_td-looked) where
 
 -- where its request was logged
 request-met : (c : After-log_request-records) →
-    Meets (counted c.loop-i.so_far.records (when (not (eqb c.look_at_td-looked.result.asked.normals 0)) (in_request (get_or (trbs_in c.args.row.now) c.loop-i.first past_end).addr c.look_at_td-looked.result.asked.length c.args.endpoint_id c.args.slot_id)))
+    Meets (counted c.loop-i.so_far.records (when (not (eqb c.look_at_td-end.result.asked.normals 0)) (in_request (get_or (trbs_in c.args.row.now) c.loop-i.first past_end).addr c.look_at_td-end.result.asked.length c.args.endpoint_id c.args.slot_id)))
     c.loop-i.so_far.records c.loop-i.log c.log_request-records.result c.log_request-records.new.log
 request-met c = rw c.trb_at-head.ensures at c.log_request-records.ensures
 
@@ -70,7 +70,7 @@ module _ (c : After-unprocessed_from-from) where
   results = results_in c.args.results.now
 
   abbrev size : ℕ
-  size = c.look_at_td-looked.result.end - c.loop-i.first
+  size = c.look_at_td-end.result.end - c.loop-i.first
 
   abbrev for_it : TdResult
   for_it = c.result_at-given.result
@@ -85,9 +85,9 @@ module _ (c : After-unprocessed_from-from) where
   begun-within : Within td.info begun.progress
   begun-within = within-as _ _ _ _ c.td_from-td.ensures c.unprocessed_from-from.ensures (record { within = omega arith })
 
-  module _ (left : c.loop-i.i < length results) (bounds : Found trbs c.loop-i.first c.look_at_td-looked.result.asked c.look_at_td-looked.result.end)
+  module _ (left : c.loop-i.i < length results) (bounds : Found trbs c.loop-i.first c.look_at_td-end.result.asked c.look_at_td-end.result.end)
       (given-here : get_or results c.loop-i.i past_results ≡ for_it)
-      (met : Meets (counted c.loop-i.so_far.records (when (not (eqb c.look_at_td-looked.result.asked.normals 0)) (in_request (get_or trbs c.loop-i.first past_end).addr c.look_at_td-looked.result.asked.length c.args.endpoint_id c.args.slot_id)))
+      (met : Meets (counted c.loop-i.so_far.records (when (not (eqb c.look_at_td-end.result.asked.normals 0)) (in_request (get_or trbs c.loop-i.first past_end).addr c.look_at_td-end.result.asked.length c.args.endpoint_id c.args.slot_id)))
       c.loop-i.so_far.records c.loop-i.log c.log_request-records.result c.log_request-records.new.log) where
     begun-room : record_length * (begun.progress.records + 2 * size) ≤ length c.log_request-records.new.log
     begun-room =
@@ -106,7 +106,7 @@ module _ (c : After-unprocessed_from-from) where
 
     module _ (l : List ℕ) (p : TdProcessed)
         (q : Meets (walk (process_trb td) ended begun (take size (places_of In max_held (drop (place_length * c.loop-i.first) c.args.row.now)))) begun.progress.records c.log_request-records.new.log p l) where
-      walked_here : Meets (walk (process_trb (td_from c.args.endpoint_id c.args.slot_id c.args.mode c.loop-i.so_far.start for_it)) ended (from c.loop-i.so_far.start c.log_request-records.result c.look_at_td-looked.result.asked.normals) (take size (drop c.loop-i.first trbs)))
+      walked_here : Meets (walk (process_trb (td_from c.args.endpoint_id c.args.slot_id c.args.mode c.loop-i.so_far.start for_it)) ended (from c.loop-i.so_far.start c.log_request-records.result c.look_at_td-end.result.asked.normals) (take size (drop c.loop-i.first trbs)))
           c.log_request-records.result c.log_request-records.new.log p l
       walked_here = walked_as _ _ _ _ c.td_from-td.ensures c.unprocessed_from-from.ensures _ _ _ _ (rw walked-trbs at q)
 
@@ -115,7 +115,7 @@ module _ (c : After-unprocessed_from-from) where
           rw given-here at
           (row-stop _ _ _ _ _ _ c.requires.1.1.1 _ _ _ _ c.loop-i.invariant left _ _ bounds _ _ met l p (rw given-here walked_here) h)
 
-      turns : is_error p.result ≡ false → RowWalked c.args.endpoint_id c.args.slot_id c.args.mode trbs results c.args.log.now l (td_done c.loop-i.so_far for_it p.result p.progress.records) c.look_at_td-looked.result.end (c.loop-i.i + 1)
+      turns : is_error p.result ≡ false → RowWalked c.args.endpoint_id c.args.slot_id c.args.mode trbs results c.args.log.now l (td_done c.loop-i.so_far for_it p.result p.progress.records) c.look_at_td-end.result.end (c.loop-i.i + 1)
       turns h =
           rw given-here at
           (row-turn _ _ _ _ _ _ c.requires.1.1.1 _ _ _ _ c.loop-i.invariant left _ _ bounds _ _ met l p (rw given-here walked_here) h)
@@ -123,8 +123,8 @@ module _ (c : After-unprocessed_from-from) where
 pub loop-i-init : goal.loop-i-init
 loop-i-init c = rw c.at_start_of_row-so_far.ensures (row-none _ _ _ _ _ _)
 
-pub look_at_td-looked-requires : goal.look_at_td-looked-requires
-look_at_td-looked-requires c = (inside (goal.at.look_at_td-looked-requires c).In-loop-i, (c.requires.0, (c.requires.1.1.1.whole, c.requires.1.1.1.asked)))
+pub look_at_td-end-requires : goal.look_at_td-end-requires
+look_at_td-end-requires c = (inside (goal.at.look_at_td-end-requires c).In-loop-i, (c.requires.0, (c.requires.1.1.1.whole, c.requires.1.1.1.asked)))
 
 pub trb_at-head-requires : goal.trb_at-head-requires
 trb_at-head-requires c = inside (goal.at.trb_at-head-requires c).In-loop-i
@@ -136,7 +136,7 @@ log_request-records-requires c =
 pub td_from-td-requires : goal.td_from-td-requires
 td_from-td-requires c =
     let g = goal.at.td_from-td-requires c in
-    data-fits g.After-look_at_td-looked (left g.In-loop-i)
+    data-fits g.After-look_at_td-end (left g.In-loop-i)
 
 pub overflow_mul-first : goal.overflow_mul-first
 overflow_mul-first c = omega (arith, inside (goal.at.overflow_mul-first c).In-loop-i, c.requires.0)
@@ -144,29 +144,29 @@ overflow_mul-first c = omega (arith, inside (goal.at.overflow_mul-first c).In-lo
 pub overflow_sub-end : goal.overflow_sub-end
 overflow_sub-end c =
     let g = goal.at.overflow_sub-end c in
-    omega (arith, (found g.After-look_at_td-looked (inside g.In-loop-i)).some)
+    omega (arith, (found g.After-look_at_td-end (inside g.In-loop-i)).some)
 
 pub walk_places-processed-requires : goal.walk_places-processed-requires
 walk_places-processed-requires c =
     let g = goal.at.walk_places-processed-requires c in
     let u = g.After-unprocessed_from-from in
-    let bounds = found g.After-look_at_td-looked (inside g.In-loop-i) in
+    let bounds = found g.After-look_at_td-end (inside g.In-loop-i) in
     let met = request-met g.After-log_request-records in
-    let for-it = given-for g.After-look_at_td-looked in
+    let for-it = given-for g.After-look_at_td-end in
     let few = few-trbs u (left g.In-loop-i) bounds for-it met in
     (omega (arith, few, length-trbs_in c.args.row.now), (omega (arith, few, c.requires.0), (begun-room u (left g.In-loop-i) bounds for-it met, (begun-within u, ap ended c.unprocessed_from-from.ensures))))
 
 pub td_done-so_far-requires : goal.td_done-so_far-requires
 td_done-so_far-requires c =
     let g = goal.at.td_done-so_far-requires c in
-    (omega (arith, c.loop-i.invariant.count, left g.In-loop-i, c.requires.1.0), data-fits g.After-look_at_td-looked (left g.In-loop-i))
+    (omega (arith, c.loop-i.invariant.count, left g.In-loop-i, c.requires.1.0), data-fits g.After-look_at_td-end (left g.In-loop-i))
 
 pub returns-then-is_error : goal.returns-then-is_error
 returns-then-is_error c =
     let g = goal.at.returns-then-is_error c in
     let w = c.walk_places-processed in
     rw c.td_done-so_far.ensures
-    (stops g.After-unprocessed_from-from (left g.In-loop-i) (found g.After-look_at_td-looked (inside g.In-loop-i)) (given-for g.After-look_at_td-looked) (request-met g.After-log_request-records) w.new.log w.result w.ensures
+    (stops g.After-unprocessed_from-from (left g.In-loop-i) (found g.After-look_at_td-end (inside g.In-loop-i)) (given-for g.After-look_at_td-end) (request-met g.After-log_request-records) w.new.log w.result w.ensures
     (sym c.is_error.ensures ∙ c.if-is_error.true))
 
 pub loop-i-preserved : goal.loop-i-preserved
@@ -174,7 +174,7 @@ loop-i-preserved c =
     let g = goal.at.loop-i-preserved c in
     let w = c.walk_places-processed in
     rw c.td_done-so_far.ensures
-    (turns g.After-unprocessed_from-from (left g.In-loop-i) (found g.After-look_at_td-looked (inside g.In-loop-i)) (given-for g.After-look_at_td-looked) (request-met g.After-log_request-records) w.new.log w.result w.ensures
+    (turns g.After-unprocessed_from-from (left g.In-loop-i) (found g.After-look_at_td-end (inside g.In-loop-i)) (given-for g.After-look_at_td-end) (request-met g.After-log_request-records) w.new.log w.result w.ensures
     (sym c.is_error.ensures ∙ c.if-is_error.false))
 
 pub returns : goal.returns

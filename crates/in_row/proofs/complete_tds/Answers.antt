@@ -13,7 +13,8 @@ use Rattle.trb.specs.Limits.{max_row}
 use Rattle.trb.specs.Questions.{first_no}
 use Rattle.trb.specs.declared.TransferTrb.{TransferTrb}
 use Rattle.guest_memory.specs.declared.Regions.{Regions}
-use Rattle.guest_memory.specs.Regions.{guest_regions}
+use Rattle.guest_memory.specs.Places.{regions_of}
+use Rattle.guest_memory.specs.Lent.{seen}
 use Rattle.held.specs.Places.{past_end}
 use Rattle.held.proofs.TestedLaws.{places-held}
 use Rattle.in_block.specs.Facts.{facts_of}
@@ -30,7 +31,7 @@ use Rattle.in_row.proofs.complete_tds.Goals as goal
 -- ---- The loop over the row
 
 pub loop-t-init : goal.loop-t-init
-loop-t-init c = rw c.untested-test.ensures (testing-none c.guest_regions-regions.result c.args.results (take c.places-tested.result c.args.row))
+loop-t-init c = rw c.untested-test.ensures (testing-none c.regions-regions.result c.args.results (take c.places-tested.result c.args.row))
 
 pub bounds-results-test : goal.bounds-results-test
 bounds-results-test c =
@@ -44,20 +45,20 @@ test_trb-test-requires c =
 
 pub loop-t-preserved : goal.loop-t-preserved
 loop-t-preserved c =
-    testing-turn c.guest_regions-regions.result c.args.results (take c.places-tested.result c.args.row) c.loop-t.test c.test_trb-test.result c.loop-t.t-index past_end c.loop-t.invariant c.loop-t-test.true
+    testing-turn c.regions-regions.result c.args.results (take c.places-tested.result c.args.row) c.loop-t.test c.test_trb-test.result c.loop-t.t-index past_end c.loop-t.invariant c.loop-t-test.true
     c.test_trb-test.ensures.0 c.test_trb-test.ensures.1
 
 -- ---- The questions
 
 number : (c : After-ask_row-asked) →
     let s = c.args in
-    number_of c.ask_row-asked.result ≡ first_no (row_questions (length s.log.now) (guest_regions s.low_base (length s.low.now) s.high_base (length s.high.now)) (facts_of s.block) s.count (take s.count s.row) s.tds (take s.tds s.results) (length s.data.now))
+    number_of c.ask_row-asked.result ≡ first_no (row_questions (length s.log.now) (regions_of (seen s.memory.now)) (facts_of s.block) s.count (take s.count s.row) s.tds (take s.tds s.results) (length s.data.now))
 number c =
     let s = c.args in
     let b = s.block in
     let n = length s.data.now in
     let l = length s.log.now in
-    let regions = c.guest_regions-regions.result in
+    let regions = c.regions-regions.result in
     let ts = take s.count s.row in
     let placed = c.places-tested.result in
     let long : length s.row ≡ max_row = omega arith in
@@ -70,14 +71,14 @@ number c =
     ∙ ap (λ (x : BlockFacts). first_no (asked_as l regions x s.count c.loop-t.test s.tds n)) c.facts_of-facts.ensures
     ∙ ap (λ (x : RowTest). first_no (asked_as l regions (facts_of b) s.count x s.tds n)) tested
     ∙ asked-as l regions (facts_of b) s.count ts s.tds s.results n few-trbs
-    ∙ ap (λ (x : Regions). first_no (row_questions l x (facts_of b) s.count ts s.tds (take s.tds s.results) n)) c.guest_regions-regions.ensures
+    ∙ ap (λ (x : Regions). first_no (row_questions l x (facts_of b) s.count ts s.tds (take s.tds s.results) n)) c.regions-regions.ensures
 
 pub returns-then-is_err : goal.returns-then-is_err
 returns-then-is_err c =
     let s = c.args in
     let refuses : is_accepted c.ask_row-asked.result ≡ false = refused-if _ (sym c.is_err.ensures.value ∙ c.if-is_err.true) in
     rw c.completion_answer.ensures
-    (refused-row s.block s.count (take s.count s.row) s.tds (take s.tds s.results) (length s.data.now) (guest_regions s.low_base (length s.low.now) s.high_base (length s.high.now)) s.log.now c.ask_row-asked.result (number (goal.at.returns-then-is_err c).After-ask_row-asked) refuses)
+    (refused-row s.block s.count (take s.count s.row) s.tds (take s.tds s.results) (length s.data.now) (regions_of (seen s.memory.now)) s.log.now c.ask_row-asked.result (number (goal.at.returns-then-is_err c).After-ask_row-asked) refuses)
 
 -- ---- The walk
 
@@ -88,7 +89,7 @@ walk_row-walked-requires c =
     let l = length s.log.now in
     let ts = take s.count s.row in
     let rs = take s.tds s.results in
-    let regions = guest_regions s.low_base (length s.low.now) s.high_base (length s.high.now) in
+    let regions = regions_of (seen s.memory.now) in
     let results-long : length s.results ≡ max_row = omega arith in
     let short : length ts ≤ s.count = omega (arith, length-take s.count s.row) in
     let accepts : is_accepted c.ask_row-asked.result ≡ true = accepted-if _ (sym c.is_err.ensures.value ∙ c.if-is_err.false) in
@@ -102,4 +103,4 @@ returns c =
     let w = c.walk_row-walked in
     let accepts : is_accepted c.ask_row-asked.result ≡ true = accepted-if _ (sym c.is_err.ensures.value ∙ c.if-is_err.false) in
     rw c.completion_answer-2.ensures
-    (accepted-row s.block s.count (take s.count s.row) s.tds (take s.tds s.results) (length s.data.now) (guest_regions s.low_base (length s.low.now) s.high_base (length s.high.now)) s.log.now c.ask_row-asked.result (number (goal.at.returns c).After-ask_row-asked) accepts w.result w.new.log w.ensures)
+    (accepted-row s.block s.count (take s.count s.row) s.tds (take s.tds s.results) (length s.data.now) (regions_of (seen s.memory.now)) s.log.now c.ask_row-asked.result (number (goal.at.returns c).After-ask_row-asked) accepts w.result w.new.log w.ensures)

@@ -15,7 +15,8 @@ use Rattle.call_log.specs.Calls.{Meets}
 use Rattle.trb.proofs.AnswerLaws.{accepted-is, refused-is, accepted-if, refused-if, answered-yes, answered-no, answered-all}
 use Rattle.call_log.proofs.CallLaws.{meets, meets-silent}
 use Rattle.call_log.proofs.LogLaws.{logged_none}
-use Rattle.guest_memory.specs.Regions.{guest_regions}
+use Rattle.guest_memory.specs.Places.{regions_of}
+use Rattle.guest_memory.specs.Lent.{seen}
 use Rattle.in_block.specs.Blocks.{held_of, with_state, stored}
 use Rattle.in_block.specs.Facts.{held_test, facts_of}
 use Rattle.in_block.specs.Outcomes.{outcome_of, state_after}
@@ -34,8 +35,8 @@ use Rattle.in_submission.proofs.submit_trb.Goals as goal
 -- once each question was answered with yes
 module _ (c : After-state_after-block) where
   number : number_of c.ask_submission-answer.result
-      ≡ first_no (submission_questions (length c.args.log.now) (facts_of c.args.block) c.args.t (guest_regions c.args.low_base (length c.args.low.now) c.args.high_base (length c.args.high.now)))
-  number = rw (c.facts_of-facts.ensures, c.guest_regions-regions.ensures) at c.ask_submission-answer.ensures
+      ≡ first_no (submission_questions (length c.args.log.now) (facts_of c.args.block) c.args.t (regions_of (seen c.args.memory.now)))
+  number = rw (c.facts_of-facts.ensures, c.regions-regions.ensures) at c.ask_submission-answer.ensures
 
   known : PassedSubmission (length c.args.log.now) (facts_of c.args.block) c.args.t
   known = passed-submission _ _ _ _ (answered-all c.ask_submission-answer.result _ number (accepted-if _ (sym c.if-is_err.ensures.value)))
@@ -44,7 +45,7 @@ module _ (c : After-state_after-block) where
   outcome-is = rw c.facts_of-facts.ensures at c.outcome_of-outcome.ensures
 
   -- what the submission comes to
-  taken : submission (length c.args.log.now) c.args.block c.args.t (guest_regions c.args.low_base (length c.args.low.now) c.args.high_base (length c.args.high.now))
+  taken : submission (length c.args.log.now) c.args.block c.args.t (regions_of (seen c.args.memory.now))
       ≡ submitted_as c.outcome_of-outcome.result c.args.block c.args.t
   unfolding submission
   taken =
@@ -62,7 +63,7 @@ unfolding submission
 returns-then-is_err c =
     let s = c.args in
     let b = s.block in
-    let number' = rw (c.facts_of-facts.ensures, c.guest_regions-regions.ensures) at c.ask_submission-answer.ensures in
+    let number' = rw (c.facts_of-facts.ensures, c.regions-regions.ensures) at c.ask_submission-answer.ensures in
     let failed = refused-if _ (sym c.if-is_err.ensures.value) in
     record {
       number = number';

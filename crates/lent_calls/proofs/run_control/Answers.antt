@@ -10,20 +10,8 @@ slice_bounds-run-end c = omega (arith, c.min-log_end.ensures)
 pub slice_bounds-run-end-2 : goal.slice_bounds-run-end-2
 slice_bounds-run-end-2 c = length-least _ _ c.min-log_end.ensures
 
-pub slice_bounds-run-end-3 : goal.slice_bounds-run-end-3
-slice_bounds-run-end-3 c = omega (arith, c.min-low_end.ensures)
-
-pub slice_bounds-run-end-4 : goal.slice_bounds-run-end-4
-slice_bounds-run-end-4 c = length-least _ _ c.min-low_end.ensures
-
-pub slice_bounds-run-end-5 : goal.slice_bounds-run-end-5
-slice_bounds-run-end-5 c = omega (arith, c.min-high_end.ensures)
-
-pub slice_bounds-run-end-6 : goal.slice_bounds-run-end-6
-slice_bounds-run-end-6 c = length-least _ _ c.min-high_end.ensures
-
 pub run-requires : goal.run-requires
-run-requires c = record { max_answer_in_bounds = search rules; log_len_bound = least-within _ _ c.min-log_end.ensures c.requires.log_len_bound }
+run-requires c = record { has_room = search rules; log_len_bound = least-within _ _ c.min-log_end.ensures c.requires.log_len_bound }
 
 pub returns : goal.returns
 returns c =
@@ -31,5 +19,8 @@ returns c =
     let logs = c.min-log_end.ensures in
     let lows = c.min-low_end.ensures in
     let highs = c.min-high_end.ensures in
-    let run = rw (take-least l.log c.args.log.now logs, take-least l.low c.args.low.now lows, take-least l.high c.args.high.now highs) at c.run.ensures in
-    record { says = run.runs.says; collected = run.collected; leaves = leaves _ l c.args.log.now c.args.low.now c.args.high.now logs lows highs run.runs.log run.runs.memory }
+    let low = c.split_at_mut-low_lent.ensures in
+    let high = c.split_at_mut-high_lent.ensures in
+    let run = rw (low.front, high.front, take-least l.log c.args.log.now logs, take-least l.low c.args.low.now lows, take-least l.high c.args.high.now highs) at c.run.ensures.answer in
+    rw (low.back, high.back)
+    (record { says = run.runs.says; collected = run.collected; leaves = leaves _ l c.args.log.now c.args.low.now c.args.high.now logs lows highs run.runs.log (search rules) })

@@ -7,7 +7,7 @@ use native.Mathlib.Omega.{arith}
 use lib.ListN.{length}
 use borrow.Author.Rules.{rules}
 use Rattle.trb.specs.Limits.{record_length}
-use Rattle.numerals.proofs.WrittenLaws.{remaining-all, remaining-less, remaining-none}
+use Rattle.text.proofs.WroteLaws.{remaining-all, remaining-less, remaining-none}
 use Rattle.log_text.specs.Lines.{lines_in}
 use Rattle.log_text.proofs.LineLaws.{length-lines_in, lines_in-next}
 use Rattle.log_text.proofs.put_lines.Goals as goal
@@ -15,16 +15,16 @@ use Rattle.log_text.proofs.put_lines.Goals as goal
 pub loop-index-init : goal.loop-index-init
 loop-index-init c =
     let l = c.args.log.now in
-    (search rules, rw sub-zero (remaining-all _ _ _ (omega (arith, length-lines_in (length l / record_length) l, c.requires))))
+    (search rules, rw sub-zero (remaining-all _ _ (omega (arith, length-lines_in (length l / record_length) l, c.requires))))
 
-pub put_line-next-requires : goal.put_line-next-requires
-put_line-next-requires c = record { max_line_in_bounds = omega (arith, c.loop-index.invariant.0, c.loop-index.invariant.1.size, c.requires); index_in_bounds = search rules }
+pub put_line-requires : goal.put_line-requires
+put_line-requires c = record { max_line_in_bounds = omega (arith, c.loop-index.invariant.0, c.loop-index.invariant.1.size, c.requires); index_in_bounds = search rules }
 
 pub loop-index-preserved : goal.loop-index-preserved
 loop-index-preserved c =
     let l = c.args.log.now in (
-      omega (arith, c.loop-index.invariant.0, c.put_line-next.ensures.next, c.put_line-next.ensures.within),
-      remaining-less _ _ (rw (lines_in-next (length l / record_length) c.loop-index.index l (omega arith)) at c.loop-index.invariant.1) c.put_line-next.ensures,
+      omega (arith, c.loop-index.invariant.0, c.put_line.ensures.end, c.put_line.ensures.within),
+      remaining-less _ _ (rw (lines_in-next (length l / record_length) c.loop-index.index l (omega arith)) at c.loop-index.invariant.1) c.put_line.ensures,
     )
 
 pub returns : goal.returns

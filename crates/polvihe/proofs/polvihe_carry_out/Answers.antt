@@ -7,10 +7,11 @@ use Rattle.trb.specs.Answers.{Answer}
 use Rattle.guest_memory.specs.Places.{Memory}
 use Rattle.carry_out.specs.CarryOut.{Carried}
 use Rattle.polvihe.specs.GuestMemory.{CarriesOut}
+use borrow.Author.Rules.{rules}
 use Rattle.polvihe.proofs.polvihe_carry_out.Goals as goal
 
 by_number : {log bytes : List ℕ} {m m' : Memory} {a : Answer} {r : ℕ} → r ≡ number_of a → Carried log bytes m a m' → CarriesOut log bytes m r m'
 by_number e h = record { number = e ∙ h.number; after = rw (← h.answer) h.after }
 
 pub returns : goal.returns
-returns c = by_number c.number_of.ensures c.carry_out.ensures
+returns c = by_number c.number_of.ensures (search rules)

@@ -1,20 +1,19 @@
 -- `raw_text::put_decoded` meets its contract: its numbers stand one behind the other. Assumes nothing.
-use native.Mathlib.Omega.{arith}
 use lib.Dec.{lit≤}
-use Rattle.numerals.proofs.WrittenLaws.{written-append, written-within}
+use Rattle.text.proofs.WroteLaws.{wrote-append, wrote-within}
 use Rattle.raw_text.specs.RawLines.{trb_line}
 use Rattle.raw_text.proofs.put_decoded.Goals as goal
 
 pub returns : goal.returns
 unfolding trb_line
 returns c =
-    written-within (lit≤ tt)
-    (written-append c.args.at (omega (arith, c.requires))
-    (written-append c.args.at (omega (arith, c.requires))
-    (written-append c.args.at (omega (arith, c.requires))
-    (written-append c.args.at (omega (arith, c.requires))
-    (rw c.kind_of.ensures at c.put_hex-flags_at.ensures)
-    (rw c.flags_of.ensures at c.put_hex_behind-a_at.ensures))
-    (rw c.a_of.ensures at c.put_hex_behind-b_at.ensures))
-    (rw c.transfer_length-length.ensures at c.put_hex_behind-end.ensures))
+    wrote-within (lit≤ tt)
+    (wrote-append
+    (wrote-append
+    (wrote-append
+    (wrote-append
+    (rw c.kind_of.ensures at c.put_hex.ensures)
+    (rw c.flags_of.ensures at c.put_hex_behind.ensures))
+    (rw c.a_of.ensures at c.put_hex_behind-2.ensures))
+    (rw c.transfer_length-length.ensures at c.put_hex_behind-3.ensures))
     c.put_char.ensures)

@@ -1,10 +1,11 @@
 -- `script_pieces::take_lines` meets its contract. The loop's invariant: the lines taken, and behind them those that are left, come to what all of them
 -- come to. The measure is the number of bytes left. Assumes nothing.
-use mathlib.Core.Path.{sym, ◌∙◌}
+use mathlib.Core.Path.{refl, sym, ◌∙◌}
 use mathlib.Core.Bool.{true≢false}
 use native.Mathlib.Omega.{arith}
+use borrow.Author.Rules.{rules}
 use Rattle.script_pieces.proofs.LineLaws.{lines_none}
-use Rattle.script_pieces.proofs.TakenLaws.{taking-turn, taken-all}
+use Rattle.script_pieces.proofs.TakenLaws.{length-back, within-back, taking-turn, taken-all}
 use Rattle.script_pieces.proofs.take_lines.Goals as goal
 
 pub line_end-stop-requires : goal.line_end-stop-requires
@@ -87,16 +88,16 @@ loop-taken-preserved c =
       record {
         input = l.invariant.0.input;
         text = l.invariant.0.text;
-        end = omega (arith, t.ensures.within, c.if-room-taken.false, l.invariant.0.text, t.auto.text, same.text);
+        end = within-back t.new.text.bytes.now (omega (arith, t.ensures.within, c.if-room-taken.false, l.invariant.0.text, same.text, t.ensures.size)) (search rules);
       },
       (
         record {
-          text = t.auto.text ∙ same.text;
+          text = length-back l.text t.new.text.bytes.now same.text t.ensures.size (search rules);
           log = t.auto.log ∙ same.log;
           collect = t.auto.collect ∙ same.collect;
           low = t.auto.low ∙ same.low;
           high = t.auto.high ∙ same.high;
         },
-        taking-turn l.invariant.1.1 c.loop-taken-test.true c.line_end-stop.ensures c.if-input-stop.false t.ensures,
+        taking-turn l.invariant.1.1 c.loop-taken-test.true c.line_end-stop.ensures c.if-input-stop.false refl refl t.ensures (search rules),
       ),
     )

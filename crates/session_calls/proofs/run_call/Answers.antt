@@ -10,7 +10,7 @@ pub returns-in-Window : goal.returns-in-Window
 unfolding answer_of
 returns-in-Window c =
     let a = c.args in
-    rw c.in-Window.is (answers-window (state_of a.session a.log.now a.collect.now a.low.now a.high.now) a.text.now a.at c.move_window.ensures)
+    rw c.in-Window.is (answers-window (state_of a.session a.log.now a.collect.now a.low.now a.high.now) c.requires.has_room c.move_window.ensures)
 
 pub returns-in-CreateIn : goal.returns-in-CreateIn
 unfolding answer_of
@@ -32,33 +32,33 @@ pub returns-in-Time : goal.returns-in-Time
 unfolding answer_of
 returns-in-Time c =
     let a = c.args in
-    rw c.in-Time.is (answers-quiet (state_of a.session a.log.now a.collect.now a.low.now a.high.now) a.text.now a.at (good_quiet a.session) c.silent.ensures)
+    rw c.in-Time.is (answers-quiet (state_of a.session a.log.now a.collect.now a.low.now a.high.now) c.requires.has_room (good_quiet a.session) c.silent.ensures)
 
 pub returns-in-Captured : goal.returns-in-Captured
 unfolding answer_of
 returns-in-Captured c =
     let a = c.args in
-    rw c.in-Captured.is (answers-quiet (state_of a.session a.log.now a.collect.now a.low.now a.high.now) a.text.now a.at (good_quiet a.session) c.silent-in-Captured.ensures)
+    rw c.in-Captured.is (answers-quiet (state_of a.session a.log.now a.collect.now a.low.now a.high.now) c.requires.has_room (good_quiet a.session) c.silent-in-Captured.ensures)
 
 pub returns-in-Buffers : goal.returns-in-Buffers
 unfolding answer_of
 returns-in-Buffers c =
     let a = c.args in
     let k = c.in-Buffers in
-    rw k.is (answers-quiet (state_of a.session a.log.now a.collect.now a.low.now a.high.now) a.text.now a.at (good_quiet (with_lengths a.session k.log_length k.collect_length)) c.lend_buffers.ensures)
+    rw k.is (answers-quiet (state_of a.session a.log.now a.collect.now a.low.now a.high.now) c.requires.has_room (good_quiet (with_lengths a.session k.log_length k.collect_length)) c.lend_buffers.ensures)
 
 pub returns-in-AppendTrb : goal.returns-in-AppendTrb
 unfolding answer_of
 returns-in-AppendTrb c =
     let a = c.args in
-    rw c.in-AppendTrb.is (answers-quiet (state_of a.session a.log.now a.collect.now a.low.now a.high.now) a.text.now a.at (append_trb a.session c.in-AppendTrb.t) c.append_trb.ensures)
+    rw c.in-AppendTrb.is (answers-quiet (state_of a.session a.log.now a.collect.now a.low.now a.high.now) c.requires.has_room (append_trb a.session c.in-AppendTrb.t) c.append_trb.ensures)
 
 pub returns-in-AppendResult : goal.returns-in-AppendResult
 unfolding answer_of
 returns-in-AppendResult c =
     let a = c.args in
     let k = c.in-AppendResult in
-    rw k.is (answers-quiet (state_of a.session a.log.now a.collect.now a.low.now a.high.now) a.text.now a.at (append_result a.session (record { status = k.status; length = k.length })) c.append_result.ensures)
+    rw k.is (answers-quiet (state_of a.session a.log.now a.collect.now a.low.now a.high.now) c.requires.has_room (append_result a.session (record { status = k.status; length = k.length })) c.append_result.ensures)
 
 pub returns-in_default : goal.returns-in_default
 returns-in_default c =

@@ -1,7 +1,7 @@
 -- `session_calls::run_on_endpoint` meets its contract: each call is made on the endpoint that there is. Assumes nothing.
 use Rattle.std.proofs.Common.{Some, ap, ◌∙◌}
 use Rattle.session.specs.Sessions.{bad_quiet}
-use Rattle.session.proofs.EndpointLaws.{on-none}
+use Rattle.session.proofs.OptionLaws.{on-none}
 use Rattle.session_calls.specs.Answers.{state_of}
 use Rattle.session_calls.proofs.AnswerLaws.{answers-quiet, answer-nowhere, answer-in, answer-control}
 use Rattle.session_calls.proofs.run_on_endpoint.Goals as goal
@@ -11,7 +11,7 @@ returns-in_default c =
     let a = c.args in
     let s = state_of a.session a.log.now a.collect.now a.low.now a.high.now in
     rw (answer-nowhere a.«data».now s a.call (on-none _ c.in_default.not-Some))
-    (answers-quiet s a.text.now a.at (bad_quiet a.session) c.bad.ensures)
+    (answers-quiet s c.requires.has_room (bad_quiet a.session) c.bad.ensures)
 
 pub returns-in-In : goal.returns-in-In
 returns-in-In c =

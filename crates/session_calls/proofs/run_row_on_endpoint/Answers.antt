@@ -1,7 +1,7 @@
 -- `session_calls::run_row_on_endpoint` meets its contract: a row is made on an IN endpoint alone. Assumes nothing.
 use Rattle.std.proofs.Common.{Some, ap, ◌∙◌}
 use Rattle.session.specs.Sessions.{bad_quiet}
-use Rattle.session.proofs.EndpointLaws.{on-none}
+use Rattle.session.proofs.OptionLaws.{on-none}
 use Rattle.session_calls.specs.Answers.{state_of}
 use Rattle.session_calls.proofs.AnswerLaws.{answers-quiet, row-nowhere, row_in, row-control}
 use Rattle.session_calls.proofs.run_row_on_endpoint.Goals as goal
@@ -11,7 +11,7 @@ returns-in_default c collect =
     let a = c.args in
     let s = state_of a.session a.log.now collect a.low.now a.high.now in
     rw (row-nowhere a.«data».now s a.bytes (on-none _ c.in_default.not-Some))
-    (answers-quiet s a.text.now a.at (bad_quiet a.session) c.bad.ensures)
+    (answers-quiet s c.requires.has_room (bad_quiet a.session) c.bad.ensures)
 
 pub returns-in-In : goal.returns-in-In
 returns-in-In c collect =
@@ -24,4 +24,4 @@ returns-in-Control c collect =
     let a = c.args in
     let s = state_of a.session a.log.now collect a.low.now a.high.now in
     rw (row-control a.«data».now s a.bytes (c.in-Some.is ∙ ap Some c.in-Control.is))
-    (answers-quiet s a.text.now a.at (bad_quiet a.session) c.bad-in-Control.ensures)
+    (answers-quiet s c.requires.has_room (bad_quiet a.session) c.bad-in-Control.ensures)

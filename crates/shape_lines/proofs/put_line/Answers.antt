@@ -7,7 +7,7 @@ use Rattle.shape_lines.proofs.put_line.Goals as goal
 pub returns-then-text-length : goal.returns-then-text-length
 returns-then-text-length c =
     let line = laws.length-line c.args.word c.args.size (omega arith) in
-    laws.laid-no-room _ c.args.text.now c.args.at (elim c.then-text-length.branch [
+    laws.laid-no-room _ c.args.text.now (elim c.then-text-length.branch [
       | then-text-length-via-then-text-length w ↦ omega (arith, line, w.if-text-length.true)
       | then-text-length-via-else-text-length+then-text-length-2 w ↦ omega (arith, line, w.if-text-length-2.true)
     ])

@@ -8,4 +8,4 @@ pub returns-then-left-eq0 : goal.returns-then-left-eq0
 returns-then-left-eq0 c = laws.laid_end (take c.args.chosen c.args.word) request_made c.args.left c.if-left-eq0.true c.put_line.ensures
 
 pub returns-else-left-eq0 : goal.returns-else-left-eq0
-returns-else-left-eq0 c = laws.laid-left (take c.args.chosen c.args.word) request_made c.args.left c.if-left-eq0.false (laws.laid_none _ _)
+returns-else-left-eq0 c = laws.laid-left (take c.args.chosen c.args.word) request_made c.args.left c.if-left-eq0.false (laws.laid_none _)

@@ -8,7 +8,7 @@ use native.Mathlib.Omega.{arith}
 use Rattle.shape_lines.proofs.status_stage.Goals as goal
 
 pub returns-then-left-eq0 : goal.returns-then-left-eq0
-returns-then-left-eq0 c = laws.laid_end (take c.args.chosen c.args.word) status_stage c.args.left c.if-left-eq0.true (laws.laid_none _ _)
+returns-then-left-eq0 c = laws.laid_end (take c.args.chosen c.args.word) status_stage c.args.left c.if-left-eq0.true (laws.laid_none _)
 
 pub returns : goal.returns
-returns c = laws.laid-left (take c.args.chosen c.args.word) status_stage c.args.left c.if-left-eq0.false (laws.laid-two c.args.word c.args.chosen (omega arith) T t (final_event_data (c.args.left - 1)) (request_made (c.args.left - 1)) c.final_event_data-next.ensures c.request_made.ensures)
+returns c = laws.laid-left (take c.args.chosen c.args.word) status_stage c.args.left c.if-left-eq0.false (laws.laid-two c.args.word c.args.chosen (omega arith) T t (final_event_data (c.args.left - 1)) (request_made (c.args.left - 1)) c.final_event_data.ensures c.request_made.ensures)

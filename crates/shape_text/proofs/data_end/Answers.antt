@@ -6,4 +6,4 @@ use native.Mathlib.Omega.{arith}
 use Rattle.shape_text.proofs.data_end.Goals as goal
 
 pub returns : goal.returns
-returns c = laws.laid-two c.args.word c.args.chosen (omega arith) e n (status_stage c.args.left) (status_stage c.args.left) c.status_stage-next.ensures c.status_stage.ensures
+returns c = laws.laid-two c.args.word c.args.chosen (omega arith) e n (status_stage c.args.left) (status_stage c.args.left) c.status_stage.ensures c.status_stage-2.ensures

@@ -5,7 +5,7 @@ use native.Mathlib.Omega.{arith}
 use Rattle.shape_text.proofs.data_stage.Goals as goal
 
 pub returns-then-left-eq0 : goal.returns-then-left-eq0
-returns-then-left-eq0 c = laws.laid-no-stage (take c.args.chosen c.args.word) c.args.left _ _ c.if-left-eq0.true
+returns-then-left-eq0 c = laws.laid-no-stage (take c.args.chosen c.args.word) c.args.left _ c.if-left-eq0.true
 
 pub returns : goal.returns
-returns c = laws.laid-data c.args.word c.args.chosen (omega arith) c.args.left c.if-left-eq0.false c.more_data-second.ensures c.final_event_data-third.ensures c.unchained_stage.ensures
+returns c = laws.laid-data c.args.word c.args.chosen (omega arith) c.args.left c.if-left-eq0.false c.more_data.ensures c.final_event_data.ensures c.unchained_stage.ensures

@@ -4,7 +4,7 @@ use Rattle.shape_lines.proofs.LinesLaws as laws
 use Rattle.shape_text.proofs.shapes_of.Goals as goal
 
 pub returns-then-size-eq0 : goal.returns-then-size-eq0
-returns-then-size-eq0 c = laws.laid-no-shape [] c.args.size _ _ c.if-size-eq0.true
+returns-then-size-eq0 c = laws.laid-no-shape [] c.args.size _ c.if-size-eq0.true
 
 pub returns : goal.returns
 returns c = laws.laid-setup c.args.size c.if-size-eq0.false c.data_stage.ensures

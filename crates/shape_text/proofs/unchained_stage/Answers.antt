@@ -6,4 +6,4 @@ use native.Mathlib.Omega.{arith}
 use Rattle.shape_text.proofs.unchained_stage.Goals as goal
 
 pub returns : goal.returns
-returns c = laws.laid-two c.args.word c.args.chosen (omega arith) d t (status_stage c.args.left) (request_made c.args.left) c.status_stage-next.ensures c.request_made.ensures
+returns c = laws.laid-two c.args.word c.args.chosen (omega arith) d t (status_stage c.args.left) (request_made c.args.left) c.status_stage.ensures c.request_made.ensures

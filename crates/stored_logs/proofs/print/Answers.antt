@@ -6,6 +6,7 @@ use mathlib.Core.Path.{◌≡◌, sym}
 use native.Mathlib.Nat.{zero-add}
 use native.Mathlib.Omega.{arith}
 use lib.Dec.{leb}
+use borrow.Author.Rules.{rules}
 use lib.ListN.{length}
 use borrow.Author.Tests.{le-leb, lt-leb}
 use Rattle.trb.specs.Limits.{record_length}
@@ -59,4 +60,4 @@ pub returns : goal.returns
 unfolding lines_of
 returns c =
     let yes = accepted (goal.at.returns c).Else-not-well_formed in
-    record { number = sym yes; count = simp (yes, c.put_lines-count.ensures.next, zero-add); after = simp yes c.put_lines-count.ensures.text }
+    record { number = sym yes; count = simp (yes, c.put_lines.ensures.end, zero-add); after = simp yes (search rules) }

@@ -6,14 +6,14 @@ use native.Mathlib.Omega.{arith}
 use lib.ListN.{drop, length-drop, drop_of_length-le}
 use Rattle.numerals.specs.Digits.{bytes_hex}
 use Rattle.numerals.proofs.DigitLaws.{length-bytes_hex, bytes_hex-next}
-use Rattle.numerals.proofs.WrittenLaws.{remaining-all, remaining-less, remaining-none}
+use Rattle.text.proofs.WroteLaws.{remaining-all, remaining-less, remaining-none}
 use Rattle.written_numbers.proofs.put_bytes.Goals as goal
 
 pub loop-byte-init : goal.loop-byte-init
-loop-byte-init c = (remaining-all _ _ _ (omega (arith, length-bytes_hex c.args.bytes.now, c.requires)))
+loop-byte-init c = (remaining-all _ _ (omega (arith, length-bytes_hex c.args.bytes.now, c.requires)))
 
-pub put_byte-next-requires : goal.put_byte-next-requires
-put_byte-next-requires c =
+pub put_byte-requires : goal.put_byte-requires
+put_byte-requires c =
     let bs = c.args.bytes.now in
     let rest = drop c.loop-byte.byte-index bs in
     omega (arith, c.loop-byte.invariant.end, c.loop-byte.invariant.size, c.loop-byte.invariant.room, length-bytes_hex rest, length-drop c.loop-byte.byte-index bs)
@@ -21,7 +21,7 @@ put_byte-next-requires c =
 pub loop-byte-preserved : goal.loop-byte-preserved
 loop-byte-preserved c =
     let bs = c.args.bytes.now in
-    (remaining-less _ _ (rw (bytes_hex-next bs c.loop-byte.byte-index (omega arith)) at c.loop-byte.invariant) c.put_byte-next.ensures)
+    (remaining-less _ _ (rw (bytes_hex-next bs c.loop-byte.byte-index (omega arith)) at c.loop-byte.invariant) c.put_byte.ensures)
 
 pub returns : goal.returns
 unfolding bytes_hex

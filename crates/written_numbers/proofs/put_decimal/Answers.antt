@@ -7,16 +7,16 @@ use native.Mathlib.Nat.{mod-eq_of_lt}
 use native.Mathlib.Numerals.{add-one}
 use native.Mathlib.Omega.{arith}
 use lib.ListN.{length-map}
-use Rattle.numerals.specs.Digits.{digit_char, digits}
+use Rattle.numerals.specs.Digits.{digit_char, digits, decimal_of}
 use Rattle.numerals.proofs.DigitLaws.{length_digits, digits-next, length-decimal_of}
 use Rattle.numerals.proofs.PlaceLaws.{rest_below, digit-at-place, rest-below-place, decimal_of-first}
-use Rattle.numerals.proofs.WrittenLaws.{remaining-all, remaining-less, remaining-room, remaining-none}
+use Rattle.text.proofs.WroteLaws.{remaining-all, remaining-less, remaining-room, remaining-none}
 use Rattle.written_numbers.proofs.put_decimal.Goals as goal
 
 pub loop-place-init : goal.loop-place-init
 loop-place-init c =
     let first = c.first_place-place.ensures in
-    let all = remaining-all _ _ _ (omega (arith, length-decimal_of c.args.n, c.requires)) in
+    let all = remaining-all c.args.text.now (decimal_of c.args.n) (omega (arith, length-decimal_of c.args.n, c.requires)) in
     (omega (arith, first.within), rw add-one (sym (mod-eq_of_lt first.below)), rw (add-one, ← decimal_of-first first) all)
 
 pub subtract_power-high-requires : goal.subtract_power-high-requires
@@ -24,8 +24,8 @@ subtract_power-high-requires c =
     let lower : suc (c.loop-place.place - 1) ≡ c.loop-place.place = omega arith in
     rest_below (c.loop-place.place - 1) c.args.n (rw lower c.loop-place.invariant.1) c.power_of_ten.ensures
 
-pub put_char-next-requires : goal.put_char-next-requires
-put_char-next-requires c =
+pub put_char-requires : goal.put_char-requires
+put_char-requires c =
     remaining-room c.loop-place.invariant.2 (omega (arith, length-map (digits 10 c.loop-place.place c.args.n) digit_char, length_digits 10 c.loop-place.place c.args.n))
 
 pub loop-place-preserved : goal.loop-place-preserved
@@ -37,7 +37,7 @@ loop-place-preserved c =
     let cut : c.loop-place.rest ≡ n % 10 ^ suc k = rw lower c.loop-place.invariant.1 in
     let next : digits 10 c.loop-place.place n ≡ n / 10 ^ k % 10 ∷ digits 10 k n = ap (λ (i : ℕ). digits 10 i n) (sym lower) ∙ digits-next 10 k n in
     let digit = digit-at-place k n cut power c.subtract_power-high.ensures.0 in
-    (omega (arith, c.loop-place.invariant.0), rest-below-place k n cut power c.subtract_power-high.ensures.1, remaining-less _ _ (rw next at c.loop-place.invariant.2) (rw (c.digit_char.ensures, digit) at c.put_char-next.ensures))
+    (omega (arith, c.loop-place.invariant.0), rest-below-place k n cut power c.subtract_power-high.ensures.1, remaining-less _ _ (rw next at c.loop-place.invariant.2) (rw (c.digit_char.ensures, digit) at c.put_char.ensures))
 
 pub returns : goal.returns
 unfolding digits

@@ -3,8 +3,8 @@ use mathlib.Core.Path.{◌≡◌}
 use mathlib.Core.List.{map}
 use Rattle.numerals.specs.Digits.{digit_char, digits, decimal_of}
 use Rattle.numerals.specs.Widths.{decimal_places}
-use Rattle.numerals.proofs.WrittenLaws.{Remaining}
+use Rattle.text.proofs.WroteLaws.{Remaining}
 use Rattle.written_numbers.proofs.put_decimal.Given as goal
 
 abbrev pub invariant-loop-place : goal.invariant-loop-place
-invariant-loop-place l = (l.place ≤ decimal_places) × (l.rest ≡ l.n % 10 ^ l.place) × Remaining l.initial.text l.at (decimal_of l.n) l.text l.next (map digit_char (digits 10 l.place l.n))
+invariant-loop-place l = (l.place ≤ decimal_places) × (l.rest ≡ l.n % 10 ^ l.place) × Remaining l.initial.text (decimal_of l.n) l.text (map digit_char (digits 10 l.place l.n))

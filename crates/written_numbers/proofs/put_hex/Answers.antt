@@ -9,7 +9,7 @@ use Rattle.written_numbers.proofs.put_hex.Goals as goal
 pub put_trimmed-requires : goal.put_trimmed-requires
 put_trimmed-requires c =
     let n = c.args.n in
-    rw c.hex_digits-digits.ensures record { digits_in_bounds = omega (arith, length_digits 16 hex_places n); all_below = AllBelow-digits 16 hex_places n (omega arith) }
+    rw c.hex_digits-digits.ensures record { has_room = omega (arith, length_digits 16 hex_places n); all_below = AllBelow-digits 16 hex_places n (omega arith) }
 
 pub returns : goal.returns
 unfolding hex_of

@@ -1,7 +1,0 @@
--- `control_bytes::state` meets its contract. Assumes nothing.
-use Rattle.control_bytes.specs.Layout.{block_of}
-use Rattle.control_bytes.proofs.state.Goals as goal
-
-pub returns : goal.returns
-unfolding block_of
-returns c = cc

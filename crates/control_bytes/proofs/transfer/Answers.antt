@@ -1,7 +1,0 @@
--- `control_bytes::transfer` meets its contract. Assumes nothing.
-use Rattle.control_bytes.specs.Layout.{block_of}
-use Rattle.control_bytes.proofs.transfer.Goals as goal
-
-pub returns : goal.returns
-unfolding block_of
-returns c = cc
