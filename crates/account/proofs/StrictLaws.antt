@@ -46,9 +46,6 @@ through-append (x ∷ xs) ys w =
     let written : any is_write (xs ++ ys) ≡ true = any_append is_write xs ys ∙ rw w (or-true (any is_write xs)) in
     rw written (ap (λ (rs : List Record). x ∷ rs) (through-append xs ys w))
 
-pub through-first : (r : Record) (rs : List Record) → any is_write rs ≡ false → through_last_write (r ∷ rs) ≡ r ∷ []
-through-first r rs w = rw w
-
 -- ---- The last Normal
 
 last_of_none : (x : Option TransferTrb) → last_of none x ≡ x

@@ -1,8 +1,11 @@
 -- The cases of an answer as plain numbers. Assumes nothing.
-use Rattle.std.specs.Prelude.{ℕ, Bool, cond, Err, Ok}
+use Rattle.std.specs.Prelude.{ℕ, Bool, cond, eqb, Result, Err, Ok}
 use Rattle.trb.specs.Answers.{number_of, result_code}
 use Rattle.trb.specs.Refusals.{refusal_number}
 use Rattle.trb.specs.Answers.{Answer, CompletionAnswer}
+use Rattle.trb.specs.declared.InTrbProcessingStatus.{InTrbProcessingStatus}
+use Rattle.trb.specs.declared.InTrbProcessingStatus.TheVariants as device
+use Rattle.trb.specs.declared.Refusal.{Refusal}
 use Rattle.trb.specs.declared.TrbProcessingResult.{TrbProcessingResult}
 use Rattle.trb.specs.declared.TrbProcessingResult.TheVariants as result
 use Rattle.answer_numbers.specs.declared.Answered.{Answered}
@@ -11,6 +14,15 @@ use Rattle.answer_numbers.specs.declared.CompletionAnswered.{CompletionAnswered}
 -- the number of the answer, and of its records
 abbrev pub answered_as : Answer → ℕ → Answered
 answered_as a n = record { number = number_of a; count = n }
+
+-- of a call that counts what it made: a refused one made nothing
+abbrev pub counted : Result ℕ Refusal → Answered
+counted (Ok n) = record { number = 0; count = n }
+counted (Err q) = record { number = refusal_number q; count = 0 }
+
+-- as a call script numbers them; any other number is a transaction error
+abbrev pub status_of : ℕ → InTrbProcessingStatus
+status_of n = cond (eqb n 0) device.Success (cond (eqb n 1) device.Stall (cond (eqb n 3) device.Disconnect device.TransactionError))
 
 abbrev pub flag_number : Bool → ℕ
 flag_number on = cond on 1 0

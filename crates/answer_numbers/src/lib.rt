@@ -1,10 +1,12 @@
-// What the exported calls answer: the cases of an answer as plain numbers, in structs that C has too.
+// What the exported calls answer: the cases of an answer as plain numbers, in structs that C has too. And the status that a number stands for.
 #![tactic(auto)]
 
 ghost use Rattle.std.specs.Prelude.{◌≡◌};
-ghost use Rattle.answer_numbers.specs.Numbers.{answered_as, plain, located, completed_with, completion_answered};
+ghost use Rattle.answer_numbers.specs.Numbers.{answered_as, counted, status_of, plain, located, completed_with, completion_answered};
 
-use trb::{Answer, CompletionAnswer, CompletionCode, TrbProcessingResult};
+use trb::{
+    Answer, CompletionAnswer, CompletionCode, InTrbProcessingStatus, Refusal, TrbProcessingResult,
+};
 
 // A number with the values beside it, since C reads it. What a call answers: the number of the question that said no, or 0, and how many records or bytes it made.
 #[repr(C)]
@@ -14,10 +16,9 @@ pub struct Answered {
     pub count: usize,
 }
 
-// A number with the values beside it, since C reads it.
 // What a completion answers: the number of the question that said no, or 0; the result (0 Ok, 1 Stall, 2 transaction error, 3
 // disconnect, 4 TRB error) with its completion code; whether it carries an address and a cycle bit, and these; how many records were
-// logged.
+// logged. A number with the values beside it, since C reads it.
 #[repr(C)]
 #[derive(Clone, Copy)]
 pub struct CompletionAnswered {
@@ -37,6 +38,29 @@ pub fn answered_as(answer: Answer, records: usize) -> Answered
     Answered {
         number: trb::number_of(answer) as u32,
         count: records,
+    }
+}
+
+// What C and Rust get of a call that counts what it made: a refused one made nothing.
+pub fn counted(answer: Result<usize, Refusal>) -> Answered
+    ensures { result ≡ counted answer }
+{
+    let number = trb::number_of(answer) as u32;
+    Answered {
+        number,
+        count: answer.unwrap_or(0),
+    }
+}
+
+// 1 Stall, 3 Disconnect, 0 Success; 2 and any other number TransactionError.
+pub fn status_of(number: u8) -> InTrbProcessingStatus
+    ensures { result ≡ status_of number }
+{
+    match number {
+        0 => InTrbProcessingStatus::Success,
+        1 => InTrbProcessingStatus::Stall,
+        3 => InTrbProcessingStatus::Disconnect,
+        _ => InTrbProcessingStatus::TransactionError,
     }
 }
 
@@ -61,7 +85,7 @@ fn located(res: u8, code: u8, address: u64, cycle_bit: bool, records: usize) -> 
 {
     CompletionAnswered {
         located: 1,
-        cycle_bit: cycle_bit as u8,
+        cycle_bit: u8::from(cycle_bit),
         address,
         ..plain(res, code, records)
     }

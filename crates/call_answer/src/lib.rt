@@ -1,12 +1,12 @@
 // The answer of a call: its text, and for a completion what it does to guest memory.
 #![tactic(auto)]
 
-ghost use Rattle.std.specs.Prelude.{◌≡◌, ◌+◌, ◌≤◌, length};
-ghost use Rattle.trb.specs.Limits.{min_row_log};
+ghost use Rattle.std.specs.Prelude.{◌≡◌, ◌+◌, ◌/◌, ◌≤◌, length};
+ghost use Rattle.trb.specs.Limits.{record_length, min_row_log};
 ghost use Rattle.guest_memory.specs.Lent.{lent, SameRegions};
 ghost use Rattle.text.specs.Wrote.{HasRoom, Wrote};
 ghost use Rattle.call_text.specs.Widths.{max_first, max_record_lines, max_carried_out};
-ghost use Rattle.call_text.specs.Lines.{record_lines};
+ghost use Rattle.log_text.specs.Lines.{lines_in};
 ghost use Rattle.call_answer.specs.Answers.{answer_text, Answered, RowAnswered, CarriedOut};
 ghost use Rattle.call_answer.specs.Called.{bad_said, silent_said, ran_of};
 
@@ -14,18 +14,17 @@ use guest_memory::GuestMemory;
 use text::Text;
 use trb::{Answer, CompletionAnswer};
 
-// Writes a line for each of the first so many records of a log. That a log is no longer than a row's, so that its lines fit, stands here and in each contract
-// above: it is the caller's slice, and a type around it would have to be made for each call.
-fn put_first_records(text: &mut Text<'_>, records: usize, log: &[u8])
+// Writes a line for each record of a log. That a log is no longer than a row's, so that its lines fit, stands here and in each contract above: it is the caller's
+// slice, and a type around it would have to be made for each call.
+fn put_records(text: &mut Text<'_>, log: &[u8])
     requires has_room { HasRoom max_record_lines text.old }
     requires log_len_bound { length log.now ≤ min_row_log }
-    ensures { Wrote max_record_lines text.old (record_lines records log.now) text.new }
+    ensures { Wrote max_record_lines text.old (lines_in (length log.now / record_length) log.now) text.new }
 {
-    let shown = call_text::first_records(log, records);
-    log_text::put_lines(text, shown);
+    log_text::put_lines(text, log);
 }
 
-// Of creation, submission and cancel.
+// Of creation, submission and cancel. How many records there are is printed too, of a log that is a whole buffer: so both are passed, here and below.
 pub fn put_answer(text: &mut Text<'_>, answer: Answer, records: usize, log: &[u8])
     requires has_room { HasRoom (max_first + max_record_lines) text.old }
     requires log_len_bound { length log.now ≤ min_row_log }
@@ -34,26 +33,19 @@ pub fn put_answer(text: &mut Text<'_>, answer: Answer, records: usize, log: &[u8
     match answer {
         Ok(()) => {
             call_text::put_accepted(text, call_text::count(records));
-            put_first_records(text, records, log);
+            put_records(text, call_text::first_records(log, records));
         }
         Err(refusal) => call_text::put_refused(text, u8::from(refusal)),
     }
 }
 
-// Carries out the first so many records of a log and writes carry-out's answer.
-fn put_carry_out(
-    text: &mut Text<'_>,
-    records: usize,
-    log: &[u8],
-    data: &[u8],
-    memory: &mut GuestMemory<'_>,
-)
+// Carries out a log and writes carry-out's answer.
+fn put_carry_out(text: &mut Text<'_>, log: &[u8], data: &[u8], memory: &mut GuestMemory<'_>)
     requires { HasRoom max_carried_out text.old }
-    ensures answer { CarriedOut records log.now «data».now (lent memory.old) text.old text.new (lent memory.new) }
+    ensures answer { CarriedOut log.now «data».now (lent memory.old) text.old text.new (lent memory.new) }
     ensures same { SameRegions memory.old memory.new }
 {
-    let shown = call_text::first_records(log, records);
-    let answer = carry_out::carry_out(shown, data, memory);
+    let answer = carry_out::carry_out(log, data, memory);
     call_text::put_carried_out(text, trb::number_of(answer));
 }
 
@@ -74,8 +66,9 @@ pub fn put_completion(
     match answer {
         Ok(result) => {
             call_text::put_completed(text, call_text::count(records), result);
-            put_first_records(text, records, log);
-            put_carry_out(text, records, log, data, memory);
+            let shown = call_text::first_records(log, records);
+            put_records(text, shown);
+            put_carry_out(text, shown, data, memory);
         }
         Err(refusal) => call_text::put_refused(text, u8::from(refusal)),
     }
@@ -104,8 +97,9 @@ pub fn put_row(
                 result,
                 call_text::count(finished),
             );
-            put_first_records(text, records, log);
-            put_carry_out(text, records, log, data, memory);
+            let shown = call_text::first_records(log, records);
+            put_records(text, shown);
+            put_carry_out(text, shown, data, memory);
         }
         Err(refusal) => call_text::put_refused(text, u8::from(refusal)),
     }

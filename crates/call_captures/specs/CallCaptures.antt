@@ -68,7 +68,7 @@ no_result_captures (Some Control) s before after =
 -- as it was written down before the call
 abbrev pub row_call_captures : Setting → Session → List ℕ → ℕ → List ℕ → List CaptureCall
 row_call_captures s before log records bytes =
-    row_captures (captured_of s) (pipe_of s before.in_block.endpoint_id) (row_tds (take before.row_count before.row) before.results)
+    row_captures (captured_of s) (pipe_of s before.in_block.endpoint_id) (row_tds (take before.row.count before.row.trbs) before.row.results)
     (requests_in (logged_records records log)) bytes
 
 -- ---- Any call

@@ -12,7 +12,7 @@ is_interrupt Interrupt = true
 
 -- docs/CALLS.md: bus 1, device 1, bulk and time 0, until a script says otherwise
 abbrev pub first_setting : Setting
-first_setting = record { seconds = 0; microseconds = 0; device = record { bus_number = 1; device_address = 1 }; interrupt = false }
+first_setting = record { time = record { seconds = 0; microseconds = 0 }; device = record { bus_number = 1; device_address = 1 }; interrupt = false }
 
 -- 02, R-2: times, bus, device address and the transfer type on IN are the caller's: `t` and `m` set them for the calls behind, no other line does
 unfoldable pub setting_after : Setting → Call → Setting
@@ -31,10 +31,9 @@ setting_after s (AppendTrb t) = s
 setting_after s (AppendResult status n) = s
 setting_after s (CompleteRow n) = s
 setting_after s (Time seconds microseconds) =
-    record { seconds = seconds; microseconds = microseconds; device = s.device; interrupt = s.interrupt }
+    record { time = record { seconds = seconds; microseconds = microseconds }; device = s.device; interrupt = s.interrupt }
 setting_after s (Captured bus address transfer_type) = record {
-  seconds = s.seconds;
-  microseconds = s.microseconds;
+  time = s.time;
   device = record { bus_number = bus; device_address = address };
   interrupt = is_interrupt transfer_type;
 }

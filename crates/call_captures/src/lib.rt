@@ -11,6 +11,7 @@ ghost use Rattle.call_captures.specs.Settings.{is_interrupt, first_setting, sett
 ghost use Rattle.call_captures.specs.CallCaptures.{submission_captures, result_captures, no_result_captures, row_call_captures, call_captures};
 
 use call_script::{Call, DeviceStatus, InTransferType};
+use capture_file::CaptureTime;
 use capture_record::UsbDevice;
 use captured_calls::{Capture, Setting};
 use held::EndpointKind;
@@ -27,8 +28,10 @@ pub fn first_setting() -> Setting
     ensures { result ≡ first_setting }
 {
     Setting {
-        seconds: 0,
-        microseconds: 0,
+        time: CaptureTime {
+            seconds: 0,
+            microseconds: 0,
+        },
         device: UsbDevice {
             bus_number: 1,
             device_address: 1,
@@ -49,8 +52,10 @@ pub fn setting_after(setting: Setting, call: Call) -> Setting
 {
     match call {
         Call::Time(seconds, microseconds) => Setting {
-            seconds,
-            microseconds,
+            time: CaptureTime {
+                seconds,
+                microseconds,
+            },
             ..setting
         },
         Call::Captured(bus_number, device_address, transfer_type) => Setting {
@@ -70,7 +75,6 @@ pub fn setting_after(setting: Setting, call: Call) -> Setting
 // A submission on this endpoint.
 fn put_submission(
     capture: &mut Capture<'_>,
-    setting: Setting,
     before: Session,
     after: Session,
     log: &[u8],
@@ -78,7 +82,7 @@ fn put_submission(
     collect: &[u8],
 )
     requires { Fits capture.old }
-    ensures { Laid (submission_captures after.endpoint setting before after log.now records collect.now) capture.old capture.new }
+    ensures { Laid (submission_captures after.endpoint capture.old.setting before after log.now records collect.now) capture.old capture.new }
 {
     let Some(endpoint) = after.endpoint else {
         return;
@@ -86,20 +90,13 @@ fn put_submission(
     match endpoint {
         EndpointKind::In => captured_calls::put_in_submission(
             capture,
-            setting,
             before.in_block.endpoint_id,
             log,
             records,
         ),
         EndpointKind::Control => {
             let collected = after.control_block.collected.min(collect.len());
-            captured_calls::put_control_submission(
-                capture,
-                setting,
-                log,
-                records,
-                &collect[..collected],
-            )
+            captured_calls::put_control_submission(capture, log, records, &collect[..collected])
         }
     }
 }
@@ -114,7 +111,6 @@ fn first_address(trbs: [TransferTrb; trb::MAX_HELD]) -> u64
 // A completion of an IN block, `due` whether a submission is due behind it: it was accepted.
 fn put_in_completion(
     capture: &mut Capture<'_>,
-    setting: Setting,
     endpoint_id: EndpointId,
     state: TdBasedNormalSubmissionState,
     first: u64,
@@ -123,18 +119,17 @@ fn put_in_completion(
     data: &[u8],
 )
     requires { Fits capture.old }
-    ensures { Laid (cond due (writer_call (captured_of setting) (in_completion_event (pipe_of setting endpoint_id) state first res) «data».now) []) capture.old capture.new }
+    ensures { Laid (cond due (writer_call (captured_of capture.old.setting) (in_completion_event (pipe_of capture.old.setting endpoint_id) state first res) «data».now) []) capture.old capture.new }
 {
     if !due {
         return;
     }
-    captured_calls::put_in_completion(capture, setting, endpoint_id, state, first, res, data);
+    captured_calls::put_in_completion(capture, endpoint_id, state, first, res, data);
 }
 
 // The same of a control block.
 fn put_control_completion(
     capture: &mut Capture<'_>,
-    setting: Setting,
     state: ControlSubmissionState,
     direction: bool,
     request: UsbRequest,
@@ -144,28 +139,25 @@ fn put_control_completion(
     data: &[u8],
 )
     requires { Fits capture.old }
-    ensures { Laid (cond due (writer_call (captured_of setting) (control_completion_event state direction request (count_of collected) res) «data».now) []) capture.old capture.new }
+    ensures { Laid (cond due (writer_call (captured_of capture.old.setting) (control_completion_event state direction request (count_of collected) res) «data».now) []) capture.old capture.new }
 {
     if !due {
         return;
     }
     let count = call_text::count(collected);
-    captured_calls::put_control_completion(
-        capture, setting, state, direction, request, count, res, data,
-    );
+    captured_calls::put_control_completion(capture, state, direction, request, count, res, data);
 }
 
 // A completion with a device result and these data.
 fn put_result(
     capture: &mut Capture<'_>,
-    setting: Setting,
     before: Session,
     after: Session,
     status: DeviceStatus,
     data: &[u8],
 )
     requires { Fits capture.old }
-    ensures { Laid (result_captures after.endpoint setting before after status «data».now) capture.old capture.new }
+    ensures { Laid (result_captures after.endpoint capture.old.setting before after status «data».now) capture.old capture.new }
 {
     let Some(endpoint) = after.endpoint else {
         return;
@@ -173,7 +165,6 @@ fn put_result(
     match endpoint {
         EndpointKind::In => put_in_completion(
             capture,
-            setting,
             before.in_block.endpoint_id,
             before.in_block.state,
             first_address(before.in_block.trbs),
@@ -185,7 +176,6 @@ fn put_result(
             let block = before.control_block;
             put_control_completion(
                 capture,
-                setting,
                 block.state,
                 block.direction,
                 block.request,
@@ -199,9 +189,9 @@ fn put_result(
 }
 
 // A completion without a device result has a record where it reports a TRB on control.
-fn put_no_result(capture: &mut Capture<'_>, setting: Setting, before: Session, after: Session)
+fn put_no_result(capture: &mut Capture<'_>, before: Session, after: Session)
     requires { Fits capture.old }
-    ensures { Laid (no_result_captures after.endpoint setting before after) capture.old capture.new }
+    ensures { Laid (no_result_captures after.endpoint capture.old.setting before after) capture.old capture.new }
 {
     let Some(endpoint) = after.endpoint else {
         return;
@@ -212,7 +202,6 @@ fn put_no_result(capture: &mut Capture<'_>, setting: Setting, before: Session, a
             let block = before.control_block;
             put_control_completion(
                 capture,
-                setting,
                 block.state,
                 block.direction,
                 block.request,
@@ -226,24 +215,15 @@ fn put_no_result(capture: &mut Capture<'_>, setting: Setting, before: Session, a
 }
 
 // A row, as it was written down before the call.
-fn put_row(
-    capture: &mut Capture<'_>,
-    setting: Setting,
-    before: Session,
-    log: &[u8],
-    records: usize,
-    data: &[u8],
-)
+fn put_row(capture: &mut Capture<'_>, before: Session, log: &[u8], records: usize, data: &[u8])
     requires { Fits capture.old }
-    ensures { Laid (row_call_captures setting before log.now records «data».now) capture.old capture.new }
+    ensures { Laid (row_call_captures capture.old.setting before log.now records «data».now) capture.old capture.new }
 {
     captured_calls::put_row(
         capture,
-        setting,
         before.in_block.endpoint_id,
-        before.row,
-        before.row_count,
-        before.results,
+        &before.row.trbs[..before.row.count.min(trb::MAX_ROW)],
+        &before.row.results,
         log,
         records,
         data,
@@ -254,7 +234,6 @@ fn put_row(
 #[tactic(auto, unfolding(crate::specs::CallCaptures::call_captures))]
 fn capture_call(
     capture: &mut Capture<'_>,
-    setting: Setting,
     before: Session,
     after: Session,
     call: Call,
@@ -264,18 +243,18 @@ fn capture_call(
     data: &[u8],
 )
     requires { Fits capture.old }
-    ensures { Laid (call_captures setting before after call log.now records collect.now «data».now) capture.old capture.new }
+    ensures { Laid (call_captures capture.old.setting before after call log.now records collect.now «data».now) capture.old capture.new }
 {
     match call {
-        Call::Submit(_) => put_submission(capture, setting, before, after, log, records, collect),
+        Call::Submit(_) => put_submission(capture, before, after, log, records, collect),
         Call::CompleteWithResult(status, bytes) => {
             let given = bytes.min(data.len());
-            put_result(capture, setting, before, after, status, &data[..given])
+            put_result(capture, before, after, status, &data[..given])
         }
-        Call::CompleteWithout(_) => put_no_result(capture, setting, before, after),
+        Call::CompleteWithout(_) => put_no_result(capture, before, after),
         Call::CompleteRow(bytes) => {
             let joined = bytes.min(data.len());
-            put_row(capture, setting, before, log, records, &data[..joined])
+            put_row(capture, before, log, records, &data[..joined])
         }
         _ => {}
     }
@@ -298,10 +277,10 @@ pub fn put_call(
     let mut capture = Capture {
         bytes: output,
         end: 0,
+        setting,
     };
     capture_call(
         &mut capture,
-        setting,
         before,
         after,
         call,

@@ -1,9 +1,9 @@
 -- Laws of the log, by which callers reason: none of them needs the bytes of a record. Assumes nothing.
-use Prim.Native.Nat.{ℕ, suc, ◌+◌, ◌-◌, ◌*◌, ◌≤◌, ◌<◌}
+use Prim.Native.Nat.{ℕ, zero, suc, ◌+◌, ◌-◌, ◌*◌, ◌≤◌, ◌<◌}
 use mathlib.Core.Path.{◌≡◌, refl, sym, ap, ◌∙◌}
 use mathlib.Core.List.{List, [], ◌∷◌, ◌++◌, append_assoc}
 use native.Mathlib.Omega.{arith}
-use lib.ListN.{length, drop, length-append}
+use lib.ListN.{length, drop, get_or, length-append}
 use lib.Seq.{drop-drop}
 use Rattle.buffers.proofs.PatchLaws.{length-patch, patch-none, patch-append, drop-patch}
 use Rattle.trb.specs.Limits.{record_length}
@@ -72,3 +72,12 @@ records_in-next n i l h =
     let left : n - i ≡ suc (n - (i + 1)) = omega arith in
     let at : record_length * i + record_length ≡ record_length * (i + 1) = omega arith in
     rw (left, drop-drop record_length (record_length * i) l, at)
+
+-- the record at each number is the one there
+pub get_or-records_in : (n i : ℕ) (l : List ℕ) (d : Record) → i < n → get_or (records_in n l) i d ≡ record_at l i
+unfolding record_at
+get_or-records_in zero i l d h = absurd (omega arith)
+get_or-records_in (suc n) zero l d h = refl
+get_or-records_in (suc n) (suc i) l d h =
+    let next : record_length + record_length * i ≡ record_length * suc i = omega arith in
+    get_or-records_in n i (drop record_length l) d (omega arith) ∙ rw (drop-drop (record_length * i) record_length l, next)

@@ -2,10 +2,12 @@
 // has it: a fact of the log and the number, which no type of one of them has.
 #![tactic(auto)]
 
-ghost use Rattle.std.specs.Prelude.{◌≡◌, [], ◌∷◌, ◌+◌, ◌*◌, ◌≤◌, length};
+ghost use Rattle.std.specs.Prelude.{◌≡◌, [], ◌∷◌, ◌+◌, ◌*◌, ◌/◌, ◌≤◌, map, length};
+ghost use Rattle.std.specs.Simd.{first_chunks};
 ghost use Rattle.trb.specs.Limits.{record_length};
-ghost use Rattle.call_log.specs.Records.{encode, record_at, blank, transfer_event, guest_write, in_request, control_request, when};
+ghost use Rattle.call_log.specs.Records.{encode, decode, record_at, blank, transfer_event, guest_write, in_request, control_request, when};
 ghost use Rattle.call_log.specs.Calls.{Put, Meets, counted};
+ghost use Rattle.call_log.specs.Logs.{records_in};
 
 use trb::{CompletionCode, EndpointId, SlotId, UsbRequest};
 
@@ -67,7 +69,7 @@ pub fn transfer_event(
 {
     Record {
         code: u8::from(completion_code),
-        flag: event_data as u8,
+        flag: u8::from(event_data),
         address: trb_pointer,
         length: trb_transfer_length,
         ..blank(KIND_EVENT, endpoint_id, slot_id)
@@ -171,24 +173,39 @@ pub fn put_then(log: &mut [u8], count: usize, first: Record, due: bool, second: 
     put_when(log, count + 1, due, second)
 }
 
+// What the bytes of a record say.
+pub fn decoded(cells: &[u8; trb::RECORD_LENGTH]) -> Record
+    ensures { result ≡ decode cells.now }
+{
+    Record {
+        kind: cells[0],
+        code: cells[1],
+        flag: cells[2],
+        endpoint_id: EndpointId(cells[3]),
+        slot_id: SlotId(cells[4]),
+        address: buffers::le64(cells, 8),
+        length: buffers::le32(cells, 16),
+        start: buffers::le32(cells, 20),
+        request_type: cells[24],
+        request: cells[25],
+        value: buffers::le16(cells, 26),
+        index: buffers::le16(cells, 28),
+    }
+}
+
+// The records of a log, each by its bytes; fewer bytes than a record behind them are left out.
+pub fn records(log: &[u8]) -> &[[u8; trb::RECORD_LENGTH]]
+    ensures cells { result.now ≡ first_chunks record_length (length log.now / record_length) log.now }
+    ensures each { map decode result.now ≡ records_in (length log.now / record_length) log.now }
+    ensures count { length result.now ≡ length log.now / record_length }
+{
+    log.as_chunks().0
+}
+
 // What record number `index` of a log says.
 pub fn read_record(log: &[u8], index: usize) -> Record
     requires { record_length * (index + 1) ≤ length log.now }
     ensures { result ≡ record_at log.now index }
 {
-    let at = trb::RECORD_LENGTH * index;
-    Record {
-        kind: log[at],
-        code: log[at + 1],
-        flag: log[at + 2],
-        endpoint_id: EndpointId(log[at + 3]),
-        slot_id: SlotId(log[at + 4]),
-        address: buffers::le64(log, at + 8),
-        length: buffers::le32(log, at + 16),
-        start: buffers::le32(log, at + 20),
-        request_type: log[at + 24],
-        request: log[at + 25],
-        value: buffers::le16(log, at + 26),
-        index: buffers::le16(log, at + 28),
-    }
+    decoded(&records(log)[index])
 }

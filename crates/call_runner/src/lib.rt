@@ -2,30 +2,27 @@
 #![tactic(auto)]
 
 ghost use Rattle.std.specs.Prelude.{◌≡◌, ◌*◌, ◌≤◌, length, IfOk};
-ghost use Rattle.trb.specs.Limits.{min_row_log};
 ghost use Rattle.call_script.specs.Limits.{max_window, max_lent_log, max_lent_collect, max_script_data};
-ghost use Rattle.session_calls.specs.Answers.{state_of};
+ghost use Rattle.session_calls.specs.Buffers.{SameBuffers};
+ghost use Rattle.session_calls.specs.Answers.{state_in};
 ghost use Rattle.state_text.specs.Widths.{max_answer};
 ghost use Rattle.call_runner.specs.Turns.{started, ahead_of, ReadsOn, Turns, RunsInput};
 
-use script_lines::Refilled;
-use session::Session;
+use script_lines::{Input, Refilled};
+use session::{LentBuffers, Session};
 use std::io;
 use std::io::{Read, Write};
+use text::Text;
 
 // ---- Lines
 
-// How far a run has come: the lines taken, the characters that the last turn printed, whether every line was good, and whether there may be more: the
-// others are there either way. The bytes of the input from `from` up to `filled` are not taken yet.
+// How far a run has come: the lines taken, whether every one was good, and whether there may be more: the others are there either way.
 #[derive(Clone, Copy)]
 struct Progress {
     session: Session,
     lines: u64,
-    printed: usize,
     good: bool,
     more: bool,
-    from: usize,
-    filled: usize,
 }
 
 fn started() -> Progress
@@ -35,20 +32,14 @@ fn started() -> Progress
     Progress {
         session: new,
         lines: 0,
-        printed: 0,
         good: true,
         more: true,
-        from: 0,
-        filled: 0,
     }
 }
 
-// What stands ahead of a run behind the lines that it took: the bytes from `from` up to `filled`; one line more where one is unfinished; whether the run
-// is good, and whether there may be more: the others are there either way.
+// What stands ahead of a run behind the lines that it took: one line more where one is unfinished; whether the run is good, and whether there may be more.
 #[derive(Clone, Copy)]
 struct Ahead {
-    from: usize,
-    filled: usize,
     lines: usize,
     good: bool,
     more: bool,
@@ -58,23 +49,17 @@ fn ahead_of(refilled: Refilled) -> Ahead
     ensures { result ≡ ahead_of refilled }
 {
     match refilled {
-        Refilled::Piece(filled) => Ahead {
-            from: 0,
-            filled,
+        Refilled::Piece => Ahead {
             lines: 0,
             good: true,
             more: true,
         },
         Refilled::End => Ahead {
-            from: 0,
-            filled: 0,
             lines: 0,
             good: true,
             more: false,
         },
         Refilled::Unfinished => Ahead {
-            from: 0,
-            filled: 0,
             lines: 1,
             good: false,
             more: false,
@@ -85,19 +70,15 @@ fn ahead_of(refilled: Refilled) -> Ahead
 // Reads a further piece behind the bytes that were not taken, unless the run is not good any more, or there was no room for the text of all whole lines.
 fn read_on<R: Read>(
     reader: &mut R,
-    input: &mut [u8],
-    next: usize,
-    filled: usize,
+    input: &mut Input<'_>,
     good: bool,
     room: bool,
 ) -> io::Result<Ahead>
-    requires { (next ≤ filled) × (filled ≤ length input.old) }
-    ensures { IfOk result (λ ahead. ReadsOn good room input.old next filled ahead input.new (R.remaining reader.old) (R.remaining reader.new)) }
+    ensures same { input.new.bytes.ghost_name ≡ input.old.bytes.ghost_name }
+    ensures reads { IfOk result (λ ahead. ReadsOn good room input.old ahead input.new (R.remaining reader.old) (R.remaining reader.new)) }
 {
     if !good {
         return Ok(Ahead {
-            from: next,
-            filled,
             lines: 0,
             good: false,
             more: false,
@@ -105,14 +86,12 @@ fn read_on<R: Read>(
     }
     if !room {
         return Ok(Ahead {
-            from: next,
-            filled,
             lines: 0,
             good: true,
             more: true,
         });
     }
-    let refilled = script_lines::refill(reader, input, next, filled)?;
+    let refilled = script_lines::refill(reader, input)?;
     Ok(ahead_of(refilled))
 }
 
@@ -120,46 +99,32 @@ fn read_on<R: Read>(
 fn take_turn<R: Read, W: Write>(
     reader: &mut R,
     writer: &mut W,
-    text: &mut [u8],
+    text: &mut Text<'_>,
     progress: Progress,
-    input: &mut [u8],
-    log: &mut [u8],
-    collect: &mut [u8],
-    data: &[u8],
-    low: &mut [u8],
-    high: &mut [u8],
+    input: &mut Input<'_>,
+    buffers: &mut LentBuffers<'_>,
 ) -> io::Result<Progress>
-    requires max_answer_in_bounds { max_answer ≤ length text.old }
-    requires log_len_bound { length log.old ≤ min_row_log }
-    requires from_le_filled { (progress.from ≤ progress.filled) × (progress.filled ≤ length input.old) }
-    ensures { IfOk result (λ after. Turns «data».now (state_of progress.session log.old collect.old low.old high.old) input.old progress after text.new input.new (state_of after.session log.new collect.new low.new high.new) (R.remaining reader.old) (R.remaining reader.new) (W.contents writer.old) (W.contents writer.new)) }
+    requires { max_answer ≤ length text.old.bytes.now }
+    ensures turn { IfOk result (λ after. Turns buffers.old.«data».now (state_in progress.session buffers.old) input.old progress after text.new input.new (state_in after.session buffers.new) (R.remaining reader.old) (R.remaining reader.new) (W.contents writer.old) (W.contents writer.new)) }
+    ensures text { text.new.bytes.ghost_name ≡ text.old.bytes.ghost_name }
+    ensures size { length text.new.bytes.now ≡ length text.old.bytes.now }
+    ensures input { input.new.bytes.ghost_name ≡ input.old.bytes.ghost_name }
+    ensures same { SameBuffers buffers.old buffers.new }
 {
     let before = progress.session;
-    let taken = script_pieces::take_lines(
-        text,
-        before,
-        &input[..progress.filled],
-        progress.from,
-        log,
-        collect,
-        data,
-        low,
-        high,
-    );
-    let end = taken.end;
-    script_lines::write_text(writer, text, end)?;
-    let room = end <= text.len() - state_text::MAX_ANSWER;
-    let ahead = read_on(reader, input, taken.next, progress.filled, taken.good, room)?;
+    let from = input.from;
+    let taken = script_pieces::take_lines(text, before, input.filled_bytes(), from, buffers);
+    script_lines::write_text(writer, text)?;
+    let room = text.end <= text.bytes.len() - state_text::MAX_ANSWER;
+    input.from = taken.next;
+    let ahead = read_on(reader, input, taken.good, room)?;
     let lines = script_lines::lines_behind(progress.lines, taken.lines);
     let after = taken.session;
     Ok(Progress {
         session: after,
         lines: script_lines::lines_behind(lines, ahead.lines),
-        printed: end,
         good: ahead.good,
         more: ahead.more,
-        from: ahead.from,
-        filled: ahead.filled,
     })
 }
 
@@ -169,25 +134,24 @@ fn run_input<R: Read, W: Write>(
     writer: &mut W,
     text: &mut [u8],
     input: &mut [u8],
-    log: &mut [u8],
-    collect: &mut [u8],
-    data: &[u8],
-    low: &mut [u8],
-    high: &mut [u8],
+    buffers: &mut LentBuffers<'_>,
 ) -> io::Result<Progress>
-    requires max_answer_in_bounds { max_answer ≤ length text.old }
-    requires log_len_bound { length log.old ≤ min_row_log }
-    ensures { IfOk result (λ ended. RunsInput «data».now (state_of started.session log.old collect.old low.old high.old) ended (state_of ended.session log.new collect.new low.new high.new) (R.remaining reader.old) (R.remaining reader.new) (W.contents writer.old) (W.contents writer.new)) }
+    requires { max_answer ≤ length text.old }
+    ensures run { IfOk result (λ ended. RunsInput buffers.old.«data».now (state_in started.session buffers.old) ended (state_in ended.session buffers.new) (R.remaining reader.old) (R.remaining reader.new) (W.contents writer.old) (W.contents writer.new)) }
+    ensures same { SameBuffers buffers.old buffers.new }
 {
+    let mut text = Text {
+        bytes: text,
+        end: 0,
+    };
+    let mut input = Input::new(input);
     let mut progress = started();
     // A proved loop has to end, and nothing says that the input does: so its turns are counted, up to a number that no run uses up.
     for _ in 0..u64::MAX {
         if !progress.more {
             return Ok(progress);
         }
-        progress = take_turn(
-            reader, writer, text, progress, input, log, collect, data, low, high,
-        )?;
+        progress = take_turn(reader, writer, &mut text, progress, &mut input, buffers)?;
     }
     Ok(progress)
 }
@@ -242,16 +206,13 @@ pub fn run<R: Read, W: Write>(reader: &mut R, writer: &mut W) -> io::Result<()> 
     let mut data = data_buffer();
     script_bytes::fill_device(&mut data);
     script_bytes::fill_guest(&mut low, session::FIRST_BASE);
-    let progress = run_input(
-        reader,
-        writer,
-        &mut text,
-        &mut input,
-        &mut log,
-        &mut collect,
-        &data,
-        &mut low,
-        &mut high,
-    )?;
+    let mut buffers = LentBuffers {
+        log: &mut log,
+        collect: &mut collect,
+        data: &data,
+        low: &mut low,
+        high: &mut high,
+    };
+    let progress = run_input(reader, writer, &mut text, &mut input, &mut buffers)?;
     script_lines::print_bad_line(writer, progress.lines, progress.good)
 }

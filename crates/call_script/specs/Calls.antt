@@ -3,8 +3,6 @@
 use Rattle.std.specs.Prelude.{ℕ, ◌+◌, Bool, cond, ◌&&◌, ◌||◌, List, [], ◌∷◌, eqb, leb, Option, Some, None}
 use Rattle.trb.specs.declared.ControlSubmissionState.{ControlSubmissionState}
 use Rattle.trb.specs.declared.ControlSubmissionState.TheVariants as control_state
-use Rattle.trb.specs.declared.ControlTransferState.{ControlTransferState}
-use Rattle.trb.specs.declared.ControlTransferState.TheVariants as phase
 use Rattle.trb.specs.declared.EndpointId.{EndpointId}
 use Rattle.trb.specs.declared.InTrbProcessingStatus.{InTrbProcessingStatus}
 use Rattle.trb.specs.declared.InTrbProcessingStatus.TheVariants as in_status
@@ -13,8 +11,8 @@ use Rattle.trb.specs.declared.TdBasedNormalSubmissionState.{TdBasedNormalSubmiss
 use Rattle.trb.specs.declared.TdBasedNormalSubmissionState.TheVariants as in_state
 use Rattle.trb.specs.declared.TransferTrb.{TransferTrb}
 use Rattle.raw_trb.specs.Raw.{decode_trb}
-use Rattle.control_block.specs.declared.GuestRelease.{GuestRelease}
-use Rattle.control_block.specs.declared.GuestRelease.TheVariants.{Release4, Release5}
+use Rattle.control_block.specs.Numbers.{release_of, phase_of}
+use Rattle.control_block.specs.declared.GuestRelease.TheVariants.{Release4}
 use Rattle.in_td.specs.declared.InMode.{InMode}
 use Rattle.in_td.specs.declared.InMode.TheVariants.{AsPorted, Strict}
 use Rattle.script_fields.specs.Fields.{max_numbers, fields_of, field, within_limits, raw_fields_of}
@@ -41,10 +39,6 @@ call_if so c = cond so (Some c) None
 unfoldable pub mode_of : ℕ → InMode
 mode_of n = row_of ((1, Strict) ∷ []) AsPorted n
 
--- RELEASE: 4 or 5
-unfoldable pub release_of : ℕ → GuestRelease
-release_of n = row_of ((5, Release5) ∷ []) Release4 n
-
 -- STATUS: 0 Success on IN, SuccessfulControlIn on control; 1 Stall, 2 TransactionError, 3 Disconnect, 4 SuccessfulControlOut
 unfoldable pub status_of : ℕ → DeviceStatus
 status_of n =
@@ -58,12 +52,6 @@ in_status_of n = row_of ((1, in_status.Stall) ∷ (2, in_status.TransactionError
 unfoldable pub in_state_of : ℕ → TdBasedNormalSubmissionState
 in_state_of n =
     row_of ((1, in_state.CollectingTd) ∷ (2, in_state.AwaitingRealTransfer) ∷ (3, in_state.AwaitingLocalCompletion) ∷ []) in_state.SubmissionDue n
-
--- PHASE: 0 to 4 in the order of `ControlTransferState`
-unfoldable pub phase_of : ℕ → ControlTransferState
-phase_of n =
-    row_of ((1, phase.MaybeDataStageTrb) ∷ (2, phase.MoreData) ∷ (3, phase.ExpectStatusStageTrb) ∷ (4, phase.ExpectFinalEventDataTrb) ∷ [])
-    phase.ExpectSetupStageTrb n
 
 -- STATE of a control block: 0 submission due, 1 collecting, 2 awaits the device
 unfoldable pub control_state_of : ℕ → ControlSubmissionState
@@ -175,7 +163,7 @@ cancel_call f = call_if (within_limits [] f) Cancel
 unfoldable pub in_state_call : Fields → Option Call
 in_state_call f = call_if (within_limits (3 ∷ []) f) (MakeUpIn (in_state_of (field f 0)))
 
--- `p PHASE STATE DIRECTION LENGTH`: DIRECTION 1 IN, 0 OUT
+-- `p PHASE STATE DIRECTION LENGTH`: PHASE 0 to 4 in the order of `ControlTransferState`, DIRECTION 1 IN, 0 OUT
 unfoldable pub control_state_call : Fields → Option Call
 control_state_call f =
     call_if (within_limits (4 ∷ 2 ∷ 1 ∷ any_word ∷ []) f)

@@ -3,7 +3,7 @@
 
 ghost use Rattle.std.specs.Prelude.{◌≡◌};
 ghost use Rattle.call_script.specs.Limits.{script_limits};
-ghost use Rattle.call_script.specs.Calls.{mode_of, release_of, status_of, in_status_of, in_state_of, phase_of, control_state_of, transfer_type_of, is_transfer_type, trb_fields, line_trb, one_region, two_regions, window_call, buffers_call, ported_creation, mode_creation, in_creation, four_creation, release_creation, control_creation, submit_call, hold_call, append_call, result_call, no_result_call, cancel_call, in_state_call, control_state_call, make_up_call, row_result_call, row_call, time_call, capture_call, numbered_call, raw_call, call_of};
+ghost use Rattle.call_script.specs.Calls.{mode_of, status_of, in_status_of, in_state_of, control_state_of, transfer_type_of, is_transfer_type, trb_fields, line_trb, one_region, two_regions, window_call, buffers_call, ported_creation, mode_creation, in_creation, four_creation, release_creation, control_creation, submit_call, hold_call, append_call, result_call, no_result_call, cancel_call, in_state_call, control_state_call, make_up_call, row_result_call, row_call, time_call, capture_call, numbered_call, raw_call, call_of};
 ghost use Rattle.call_script.specs.RawLines.{decode_line, encode_line, raw_line_of};
 
 use control_block::GuestRelease;
@@ -107,16 +107,6 @@ fn mode_of(number: u64) -> InMode
     }
 }
 
-#[tactic(auto, unfolding(crate::specs::Calls::release_of, script_trb::specs::Tables::row_of))]
-fn release_of(number: u64) -> GuestRelease
-    ensures { result ≡ release_of number }
-{
-    match number {
-        5 => GuestRelease::Release5,
-        _ => GuestRelease::Release4,
-    }
-}
-
 #[tactic(auto, unfolding(crate::specs::Calls::status_of, script_trb::specs::Tables::row_of))]
 fn status_of(number: u64) -> DeviceStatus
     ensures { result ≡ status_of number }
@@ -151,19 +141,6 @@ fn in_state_of(number: u64) -> TdBasedNormalSubmissionState
         2 => TdBasedNormalSubmissionState::AwaitingRealTransfer,
         3 => TdBasedNormalSubmissionState::AwaitingLocalCompletion,
         _ => TdBasedNormalSubmissionState::SubmissionDue,
-    }
-}
-
-#[tactic(auto, unfolding(crate::specs::Calls::phase_of, script_trb::specs::Tables::row_of))]
-fn phase_of(number: u64) -> ControlTransferState
-    ensures { result ≡ phase_of number }
-{
-    match number {
-        1 => ControlTransferState::MaybeDataStageTrb,
-        2 => ControlTransferState::MoreData,
-        3 => ControlTransferState::ExpectStatusStageTrb,
-        4 => ControlTransferState::ExpectFinalEventDataTrb,
-        _ => ControlTransferState::ExpectSetupStageTrb,
     }
 }
 
@@ -316,7 +293,8 @@ fn release_creation(fields: Fields) -> Option<Call>
     }
     let endpoint_id = EndpointId(fields.numbers[0] as u8);
     let slot_id = SlotId(fields.numbers[1] as u8);
-    Some(Call::CreateControl(endpoint_id, slot_id, release_of(fields.numbers[2])))
+    let release = control_block::release_of(fields.numbers[2] as u8);
+    Some(Call::CreateControl(endpoint_id, slot_id, release))
 }
 
 #[tactic(auto, unfolding(crate::specs::Calls::control_creation))]
@@ -430,7 +408,7 @@ fn control_state(fields: Fields) -> Option<Call>
     if !script_fields::within_limits(fields, &[4, 2, 1, MAX_WORD]) {
         return None;
     }
-    let phase = phase_of(fields.numbers[0]);
+    let phase = control_block::phase_of(fields.numbers[0] as u8);
     let state = control_state_of(fields.numbers[1]);
     Some(Call::MakeUpControl(
         phase,

@@ -9,22 +9,21 @@ ghost use Rattle.capture_file.specs.Reading.{original_at, delivered_at, record_a
 ghost use Rattle.capture_file.specs.Files.{known_link, extra_of, whole_file};
 ghost use Rattle.capture_convert.specs.Converting.{resized, resized_front, resized_bytes, Resizable, ResizableRecord, other_link, converted_bytes, added_length, Measures, Converts};
 
+use capture_file::{
+    ADDED_LENGTH, FILE_HEADER_LENGTH, FRONT_LENGTH, RECORD_HEADER_LENGTH, USB_HEADER_LENGTH,
+};
 use trb::Refusal;
 
-// The bytes that link type 220 adds to a record.
-const ADDED_LENGTH: u32 = 16;
-
 // The first 16 bytes of the record that `rest` starts with, with `to` added bytes in place of `from`.
-fn resized_head(rest: &[u8], from: usize, to: usize) -> [u8; 16]
+fn resized_head(rest: &[u8], from: usize, to: usize) -> [u8; RECORD_HEADER_LENGTH]
     requires { ResizableRecord from to rest.now }
     ensures { result ≡ head (le_field 0 4 rest.now) (le_field 4 4 rest.now) (48 + to + delivered_at rest.now) (original_at rest.now + to - from) }
 {
     let original = buffers::le32(rest, 12) as usize;
     let delivered = buffers::le32(rest, 52) as usize;
     capture_file::record_head(
-        buffers::le32(rest, 0),
-        buffers::le32(rest, 4),
-        (48 + to + delivered) as u32,
+        capture_tests::time_at(rest),
+        (USB_HEADER_LENGTH + to + delivered) as u32,
         (original + to - from) as u32,
     )
 }
@@ -35,10 +34,14 @@ fn write_front(rest: &[u8], from: usize, to: usize, dst: &mut [u8], out: usize)
     ensures { dst.new ≡ patch dst.old out (resized_front from to rest.now) }
 {
     let cells = resized_head(rest, from, to);
-    let zeros = [0u8; 16];
+    let zeros = [0u8; ADDED_LENGTH];
     buffers::copy_into(dst, out, &cells);
-    buffers::copy_into(dst, out + 16, &rest[16..64]);
-    buffers::copy_into(dst, out + 64, &zeros[..to]);
+    buffers::copy_into(
+        dst,
+        out + RECORD_HEADER_LENGTH,
+        &rest[RECORD_HEADER_LENGTH..FRONT_LENGTH],
+    );
+    buffers::copy_into(dst, out + FRONT_LENGTH, &zeros[..to]);
 }
 
 // Writes that record, and returns its size.
@@ -47,11 +50,11 @@ fn write_record(rest: &[u8], from: usize, to: usize, dst: &mut [u8], out: usize)
     ensures { (result ≡ 64 + to + delivered_at rest.now) × (dst.new ≡ patch dst.old out (layout (resized to (record_at from rest.now)))) }
 {
     let delivered = buffers::le32(rest, 52) as usize;
-    let start = 64 + from;
+    let start = FRONT_LENGTH + from;
     let end = start + delivered;
     write_front(rest, from, to, dst, out);
-    buffers::copy_into(dst, out + (64 + to), &rest[start..end]);
-    64 + to + delivered
+    buffers::copy_into(dst, out + (FRONT_LENGTH + to), &rest[start..end]);
+    FRONT_LENGTH + to + delivered
 }
 
 // Writes the records behind the file header, each with `to` added bytes in place of `from`.
@@ -60,7 +63,7 @@ fn write_records(records: &[u8], from: usize, to: usize, dst: &mut [u8])
     ensures { dst.new ≡ patch dst.old 24 (resized_bytes from to records.now) }
 {
     let mut rest = records;
-    let mut out = 24;
+    let mut out = FILE_HEADER_LENGTH;
     // A record says its own length: what is left is cut where it ends.
     while !rest.is_empty() {
         out += write_record(rest, from, to, dst, out);
@@ -94,7 +97,7 @@ fn write_file(src: &[u8], dst: &mut [u8])
     );
     buffers::copy_into(dst, 0, &cells);
     write_records(
-        &src[24..],
+        &src[FILE_HEADER_LENGTH..],
         capture_tests::extra_of(link),
         capture_tests::extra_of(other),
         dst,
@@ -106,7 +109,7 @@ fn resized_length(length: usize, records: usize, link: u32) -> usize
     requires { (length < 2 ^ 63) × (64 * records ≤ length) × (known_link link ≡ true) }
     ensures { result + extra_of link * records ≡ length + extra_of (other_link link) * records }
 {
-    let added = 16 * records;
+    let added = ADDED_LENGTH * records;
     if link == capture_file::LINK_SHORT {
         length + added
     } else {
@@ -118,7 +121,7 @@ fn resized_length(length: usize, records: usize, link: u32) -> usize
 pub fn converted_length(src: &[u8]) -> Result<usize, Refusal>
     ensures { Measures src.now result }
 {
-    let survey = capture_survey::survey_file(src, ADDED_LENGTH).ok_or(Refusal::NotACapture)?;
+    let survey = capture_survey::survey_file(src, ADDED_LENGTH as u32).ok_or(Refusal::NotACapture)?;
     trb::ask(survey.convertible, Refusal::NotConvertible)?;
     Ok(resized_length(src.len(), survey.records, buffers::le32(src, 20)))
 }

@@ -20,6 +20,25 @@ pub const LINK_SHORT: u32 = 189;
 
 pub const LINK_LONG: u32 = 220;
 
+// The length of a file's header; of a record's, in front of its usbmon header; of the usbmon header of link type 189; of these last two together; and
+// of what link type 220 adds.
+pub const FILE_HEADER_LENGTH: usize = 24;
+
+pub const RECORD_HEADER_LENGTH: usize = 16;
+
+pub const USB_HEADER_LENGTH: usize = 48;
+
+pub const FRONT_LENGTH: usize = 64;
+
+pub const ADDED_LENGTH: usize = 16;
+
+// The time of a record.
+#[derive(Clone, Copy, PartialEq, PartialOrd)]
+pub struct CaptureTime {
+    pub seconds: u32,
+    pub microseconds: u32,
+}
+
 // The length of the file made, 0 where there is none.
 pub fn answer_length(answer: Result<usize, Refusal>) -> usize
     ensures { result ≡ capture_length answer }
@@ -37,10 +56,10 @@ pub struct Survey {
 }
 
 // The bytes of a file header.
-pub fn file_head(zone: u32, accuracy: u32, snap: u32, link: u32) -> [u8; 24]
+pub fn file_head(zone: u32, accuracy: u32, snap: u32, link: u32) -> [u8; FILE_HEADER_LENGTH]
     ensures { result ≡ file_head zone accuracy snap link }
 {
-    let mut cells = [0; 24];
+    let mut cells = [0; FILE_HEADER_LENGTH];
     cells[0..4].copy_from_slice(&MAGIC.to_le_bytes());
     cells[4..6].copy_from_slice(&MAJOR_VERSION.to_le_bytes());
     cells[6..8].copy_from_slice(&MINOR_VERSION.to_le_bytes());
@@ -52,12 +71,12 @@ pub fn file_head(zone: u32, accuracy: u32, snap: u32, link: u32) -> [u8; 24]
 }
 
 // The 16 bytes of a record in front of its usbmon header.
-pub fn record_head(seconds: u32, microseconds: u32, captured: u32, original: u32) -> [u8; 16]
-    ensures { result ≡ head seconds microseconds captured original }
+pub fn record_head(time: CaptureTime, captured: u32, original: u32) -> [u8; RECORD_HEADER_LENGTH]
+    ensures { result ≡ head time.seconds time.microseconds captured original }
 {
-    let mut cells = [0; 16];
-    cells[0..4].copy_from_slice(&seconds.to_le_bytes());
-    cells[4..8].copy_from_slice(&microseconds.to_le_bytes());
+    let mut cells = [0; RECORD_HEADER_LENGTH];
+    cells[0..4].copy_from_slice(&time.seconds.to_le_bytes());
+    cells[4..8].copy_from_slice(&time.microseconds.to_le_bytes());
     cells[8..12].copy_from_slice(&captured.to_le_bytes());
     cells[12..16].copy_from_slice(&original.to_le_bytes());
     cells

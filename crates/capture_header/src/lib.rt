@@ -5,6 +5,7 @@ ghost use Rattle.std.specs.Prelude.{◌≡◌, ◌≤◌, length};
 ghost use Rattle.capture_record.specs.Headers.{header_in};
 ghost use Rattle.capture_header.specs.Made.{rotated_left, status_named, error_named, request_named, submission_named, control_named, in_named, pipe_named, event_named, count_named, made_again, same_header};
 
+use capture_file::CaptureTime;
 use capture_record::{CaptureEvent, InPipe, TransferError, UsbDevice, UsbHeader, UsbSetup};
 use trb::{EndpointId, InTrbProcessingStatus, UsbRequest};
 
@@ -155,20 +156,14 @@ fn count_named(header: UsbHeader) -> u32
 
 // The header that the writer makes of that event.
 #[tactic(auto, unfolding(crate::specs::Made::made_again))]
-pub fn made_again(seconds: u32, microseconds: u32, header: UsbHeader) -> UsbHeader
-    ensures { result ≡ made_again seconds microseconds header }
+pub fn made_again(time: CaptureTime, header: UsbHeader) -> UsbHeader
+    ensures { result ≡ made_again time.seconds time.microseconds header }
 {
     let device = UsbDevice {
         bus_number: header.bus_number,
         device_address: header.device_address,
     };
-    event_header::header_of(
-        device,
-        seconds,
-        microseconds,
-        event_named(header),
-        count_named(header),
-    )
+    event_header::header_of(device, time, event_named(header), count_named(header))
 }
 
 // ---- The test

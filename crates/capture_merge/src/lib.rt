@@ -8,6 +8,7 @@ ghost use Rattle.capture_file.specs.Reading.{captured_at, Records};
 ghost use Rattle.capture_file.specs.Files.{whole_file};
 ghost use Rattle.capture_merge.specs.Merging.{second_next, merged_bytes, no_growth, merged_file_bytes, Measures, Merges};
 
+use capture_file::FILE_HEADER_LENGTH;
 use trb::Refusal;
 
 // No length grows by merging, so the file check asks nothing of it.
@@ -21,12 +22,7 @@ fn second_next(l: &[u8], m: &[u8]) -> bool
 {
     !m.is_empty()
         && (l.is_empty()
-            || capture_tests::is_before(
-                buffers::le32(m, 0),
-                buffers::le32(m, 4),
-                buffers::le32(l, 0),
-                buffers::le32(l, 4),
-            ))
+            || capture_tests::is_before(capture_tests::time_at(m), capture_tests::time_at(l)))
 }
 
 // Copies the record that `rest` starts with to index `out`, and returns its size.
@@ -49,7 +45,7 @@ fn merge_records(a: &[u8], b: &[u8], extra: usize, dst: &mut [u8])
     let mut at = 0;
     let mut bt = 0;
     while at + bt < total {
-        let out = 24 + (at + bt);
+        let out = FILE_HEADER_LENGTH + (at + bt);
         if second_next(&a[at..], &b[bt..]) {
             bt += copy_record(&b[bt..], dst, out);
         } else {
@@ -67,7 +63,12 @@ fn write_merged(a: &[u8], b: &[u8], dst: &mut [u8])
     let snap = buffers::le32(a, 16).max(buffers::le32(b, 16));
     let cells = capture_file::file_head(buffers::le32(a, 8), buffers::le32(a, 12), snap, link);
     buffers::copy_into(dst, 0, &cells);
-    merge_records(&a[24..], &b[24..], capture_tests::extra_of(link), dst);
+    merge_records(
+        &a[FILE_HEADER_LENGTH..],
+        &b[FILE_HEADER_LENGTH..],
+        capture_tests::extra_of(link),
+        dst,
+    );
 }
 
 // The length of two captures made one, or why they cannot be: 17, 19, 20. One pass over each.
@@ -82,7 +83,7 @@ pub fn merged_length(a: &[u8], b: &[u8]) -> Result<usize, Refusal>
     )?;
     trb::ask(first.ordered, Refusal::TimesGoBackwards)?;
     trb::ask(second.ordered, Refusal::TimesGoBackwards)?;
-    Ok(a.len() + (b.len() - 24))
+    Ok(a.len() + (b.len() - FILE_HEADER_LENGTH))
 }
 
 // Makes two captures one, ordered by time: 17, 19, 20, then 14 where the result does not fit the output buffer. It is as it was

@@ -1,7 +1,5 @@
 -- Captures from numbers and lent bytes: what the numbers of an exported call say. Assumes nothing.
 use Rattle.std.specs.Prelude.{ℕ, Bool, cond, eqb}
-use Rattle.trb.specs.declared.InTrbProcessingStatus.{InTrbProcessingStatus}
-use Rattle.trb.specs.declared.InTrbProcessingStatus.TheVariants as device
 use Rattle.trb.specs.declared.UsbRequest.{UsbRequest}
 use Rattle.capture_record.specs.declared.InPipe.{InPipe}
 use Rattle.capture_record.specs.declared.TransferError.{TransferError}
@@ -24,10 +22,7 @@ device_of bus address = record { bus_number = bus; device_address = address }
 abbrev pub pipe_of : ℕ → Bool → InPipe
 pipe_of id interrupt = record { endpoint_id = record { 0 = id }; interrupt = interrupt }
 
--- as a call script numbers them; any other number is a transaction error
-abbrev pub status_of : ℕ → InTrbProcessingStatus
-status_of n = cond (eqb n 0) device.Success (cond (eqb n 1) device.Stall (cond (eqb n 3) device.Disconnect device.TransactionError))
-
+-- as `status_of` of answer_numbers has it
 abbrev pub error_of : ℕ → TransferError
 error_of n = cond (eqb n 1) failed.Stall (cond (eqb n 3) failed.Disconnect failed.TransactionError)
 

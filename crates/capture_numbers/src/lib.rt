@@ -8,12 +8,13 @@ ghost use Rattle.capture_convert.specs.Converting.{length_answer, convert_questi
 ghost use Rattle.capture_merge.specs.Merging as merging;
 ghost use Rattle.capture_writer.specs.Writing.{in_numbers, call_of, Writes, WritesHead};
 ghost use Rattle.capture_reader.specs.Reading.{ReadsCapture, nothing_read, read_at};
-ghost use Rattle.capture_numbers.specs.Captured.{written_by, device_of, pipe_of, status_of, error_of, count_by, record_by};
+ghost use Rattle.capture_numbers.specs.Captured.{written_by, device_of, pipe_of, error_of, count_by, record_by};
 
 use answer_numbers::Answered;
+use capture_file::CaptureTime;
 use capture_record::{CaptureEvent, InPipe, TransferError, UsbDevice};
 use capture_writer::NotWritten;
-use trb::{EndpointId, InTrbProcessingStatus};
+use trb::EndpointId;
 
 // ---- Files
 
@@ -50,7 +51,7 @@ pub fn merge(first: &[u8], second: &[u8], output: &mut [u8]) -> u8
 // 02, R-2: the number of the reader's question, where the input is no file that the writer can make.
 const NOT_WRITTEN: u32 = 22;
 
-// What the writer answers.
+// What the writer answers. No `answer_numbers::counted`: the writer's 24 is the number of no `Refusal`.
 fn answered(written: Result<usize, NotWritten>) -> Answered
     ensures { written_by result ≡ in_numbers written }
 {
@@ -63,7 +64,7 @@ fn answered(written: Result<usize, NotWritten>) -> Answered
     }
 }
 
-// The record of an event of this device at this time.
+// The record of an event of this device at this time. Plain numbers, since C hands them over.
 pub fn write_event(
     output: &mut [u8],
     bus_number: u16,
@@ -81,26 +82,16 @@ pub fn write_event(
             bus_number,
             device_address,
         },
-        seconds,
-        microseconds,
+        CaptureTime {
+            seconds,
+            microseconds,
+        },
         event,
         payload,
     ))
 }
 
-// 1 Stall, 3 Disconnect, 0 Success; 2 and any other number TransactionError.
-pub fn in_status(number: u8) -> InTrbProcessingStatus
-    ensures { result ≡ status_of number }
-{
-    match number {
-        0 => InTrbProcessingStatus::Success,
-        1 => InTrbProcessingStatus::Stall,
-        3 => InTrbProcessingStatus::Disconnect,
-        _ => InTrbProcessingStatus::TransactionError,
-    }
-}
-
-// Numbered as `in_status` has it.
+// Numbered as `answer_numbers::status_of` has it.
 pub fn transfer_error(number: u8) -> TransferError
     ensures { result ≡ error_of number }
 {
@@ -141,8 +132,8 @@ pub fn read_capture(input: &[u8]) -> Answered
     }
 }
 
-// A number with the values beside it, since C reads it. What a record gives: 0 or 22; its times; its header's fields, a status below 0 standing as 2^32 less its amount; where in the file its payload stands and how
-// long it is; where the next record starts.
+// What a record gives: 0 or 22; its times; its header's fields, a status below 0 standing as 2^32 less its amount; where in the file its
+// payload stands and how long it is; where the next record starts. A number with the values beside it, since C reads it.
 #[repr(C)]
 #[derive(Clone, Copy)]
 pub struct RecordRead {
@@ -214,8 +205,8 @@ pub fn read_record(input: &[u8], at: usize) -> RecordRead
     let setup = header.setup;
     RecordRead {
         number: 0,
-        seconds: read.seconds,
-        microseconds: read.microseconds,
+        seconds: read.time.seconds,
+        microseconds: read.time.microseconds,
         id: header.id,
         event_type: header.event_type,
         transfer_type: header.transfer_type,

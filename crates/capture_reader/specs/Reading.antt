@@ -97,8 +97,8 @@ abbrev pub in_numbers : Option CapturedRecord → NumberedRecord
 in_numbers None = nothing_read
 in_numbers (Some r) = record {
   number = 0;
-  seconds = r.seconds;
-  microseconds = r.microseconds;
+  seconds = r.time.seconds;
+  microseconds = r.time.microseconds;
   header = r.header;
   payload_start = r.payload_start;
   payload_length = r.payload_length;

@@ -8,14 +8,14 @@ ghost use Rattle.capture_record.specs.Events.{snap_length};
 ghost use Rattle.capture_header.specs.Made.{made};
 ghost use Rattle.capture_reader.specs.Reading.{made_head, count_of, in_count, ReadsCapture, made_record, in_numbers, read_at};
 
+use capture_file::{CaptureTime, FILE_HEADER_LENGTH, FRONT_LENGTH, RECORD_HEADER_LENGTH};
 use capture_record::UsbHeader;
 
-// What the record at a position gives: its times and header; where in the file its payload stands, and how long it is; where the
+// What the record at a position gives: its time and header; where in the file its payload stands, and how long it is; where the
 // next record starts.
 #[derive(Clone, Copy)]
 pub struct CapturedRecord {
-    pub seconds: u32,
-    pub microseconds: u32,
+    pub time: CaptureTime,
     pub header: UsbHeader,
     pub payload_start: usize,
     pub payload_length: usize,
@@ -30,17 +30,13 @@ fn is_made(rest: &[u8]) -> bool
     requires long { 64 ≤ length rest.now }
     ensures { result ≡ made (record_at 0 rest.now) }
 {
-    let seconds = buffers::le32(rest, 0);
-    let microseconds = buffers::le32(rest, 4);
+    let time = capture_tests::time_at(rest);
     let captured = buffers::le32(rest, 8);
     let original = buffers::le32(rest, 12);
-    let header = capture_header::header_in(&rest[16..64]);
-    microseconds <= capture_record::MAX_MICROSECONDS
+    let header = capture_header::header_in(&rest[RECORD_HEADER_LENGTH..FRONT_LENGTH]);
+    time.microseconds <= capture_record::MAX_MICROSECONDS
         && original == captured
-        && capture_header::same_header(
-            header,
-            capture_header::made_again(seconds, microseconds, header),
-        )
+        && capture_header::same_header(header, capture_header::made_again(time, header))
 }
 
 // Do the bytes start with a record that the writer makes?
@@ -83,7 +79,7 @@ fn is_head(input: &[u8]) -> bool
         capture_record::SNAP_LENGTH,
         capture_file::LINK_SHORT,
     );
-    24 <= input.len()
+    FILE_HEADER_LENGTH <= input.len()
         && buffers::le64(input, 0) == buffers::le64(&cells, 0)
         && buffers::le64(input, 8) == buffers::le64(&cells, 8)
         && buffers::le64(input, 16) == buffers::le64(&cells, 16)
@@ -96,7 +92,7 @@ pub fn read_capture(input: &[u8]) -> Option<usize>
     if !is_head(input) {
         return None;
     }
-    count_records(&input[24..])
+    count_records(&input[FILE_HEADER_LENGTH..])
 }
 
 // ---- The record at a position
@@ -110,11 +106,10 @@ pub fn read_record(input: &[u8], at: usize) -> Option<CapturedRecord>
         return None;
     }
     let payload_length = buffers::le32(rest, 52) as usize;
-    let payload_start = at + 64;
+    let payload_start = at + FRONT_LENGTH;
     Some(CapturedRecord {
-        seconds: buffers::le32(rest, 0),
-        microseconds: buffers::le32(rest, 4),
-        header: capture_header::header_in(&rest[16..64]),
+        time: capture_tests::time_at(rest),
+        header: capture_header::header_in(&rest[RECORD_HEADER_LENGTH..FRONT_LENGTH]),
         payload_start,
         payload_length,
         next: payload_start + payload_length,

@@ -70,7 +70,8 @@ pub struct UsbSetup {
     pub length: u16,
 }
 
-// The 48-byte usbmon header; ports `UsbPacketLinktypeHeader`. A status below 0 stands as 2^32 less its amount.
+// The 48-byte usbmon header; ports `UsbPacketLinktypeHeader`. A status below 0 stands as 2^32 less its amount. Its seconds have 64 bits, so that the two
+// times are no `CaptureTime`.
 #[derive(Clone, Copy, PartialEq)]
 pub struct UsbHeader {
     pub id: u64,

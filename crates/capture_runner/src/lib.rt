@@ -3,15 +3,14 @@
 #![tactic(auto)]
 
 ghost use Rattle.std.specs.Prelude.{◌≡◌, ◌≤◌, length};
-ghost use Rattle.trb.specs.Limits.{min_row_log};
-ghost use Rattle.script_lines.specs.Steps.{Stepped};
+ghost use Rattle.session_calls.specs.Buffers.{SameBuffers};
 ghost use Rattle.state_text.specs.Widths.{max_answer};
 
 use call_answer::Ran;
 use call_script::Call;
 use captured_calls::Setting;
-use script_lines::{Found, Step};
-use session::Session;
+use script_lines::{Found, Input};
+use session::{LentBuffers, Session};
 use std::io;
 use std::io::{Read, Write};
 use text::Text;
@@ -47,32 +46,32 @@ fn high_is_longer(session: Session, call: Call) -> bool {
     }
 }
 
-// Makes a call. Of the two regions, which together have no more bytes than `longer`, the longer one lies there; a call that moves them fills both anew.
+// Makes a call. Of the two regions, which together have no more bytes than the low buffer, the longer one lies there, whichever it is; a call that moves them
+// fills both anew.
 fn run_call(
     text: &mut [u8],
     session: Session,
     call: Call,
-    log: &mut [u8],
-    collect: &mut [u8],
-    data: &[u8],
-    longer: &mut [u8],
-    shorter: &mut [u8],
+    buffers: &mut LentBuffers<'_>,
 ) -> Ran<Session>
-    requires max_answer_in_bounds { max_answer ≤ length text.old }
-    requires log_len_bound { length log.old ≤ min_row_log }
+    requires { max_answer ≤ length text.old }
+    ensures { SameBuffers buffers.old buffers.new }
 {
     let mut text = Text {
         bytes: text,
         end: 0,
     };
     if high_is_longer(session, call) {
-        return session_calls::run_call(
-            &mut text, session, call, log, collect, data, shorter, longer,
-        );
+        let mut swapped = LentBuffers {
+            log: buffers.log,
+            collect: buffers.collect,
+            data: buffers.data,
+            low: buffers.high,
+            high: buffers.low,
+        };
+        return session_calls::run_call(&mut text, session, call, &mut swapped);
     }
-    session_calls::run_call(
-        &mut text, session, call, log, collect, data, longer, shorter,
-    )
+    session_calls::run_call(&mut text, session, call, buffers)
 }
 
 // Takes one line, which comes without its line feed, and writes the records of its call. A bad line has none, and ends the run: there
@@ -83,28 +82,19 @@ fn run_line<W: Write>(
     text: &mut [u8],
     progress: Progress,
     line: &[u8],
-    log: &mut [u8],
-    collect: &mut [u8],
-    data: &[u8],
-    longer: &mut [u8],
-    shorter: &mut [u8],
+    buffers: &mut LentBuffers<'_>,
 ) -> io::Result<Option<Progress>>
-    requires max_answer_in_bounds { max_answer ≤ length text.old }
-    requires log_len_bound { length log.old ≤ min_row_log }
+    requires { max_answer ≤ length text.old }
+    ensures { SameBuffers buffers.old buffers.new }
 {
     let Some(call) = call_script::read_call(line) else {
         return Ok(None);
     };
-    let ran = run_call(
-        text,
-        progress.session,
-        call,
-        log,
-        collect,
-        data,
-        longer,
-        shorter,
-    );
+    let ran = run_call(text, progress.session, call, buffers);
+    // Slices that a lent struct holds, passed on to be read, are variables first.
+    let log = &mut *buffers.log;
+    let collect = &mut *buffers.collect;
+    let data = buffers.data;
     let end = call_captures::put_call(
         output,
         progress.setting,
@@ -126,72 +116,33 @@ fn run_line<W: Write>(
     }))
 }
 
-// What a step found, as in `raw_trbs`: a closure for what is done with a line would have to ask again what `run_line` asks.
-fn run_step<W: Write>(
-    writer: &mut W,
-    output: &mut [u8],
-    text: &mut [u8],
-    progress: Progress,
-    input: &[u8],
-    step: Step,
-    log: &mut [u8],
-    collect: &mut [u8],
-    data: &[u8],
-    longer: &mut [u8],
-    shorter: &mut [u8],
-) -> io::Result<Option<Progress>>
-    requires max_answer_in_bounds { max_answer ≤ length text.old }
-    requires log_len_bound { length log.old ≤ min_row_log }
-    requires stepped { Stepped (length input.now) step }
-{
-    match step.found {
-        Found::Line => run_line(
-            writer,
-            output,
-            text,
-            progress,
-            &input[step.from..step.end],
-            log,
-            collect,
-            data,
-            longer,
-            shorter,
-        ),
-        Found::Piece => Ok(Some(progress)),
-        Found::End | Found::Unfinished => Ok(None),
-    }
-}
-
-// Takes the input to its end, or to a bad line.
+// Takes the input to its end, or to a bad line. The loop is as in `raw_trbs`: a closure for what is done with a line would have to ask
+// again what `run_line` asks.
 fn run_input<R: Read, W: Write>(
     reader: &mut R,
     writer: &mut W,
     output: &mut [u8],
     text: &mut [u8],
-    input: &mut [u8],
-    log: &mut [u8],
-    collect: &mut [u8],
-    data: &[u8],
-    longer: &mut [u8],
-    shorter: &mut [u8],
+    input: &mut Input<'_>,
+    buffers: &mut LentBuffers<'_>,
 ) -> io::Result<()>
-    requires max_answer_in_bounds { max_answer ≤ length text.old }
-    requires log_len_bound { length log.old ≤ min_row_log }
+    requires { max_answer ≤ length text.old }
+    ensures input { input.new.bytes.ghost_name ≡ input.old.bytes.ghost_name }
+    ensures same { SameBuffers buffers.old buffers.new }
 {
     let mut progress = started();
-    let mut from = 0;
-    let mut filled = 0;
     for _ in 0..u64::MAX {
-        let step = script_lines::next_line(reader, input, from, filled)?;
-        let Some(next) = run_step(
-            writer, output, text, progress, input, step, log, collect, data, longer, shorter,
-        )?
-        else {
-            return Ok(());
-        };
-        progress = next;
-        from = step.next;
-        filled = step.filled;
+        match script_lines::next_line(reader, input)? {
+            Found::Line(from, end) => {
+                let line = &input.bytes[from..end];
+                let Some(next) = run_line(writer, output, text, progress, line, buffers)? else {
+                    return Ok(());
+                };
+                progress = next;
+            }
+            Found::Piece => (),
+            Found::End | Found::Unfinished => return Ok(()),
+        }
     }
     Ok(())
 }
@@ -220,7 +171,8 @@ fn output_buffer() -> [u8; OUTPUT] {
 
 // Writes the capture of the call script that the reader gives.
 pub fn run<R: Read, W: Write>(reader: &mut R, writer: &mut W) -> io::Result<()> {
-    let mut input = script_lines::input_buffer();
+    let mut input_bytes = script_lines::input_buffer();
+    let mut input = Input::new(&mut input_bytes);
     let mut output = output_buffer();
     let mut text = text_buffer();
     let mut log = call_runner::log_buffer();
@@ -232,16 +184,19 @@ pub fn run<R: Read, W: Write>(reader: &mut R, writer: &mut W) -> io::Result<()> 
     script_bytes::fill_guest(&mut longer, session::FIRST_BASE);
     let header = capture_writer::write_file_header(&mut output).unwrap_or(0);
     write_out(writer, &output, header)?;
+    let mut buffers = LentBuffers {
+        log: &mut log,
+        collect: &mut collect,
+        data: &data,
+        low: &mut longer,
+        high: &mut shorter,
+    };
     run_input(
         reader,
         writer,
         &mut output,
         &mut text,
         &mut input,
-        &mut log,
-        &mut collect,
-        &data,
-        &mut longer,
-        &mut shorter,
+        &mut buffers,
     )
 }

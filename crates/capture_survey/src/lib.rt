@@ -6,20 +6,7 @@ ghost use Rattle.buffers.specs.LittleEndian.{le_field};
 ghost use Rattle.capture_file.specs.Times.{before};
 ghost use Rattle.capture_file.specs.Survey.{survey_of, file_survey};
 
-use capture_file::Survey;
-
-// Is the time of the record that the bytes start with not before this one?
-fn follows(rest: &[u8], seconds: u32, microseconds: u32) -> bool
-    requires { 8 ≤ length rest.now }
-    ensures { result ≡ not (before (le_field 0 4 rest.now) (le_field 4 4 rest.now) seconds microseconds) }
-{
-    !capture_tests::is_before(
-        buffers::le32(rest, 0),
-        buffers::le32(rest, 4),
-        seconds,
-        microseconds,
-    )
-}
+use capture_file::{CaptureTime, Survey};
 
 // One pass over the records behind a file header.
 fn survey_records(records: &[u8], extra: usize, most: u32) -> Option<Survey>
@@ -30,17 +17,19 @@ fn survey_records(records: &[u8], extra: usize, most: u32) -> Option<Survey>
     let mut count = 0;
     let mut convertible = true;
     let mut ordered = true;
-    let mut seconds = 0;
-    let mut microseconds = 0;
+    let mut last = CaptureTime {
+        seconds: 0,
+        microseconds: 0,
+    };
     // A record says its own length: what is left is cut where it ends.
     while !rest.is_empty() {
         if !capture_tests::whole_record(rest, extra, most) {
             return None;
         }
         convertible &= capture_tests::is_convertible(rest, extra);
-        ordered &= follows(rest, seconds, microseconds);
-        seconds = buffers::le32(rest, 0);
-        microseconds = buffers::le32(rest, 4);
+        let time = capture_tests::time_at(rest);
+        ordered &= !capture_tests::is_before(time, last);
+        last = time;
         count += 1;
         rest = &rest[capture_tests::record_size(rest)..];
     }
@@ -61,7 +50,7 @@ pub fn survey_file(src: &[u8], growth: u32) -> Option<Survey>
     }
     let link = buffers::le32(src, 20);
     survey_records(
-        &src[24..],
+        &src[capture_file::FILE_HEADER_LENGTH..],
         capture_tests::extra_of(link),
         capture_tests::most_of(growth, link),
     )

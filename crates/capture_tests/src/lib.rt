@@ -5,8 +5,10 @@ ghost use Rattle.std.specs.Prelude.{◌≡◌, ◌+◌, ◌≤◌, eqb, length};
 ghost use Rattle.std.specs.Bool.{OnTrue};
 ghost use Rattle.capture_file.specs.Reading.{captured_at, record_at, whole_record, every};
 ghost use Rattle.capture_file.specs.Files.{known_link, extra_of, most_of, whole_head};
-ghost use Rattle.capture_file.specs.Times.{before};
+ghost use Rattle.capture_file.specs.Times.{time_at, before};
 ghost use Rattle.capture_file.specs.Survey.{convertible};
+
+use capture_file::CaptureTime;
 
 // Do the bytes start with a whole record? `extra` is the number of bytes that its usbmon header has beyond 48.
 #[tactic(auto, unfolding(capture_file::specs::Reading::whole_record, capture_file::specs::Reading::captured_at, capture_file::specs::Reading::original_at, capture_file::specs::Reading::delivered_at))]
@@ -15,14 +17,14 @@ pub fn whole_record(rest: &[u8], extra: usize, most: u32) -> bool
     ensures answer { result ≡ whole_record extra most rest.now }
     ensures within { OnTrue result ((64 + extra ≤ length rest.now) × (16 + captured_at rest.now ≤ length rest.now)) }
 {
-    if rest.len() < 64 + extra {
+    if rest.len() < capture_file::FRONT_LENGTH + extra {
         return false;
     }
     let captured = buffers::le32(rest, 8);
     let original = buffers::le32(rest, 12);
     let delivered = buffers::le32(rest, 52);
-    captured as usize == 48 + extra + delivered as usize
-        && 16 + captured as usize <= rest.len()
+    captured as usize == capture_file::USB_HEADER_LENGTH + extra + delivered as usize
+        && capture_file::RECORD_HEADER_LENGTH + captured as usize <= rest.len()
         && captured <= original
         && original <= most
 }
@@ -33,7 +35,7 @@ pub fn record_size(rest: &[u8]) -> usize
     requires { 12 ≤ length rest.now }
     ensures { result ≡ 16 + captured_at rest.now }
 {
-    16 + buffers::le32(rest, 8) as usize
+    capture_file::RECORD_HEADER_LENGTH + buffers::le32(rest, 8) as usize
 }
 
 // Are the bytes all zero?
@@ -48,15 +50,26 @@ pub fn is_convertible(rest: &[u8], extra: usize) -> bool
     requires { (64 + extra ≤ length rest.now) × (extra ≤ 16) }
     ensures { result ≡ convertible (record_at extra rest.now) }
 {
-    rest[25] != 0 && all_zero(&rest[64..64 + extra])
+    rest[25] != 0 && all_zero(&rest[capture_file::FRONT_LENGTH..capture_file::FRONT_LENGTH + extra])
 }
 
-// Is the first time, in seconds and microseconds, before the second?
-#[tactic(auto, unfolding(capture_file::specs::Times::before))]
-pub fn is_before(s: u32, m: u32, t: u32, n: u32) -> bool
-    ensures { result ≡ before s m t n }
+// The time of the record that the bytes start with.
+pub fn time_at(rest: &[u8]) -> CaptureTime
+    requires { 8 ≤ length rest.now }
+    ensures { result ≡ time_at rest.now }
 {
-    (s, m) < (t, n)
+    CaptureTime {
+        seconds: buffers::le32(rest, 0),
+        microseconds: buffers::le32(rest, 4),
+    }
+}
+
+// Is the first time before the second?
+#[tactic(auto, unfolding(capture_file::specs::Times::before))]
+pub fn is_before(first: CaptureTime, second: CaptureTime) -> bool
+    ensures { result ≡ before first.seconds first.microseconds second.seconds second.microseconds }
+{
+    first < second
 }
 
 #[tactic(auto, unfolding(capture_file::specs::Files::known_link))]
@@ -72,7 +85,7 @@ pub fn extra_of(link: u32) -> usize
     ensures { (result ≡ extra_of link) × (result ≤ 16) }
 {
     if link == capture_file::LINK_LONG {
-        16
+        capture_file::ADDED_LENGTH
     } else {
         0
     }
@@ -96,7 +109,7 @@ pub fn whole_head(src: &[u8]) -> bool
     ensures answer { result ≡ whole_head src.now }
     ensures within { OnTrue result (24 ≤ length src.now) }
 {
-    24 <= src.len()
+    capture_file::FILE_HEADER_LENGTH <= src.len()
         && buffers::le32(src, 0) == capture_file::MAGIC
         && buffers::le16(src, 4) == capture_file::MAJOR_VERSION
         && buffers::le16(src, 6) == capture_file::MINOR_VERSION

@@ -6,12 +6,10 @@ ghost use Rattle.buffers.specs.Patch.{patch};
 ghost use Rattle.capture_record.specs.Events.{snap_length, carries};
 ghost use Rattle.capture_writer.specs.Writing.{in_numbers, call_of, record_bytes, WritesHead, Writes};
 
+use capture_file::{
+    CaptureTime, FILE_HEADER_LENGTH, FRONT_LENGTH, RECORD_HEADER_LENGTH, USB_HEADER_LENGTH,
+};
 use capture_record::{CaptureEvent, UsbDevice, UsbHeader};
-
-// The bytes of a usbmon header, and those with the 16 in front of it.
-const HEADER_LENGTH: usize = 48;
-
-const FRONT_LENGTH: usize = 64;
 
 // 02, R-2: why nothing is written, by the number of the question that said no. The buffer cannot take the whole header or record;
 // the microseconds or the captured length are out of range.
@@ -25,7 +23,7 @@ pub enum NotWritten {
 pub fn write_file_header(output: &mut [u8]) -> Result<usize, NotWritten>
     ensures { WritesHead output.old (in_numbers result) output.new }
 {
-    if output.len() < 24 {
+    if output.len() < FILE_HEADER_LENGTH {
         return Err(NotWritten::OutputTooShort);
     }
     let cells = capture_file::file_head(
@@ -35,7 +33,7 @@ pub fn write_file_header(output: &mut [u8]) -> Result<usize, NotWritten>
         capture_file::LINK_SHORT,
     );
     buffers::copy_into(output, 0, &cells);
-    Ok(24)
+    Ok(FILE_HEADER_LENGTH)
 }
 
 // How many of `count` bytes of payload a record of the event carries.
@@ -50,15 +48,15 @@ fn delivered_count(event: CaptureEvent, count: usize) -> usize
 }
 
 // Lays a record over the buffer's start.
-fn put_record(output: &mut [u8], seconds: u32, microseconds: u32, header: UsbHeader, payload: &[u8])
+fn put_record(output: &mut [u8], time: CaptureTime, header: UsbHeader, payload: &[u8])
     requires { (64 + length payload.now ≤ length output.old) × (48 + length payload.now ≤ snap_length) }
-    ensures { output.new ≡ patch output.old 0 (record_bytes seconds microseconds header payload.now) }
+    ensures { output.new ≡ patch output.old 0 (record_bytes time.seconds time.microseconds header payload.now) }
 {
-    let captured = (HEADER_LENGTH + payload.len()) as u32;
-    let front = capture_file::record_head(seconds, microseconds, captured, captured);
+    let captured = (USB_HEADER_LENGTH + payload.len()) as u32;
+    let front = capture_file::record_head(time, captured, captured);
     let link = header_bytes::header_bytes(header);
     buffers::copy_into(output, 0, &front);
-    buffers::copy_into(output, 16, &link);
+    buffers::copy_into(output, RECORD_HEADER_LENGTH, &link);
     buffers::copy_into(output, FRONT_LENGTH, payload);
 }
 
@@ -67,16 +65,15 @@ fn put_record(output: &mut [u8], seconds: u32, microseconds: u32, header: UsbHea
 pub fn write_record(
     output: &mut [u8],
     device: UsbDevice,
-    seconds: u32,
-    microseconds: u32,
+    time: CaptureTime,
     event: CaptureEvent,
     payload: &[u8],
 ) -> Result<usize, NotWritten>
-    ensures { Writes (call_of device seconds microseconds event payload.now) output.old (in_numbers result) output.new }
+    ensures { Writes (call_of device time.seconds time.microseconds event payload.now) output.old (in_numbers result) output.new }
 {
     let delivered = delivered_count(event, payload.len());
-    if capture_record::MAX_MICROSECONDS < microseconds
-        || capture_record::SNAP_LENGTH as usize - HEADER_LENGTH < delivered
+    if capture_record::MAX_MICROSECONDS < time.microseconds
+        || capture_record::SNAP_LENGTH as usize - USB_HEADER_LENGTH < delivered
     {
         return Err(NotWritten::OutOfRange);
     }
@@ -84,7 +81,7 @@ pub fn write_record(
         return Err(NotWritten::OutputTooShort);
     }
     let count = (payload.len() % 4294967296) as u32;
-    let header = event_header::header_of(device, seconds, microseconds, event, count);
-    put_record(output, seconds, microseconds, header, &payload[..delivered]);
+    let header = event_header::header_of(device, time, event, count);
+    put_record(output, time, header, &payload[..delivered]);
     Ok(FRONT_LENGTH + delivered)
 }

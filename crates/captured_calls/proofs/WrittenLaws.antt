@@ -20,6 +20,7 @@ use Rattle.capture_record.specs.Calls.{CaptureCall, record_of, captured_by}
 use Rattle.capture_record.specs.Events.{snap_length, max_microseconds}
 use Rattle.capture_writer.specs.Writing.{Written, in_numbers, refused_with, record_questions, answer_of, WritesIf, Writes}
 use Rattle.captured_calls.specs.declared.Capture.{Capture}
+use Rattle.captured_calls.specs.declared.Setting.{Setting}
 use Rattle.captured_calls.specs.Written.{written_one, written_all, Fits, Laid, Lays}
 
 -- ---- It lies in the room
@@ -87,7 +88,7 @@ written_all-append room (c ∷ cs) ds =
 
 pub laid-none : {c : Capture} → Fits c → Laid [] c c
 unfolding written_all
-laid-none {c = c} h = record { end = omega arith; bytes = sym (patch-none c.bytes.now c.end); size = refl; fits = h; same = refl }
+laid-none {c = c} h = record { end = omega arith; bytes = sym (patch-none c.bytes.now c.end); size = refl; fits = h; same = refl; setting = refl }
 
 -- these calls, and then those
 pub laid-append : {c m d : Capture} {cs ds : List CaptureCall} → Laid cs c m → Laid ds m d → Laid (cs ++ ds) c d
@@ -106,6 +107,7 @@ laid-append {c = c} {m = m} {cs = cs} {ds = ds} p q =
       size = q.size ∙ p.size;
       fits = q.fits;
       same = q.same ∙ p.same;
+      setting = q.setting ∙ p.setting;
     }
 
 -- who makes a capture of its buffer finds in the buffer, behind calls of the writer, what the capture has
@@ -163,9 +165,9 @@ module _ (c : Capture) (fits : Fits c) where
       by false b e f = omega (arith, rw e at answered)
 
   pub laid-one : {d : Capture} (call : CaptureCall) (w : Written) (part' : List ℕ) → Writes call part w part'
-      → d.bytes.now ≡ put_mid at (length output - at) output part' → d.end ≡ at + w.length → d.bytes.ghost_name ≡ c.bytes.ghost_name → Laid (call ∷ []) c d
+      → d.bytes.now ≡ put_mid at (length output - at) output part' → d.end ≡ at + w.length → d.bytes.ghost_name ≡ c.bytes.ghost_name → d.setting ≡ c.setting → Laid (call ∷ []) c d
   unfolding written_all
-  laid-one {d} call w part' writes after end same =
+  laid-one {d} call w part' writes after end same setting =
       let room : ℕ = length output - at in
       let one : List ℕ = written_one room call in
       let all : one ++ [] ≡ one = append-nil one in
@@ -174,9 +176,13 @@ module _ (c : Capture) (fits : Fits c) where
       let left : part' ≡ patch part 0 one = written_after part call w part' writes ∙ ap (λ (n : ℕ). patch part 0 (written_one n call)) length_part in
       let laid : d.bytes.now ≡ patch output at one = after ∙ ap (put_mid at room output) left ∙ part-patched one in
       let size : length d.bytes.now ≡ length output = ap length laid ∙ length-patch output at one (omega arith) in
-      record { end = omega (arith, ap length all); bytes = laid ∙ ap (patch output at) (sym all); size = size; fits = omega arith; same = same }
+      record { end = omega (arith, ap length all); bytes = laid ∙ ap (patch output at) (sym all); size = size; fits = omega arith; same = same; setting = setting }
 
 -- ---- A loop that makes calls of the writer
+
+-- what calls say hangs on the setting
+pub in-setting : {c d : Capture} {s : Setting} (calls : Setting → List CaptureCall) → c.setting ≡ s → Laid (calls c.setting) c d → Laid (calls s) c d
+in-setting calls e laid = rw (← e) laid
 
 -- of a loop that makes the calls `whole` on the capture c₀, and has come to the capture c: the calls `rest` are left
 pub record Remaining (c₀ : Capture) (whole : List CaptureCall) (c : Capture) (rest : List CaptureCall) : Type 0 where
@@ -188,11 +194,13 @@ pub remaining-all : {c : Capture} (cs : List CaptureCall) → Fits c → Remaini
 remaining-all cs h = record { made = []; laid = laid-none h; all = refl }
 
 module _ {c₀ c : Capture} {whole : List CaptureCall} where
-  pub remaining-less : {d : Capture} {was cs rest : List CaptureCall} → was ≡ cs ++ rest → Remaining c₀ whole c was → Laid cs c d → Remaining c₀ whole d rest
-  remaining-less {cs = cs} {rest = rest} e p q = record {
-    made = p.made ++ cs;
-    laid = laid-append p.laid q;
-    all = p.all ∙ rw e (sym (append_assoc p.made cs rest));
+  -- the calls of a turn, as the setting has them
+  pub remaining-less : {d : Capture} {was rest : List CaptureCall} (turn : Setting → List CaptureCall) → was ≡ turn c₀.setting ++ rest → Remaining c₀ whole c was
+      → Laid (turn c.setting) c d → Remaining c₀ whole d rest
+  remaining-less {rest = rest} turn e p q = record {
+    made = p.made ++ turn c₀.setting;
+    laid = laid-append p.laid (in-setting turn p.laid.setting q);
+    all = p.all ∙ rw e (sym (append_assoc p.made (turn c₀.setting) rest));
   }
 
   pub remaining-none : {rest : List CaptureCall} → rest ≡ [] → Remaining c₀ whole c rest → Laid whole c₀ c

@@ -1,18 +1,14 @@
 -- 02, R-2 of R-7: what a row of TDs in a single call gives to a capture. Assumes nothing.
-use Rattle.std.specs.Prelude.{ℕ, ◌+◌, ◌≡◌, Bool, cond, List, [], ◌∷◌, ◌++◌, Option, Some, None, eqb, length, take, drop}
+use Rattle.std.specs.Prelude.{ℕ, ◌+◌, Bool, cond, List, [], ◌∷◌, ◌++◌, Option, Some, None, eqb, take, drop}
 use Rattle.trb.specs.declared.InTrbProcessingStatus.{InTrbProcessingStatus}
 use Rattle.trb.specs.declared.TdBasedNormalSubmissionState.TheVariants.{AwaitingRealTransfer}
-use Rattle.trb.specs.declared.TransferTrb.{TransferTrb}
 use Rattle.call_log.specs.Records.{request_kind, record_at}
 use Rattle.call_log.specs.declared.Record.{Record}
-use Rattle.in_td.specs.Td.{normals}
 use Rattle.row_walk.specs.Rows.{RowTd, has_normal}
-use Rattle.row_walk.specs.Tds.{first_td}
 use Rattle.capture_record.specs.declared.InPipe.{InPipe}
 use Rattle.capture_record.specs.Calls.{CaptureCall}
 use Rattle.capture_calls.specs.Events.{in_request_event, in_completion_event}
 use Rattle.capture_calls.specs.Captures.{Captured, writer_call}
-use Rattle.captured_calls.specs.declared.TdSpan.{TdSpan}
 use Rattle.captured_calls.specs.Submitted.{records_from}
 
 -- the requests of a log, in their order: 02, R-7: each TD that was started has logged its own, if it has a Normal
@@ -49,8 +45,3 @@ row_captures c p [] qs bytes = []
 row_captures c p (x ∷ xs) qs bytes =
     td_captures c p (has_normal x.trbs) qs x.given.status (take x.given.length bytes)
     ++ row_captures c p xs (requests_behind (has_normal x.trbs) qs) (drop x.given.length bytes)
-
--- the TD that starts at `first` of a row: 01, IN endpoint: a TRB with chain off ends the TD
-pub record Spans (ts : List TransferTrb) (first : ℕ) (r : TdSpan) : Type 0 where
-  pub end : r.end ≡ first + length (first_td (drop first ts))
-  pub count : r.normals ≡ normals (first_td (drop first ts))

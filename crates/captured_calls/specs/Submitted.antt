@@ -13,7 +13,7 @@ use Rattle.captured_calls.specs.declared.Requester.TheVariants.{In, Control}
 use Rattle.captured_calls.specs.declared.Setting.{Setting}
 
 abbrev pub captured_of : Setting → Captured
-captured_of s = record { device = s.device; seconds = s.seconds; microseconds = s.microseconds }
+captured_of s = record { device = s.device; seconds = s.time.seconds; microseconds = s.time.microseconds }
 
 abbrev pub pipe_of : Setting → EndpointId → InPipe
 pipe_of s e = record { endpoint_id = e; interrupt = s.interrupt }

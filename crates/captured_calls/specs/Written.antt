@@ -20,13 +20,15 @@ written_all room (c ∷ cs) = written_one room c ++ written_all (room - length (
 abbrev pub Fits : Capture → Type 0
 Fits c = c.end ≤ length c.bytes.now
 
--- the capture c became c': these calls of the writer were made, and no others, and what they wrote stands behind the records, in the same buffer
+-- the capture c became c': these calls of the writer were made, and no others, and what they wrote stands behind the records, in the same buffer; what
+-- records say is as it was
 pub record Laid (cs : List CaptureCall) (c c' : Capture) : Type 0 where
   pub end : c'.end ≡ c.end + length (written_all (length c.bytes.now - c.end) cs)
   pub bytes : c'.bytes.now ≡ patch c.bytes.now c.end (written_all (length c.bytes.now - c.end) cs)
   pub size : length c'.bytes.now ≡ length c.bytes.now
   pub fits : Fits c'
   pub same : c'.bytes.ghost_name ≡ c.bytes.ghost_name
+  pub setting : c'.setting ≡ c.setting
 
 -- of a function that was lent `output`: it made these calls of the writer, and no others, returned how many bytes they wrote, and left output'
 pub record Lays (cs : List CaptureCall) (output : List ℕ) (r : ℕ) (output' : List ℕ) : Type 0 where

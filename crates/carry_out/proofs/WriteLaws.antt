@@ -1,15 +1,17 @@
 -- Laws of a log's writes: what a write in range tells, what a record leaves of guest memory, and one record after the other. Assumes nothing.
 use Prim.Native.Nat.{ℕ, ◌+◌, ◌≤◌}
-use mathlib.Core.Bool.{Bool, true, false, cond}
+use mathlib.Core.Bool.{Bool, true, false, cond, ◌&&◌}
 use mathlib.Core.Path.{◌≡◌, refl, ap, ◌∙◌}
-use mathlib.Core.List.{List, [], ◌∷◌, ◌++◌}
+use mathlib.Core.List.{List, [], ◌∷◌, ◌++◌, map}
 use native.Mathlib.Omega.{arith}
 use lib.Dec.{leb}
 use lib.ListN.{length, drop, length-take}
 use borrow.Author.Tests.{leb-true}
+use Rattle.std.specs.List.{list_all}
 use Rattle.trb.proofs.TestLaws.{and_left, and_right}
 use Rattle.buffers.proofs.PatchLaws.{length-patch}
 use Rattle.call_log.specs.declared.Record.{Record}
+use Rattle.call_log.specs.Records.{decode}
 use Rattle.guest_memory.specs.declared.Place.{Place}
 use Rattle.guest_memory.specs.declared.Place.TheVariants.{Outside, InLow, InHigh}
 use Rattle.guest_memory.specs.declared.Regions.{Regions}
@@ -29,6 +31,12 @@ module _ (n : ℕ) (regions : Regions) (r : Record) where
   write_in_range-end moves e =
       leb-true (r.start + r.length) n
       (and_left (leb (r.start + r.length) n) (is_inside (place_of regions r.address r.length)) (rw moves at e))
+
+-- of records by their bytes
+pub writes_in_range-cells : (n : ℕ) (regions : Regions) (cells : List (List ℕ))
+    → list_all (λ l. write_in_range n regions (decode l)) cells ≡ writes_in_range n regions (map decode cells)
+writes_in_range-cells n regions [] = refl
+writes_in_range-cells n regions (l ∷ cells) = ap (λ b. write_in_range n regions (decode l) && b) (writes_in_range-cells n regions cells)
 
 module _ (bytes : List ℕ) (m : Memory) (r : Record) where
   -- what holds of the memory, and of the memory with a placed write's bytes laid over either region, holds of it after a record

@@ -33,12 +33,11 @@ fn write_in_range(record: Record, available: usize, regions: Regions) -> bool
 fn writes_in_range(log: &[u8], available: usize, regions: Regions) -> bool
     ensures { result ≡ writes_in_range available regions (records_of log.now) }
 {
-    for index in 0..log.len() / trb::RECORD_LENGTH {
-        if !write_in_range(call_log::read_record(log, index), available, regions) {
-            return false;
-        }
-    }
-    true
+    call_log::records(log).iter().all(|cells| write_in_range(
+        call_log::decoded(cells),
+        available,
+        regions,
+    ))
 }
 
 // Carries out one record, in the region that holds its range.
@@ -69,9 +68,8 @@ fn perform_writes(log: &[u8], data: &[u8], memory: &mut GuestMemory<'_>)
     ensures after { lent memory.new ≡ written «data».now (lent memory.old) (records_of log.now) }
     ensures same { SameRegions memory.old memory.new }
 {
-    for index in 0..log.len() / trb::RECORD_LENGTH {
-        let record = call_log::read_record(log, index);
-        perform_write(record, data, memory);
+    for cells in call_log::records(log) {
+        perform_write(call_log::decoded(cells), data, memory);
     }
 }
 

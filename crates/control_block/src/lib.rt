@@ -4,6 +4,7 @@
 
 ghost use Rattle.std.specs.Prelude.{◌≡◌, ◌<◌};
 ghost use Rattle.trb.specs.Limits.{max_held};
+ghost use Rattle.control_block.specs.Numbers.{release_of, phase_of};
 ghost use Rattle.control_block.specs.Blocks.{no_transfer, at_phase, fresh_block, held_of, stored, advanced};
 ghost use Rattle.control_block.specs.Facts.{facts_of, sound_block, submission_due, awaits_device};
 ghost use Rattle.control_block.specs.Endings.{request_ending, ending_of, result_of, places_freed, phase_behind};
@@ -36,7 +37,7 @@ pub struct ControlBlock {
     pub request: UsbRequest,
     // Bytes of an OUT transfer in the collect buffer.
     pub collected: usize,
-    // Of the places, the first so many are held.
+    // Of the places, the first so many are held. Places and their count, with no heap: a script makes blocks that say any count, and question 2 asks for the bound.
     pub held: usize,
     pub trbs: [TransferTrb; trb::MAX_HELD],
 }
@@ -56,6 +57,31 @@ pub fn held_of(block: &ControlBlock) -> &[TransferTrb]
     ensures { result.now ≡ held_of block.now }
 {
     &block.trbs[..held::places_held(block.held)]
+}
+
+// ---- Numbers that stand for a case, in a block in bytes and in a script: any number is one
+
+// The release rule by its number: 5 is release 5, any other release 4.
+pub fn release_of(number: u8) -> GuestRelease
+    ensures { result ≡ release_of number }
+{
+    match number {
+        5 => GuestRelease::Release5,
+        _ => GuestRelease::Release4,
+    }
+}
+
+// The phase by its number: 1 to 4 in the order of their type, any other number the first.
+pub fn phase_of(number: u8) -> ControlTransferState
+    ensures { result ≡ phase_of number }
+{
+    match number {
+        1 => ControlTransferState::MaybeDataStageTrb,
+        2 => ControlTransferState::MoreData,
+        3 => ControlTransferState::ExpectStatusStageTrb,
+        4 => ControlTransferState::ExpectFinalEventDataTrb,
+        _ => ControlTransferState::ExpectSetupStageTrb,
+    }
 }
 
 // ---- Changes
@@ -104,7 +130,7 @@ pub fn at_phase(transfer: ControlTransfer, phase: ControlTransferState) -> Contr
     ControlTransfer { phase, ..transfer }
 }
 
-// One TRB more is held.
+// One TRB more is held. `in_block` has the same: what the two share is the store to a place, which is one line.
 pub fn store(block: ControlBlock, t: TransferTrb) -> ControlBlock
     requires { block.held < max_held }
     ensures { result ≡ stored block t }
@@ -242,8 +268,9 @@ pub fn ending_of(
         ControlSubmissionState::NoTrbSubmitted | ControlSubmissionState::CollectingTd => {
             Ending::KeepCollecting
         }
-        ControlSubmissionState::ParserError(addr) => Ending::ReportBadTrb(addr),
-        ControlSubmissionState::UnexpectedTrb(addr) => Ending::ReportBadTrb(addr),
+        ControlSubmissionState::ParserError(addr) | ControlSubmissionState::UnexpectedTrb(addr) => {
+            Ending::ReportBadTrb(addr)
+        }
         ControlSubmissionState::AwaitingControlRequest => request_ending(res, data_length),
     }
 }

@@ -19,7 +19,8 @@ use Rattle.held_bytes.specs.Places.{control_layout}
 use Rattle.held_bytes.proofs.ByteLaws.{drop-behind}
 use Rattle.control_block.specs.declared.ControlTransfer.{ControlTransfer}
 use Rattle.control_block.specs.Blocks as blocks
-use Rattle.control_bytes.specs.Head.{release_of, phase_of, phase_number, state_of, state_number, state_address, direction_of, direction_number, request_at, head_bytes, Fit}
+use Rattle.control_block.specs.Numbers.{release_of, phase_of}
+use Rattle.control_bytes.specs.Head.{phase_number, state_of, state_number, state_address, direction_of, direction_number, request_at, head_bytes, Fit}
 use Rattle.control_bytes.specs.Layout.{head_length, places_of, places_in, held_at, block_of}
 use Rattle.control_bytes.specs.Stores.{Headed, fresh_head, Made}
 

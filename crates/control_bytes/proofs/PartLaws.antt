@@ -17,7 +17,8 @@ use Rattle.held_bytes.proofs.ByteLaws.{take-drop-before, drop-behind}
 use Rattle.control_block.specs.declared.ControlTransfer.{ControlTransfer}
 use Rattle.control_block.specs.Blocks as blocks
 use Rattle.control_block.specs.Blocks.{transfer_of}
-use Rattle.control_bytes.specs.Head.{release_of, phase_of, phase_number, state_of, state_number, state_address, direction_of, direction_number, transfer_at, turn_cells, count_cells}
+use Rattle.control_block.specs.Numbers.{release_of, phase_of}
+use Rattle.control_bytes.specs.Head.{phase_number, state_of, state_number, state_address, direction_of, direction_number, transfer_at, turn_cells, count_cells}
 use Rattle.control_bytes.specs.Layout.{head_length, places_in, held_at, block_of}
 use Rattle.control_bytes.specs.Stores.{turned, counting, Headed}
 use Rattle.control_bytes.proofs.HeadLaws.{phase-said, state-said, direction-said, field_stored}

@@ -27,7 +27,8 @@ use Rattle.held_bytes.specs.declared.TrbNumbers.{TrbNumbers}
 use Rattle.held_bytes.specs.Numbers.{variant_of, trb_of}
 use Rattle.held_bytes.specs.Places.{place_length, control_layout, numbers_at, place_bytes}
 use Rattle.held_bytes.proofs.ByteLaws.{take-drop-take, take-drop-before, drop-behind}
-use Rattle.control_bytes.specs.Head.{release_of, phase_of, direction_of, transfer_at}
+use Rattle.control_block.specs.Numbers.{release_of, phase_of}
+use Rattle.control_bytes.specs.Head.{direction_of, transfer_at}
 use Rattle.control_bytes.specs.Layout.{head_length, block_length, held_type, place_of, places_of, held_places, places_in, block_of}
 use Rattle.control_bytes.specs.Stores.{Placed}
 

@@ -1,4 +1,4 @@
--- The head of a control endpoint's block as bytes: the numbers of its phase, state and rule, and what any bytes say. Assumes nothing.
+-- The head of a control endpoint's block as bytes: the numbers of its phase and state, and what any bytes say. Assumes nothing.
 use Rattle.std.specs.Prelude.{ℕ, ◌<◌, ◌^◌, Bool, cond, List, ◌∷◌, ◌++◌, eqb, get_or}
 use Rattle.buffers.specs.LittleEndian.{le_bytes, le_field}
 use Rattle.trb.specs.declared.ControlSubmissionState.{ControlSubmissionState}
@@ -7,21 +7,9 @@ use Rattle.trb.specs.declared.ControlTransferState.{ControlTransferState}
 use Rattle.trb.specs.declared.ControlTransferState.TheVariants.{ExpectSetupStageTrb, MaybeDataStageTrb, MoreData, ExpectStatusStageTrb, ExpectFinalEventDataTrb}
 use Rattle.trb.specs.declared.UsbRequest.{UsbRequest}
 use Rattle.control_block.specs.declared.ControlTransfer.{ControlTransfer}
-use Rattle.control_block.specs.declared.GuestRelease.{GuestRelease}
-use Rattle.control_block.specs.declared.GuestRelease.TheVariants.{Release4, Release5}
+use Rattle.control_block.specs.Numbers.{phase_of}
 
--- 5 is release 5, any other number release 4
-abbrev pub release_of : ℕ → GuestRelease
-release_of n = cond (eqb n 5) Release5 Release4
-
--- 1 to 4 are the phases behind ExpectSetupStageTrb, in their order; any other number is that one
-abbrev pub phase_of : ℕ → ControlTransferState
-phase_of n =
-    cond (eqb n 1) MaybeDataStageTrb
-    (cond (eqb n 2) MoreData
-    (cond (eqb n 3) ExpectStatusStageTrb
-    (cond (eqb n 4) ExpectFinalEventDataTrb ExpectSetupStageTrb)))
-
+-- `phase_of` of control_block reads it
 abbrev pub phase_number : ControlTransferState → ℕ
 phase_number ExpectSetupStageTrb = 0
 phase_number MaybeDataStageTrb = 1

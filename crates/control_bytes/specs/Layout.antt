@@ -29,7 +29,8 @@ use Rattle.held_bytes.specs.Numbers.{trb_numbers, trb_of}
 use Rattle.held_bytes.specs.Places.{place_length, control_layout, numbers_at}
 use Rattle.control_block.specs.declared.ControlBlock.{ControlBlock}
 use Rattle.control_block.specs.Blocks as blocks
-use Rattle.control_bytes.specs.Head.{release_of, state_of, transfer_at}
+use Rattle.control_block.specs.Numbers.{release_of}
+use Rattle.control_bytes.specs.Head.{state_of, transfer_at}
 
 -- bytes before the places, bytes of a block
 abbrev pub head_length : ℕ

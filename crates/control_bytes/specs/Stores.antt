@@ -7,7 +7,7 @@ use Rattle.trb.specs.declared.UsbRequest.{UsbRequest}
 use Rattle.held_bytes.specs.Places.{control_layout}
 use Rattle.control_block.specs.declared.ControlTransfer.{ControlTransfer}
 use Rattle.control_block.specs.Blocks as blocks
-use Rattle.control_bytes.specs.Head.{release_of}
+use Rattle.control_block.specs.Numbers.{release_of}
 use Rattle.control_bytes.specs.Layout.{head_length, block_length, places_in, block_of}
 
 -- the block is at this transfer, in this state, and holds so many places; what its creation gave it stays, and so do the bytes behind

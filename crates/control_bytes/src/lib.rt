@@ -11,7 +11,7 @@ ghost use Rattle.held_bytes.specs.Numbers.{trb_of};
 ghost use Rattle.held_bytes.specs.Places.{place_length};
 ghost use Rattle.control_block.specs.Blocks.{transfer_of};
 ghost use Rattle.control_block.specs.Facts.{facts_of};
-ghost use Rattle.control_bytes.specs.Head.{release_of, phase_of, phase_number, state_of, state_number, state_address, direction_number, request_at, head_cells, turn_cells, count_cells};
+ghost use Rattle.control_bytes.specs.Head.{phase_number, state_of, state_number, state_address, direction_number, request_at, head_cells, turn_cells, count_cells};
 ghost use Rattle.control_bytes.specs.Layout.{head_length, block_length, held_type, place_of, id_at, block_of};
 ghost use Rattle.control_bytes.specs.Stores.{turned, counting, fresh_head, Headed, Made, Placed};
 
@@ -27,51 +27,32 @@ pub const HEAD: usize = 48;
 // Bytes of a block. It is lent as a slice, and each function asks that the slice is long enough: see `in_bytes`.
 pub const BLOCK: usize = HEAD + held_bytes::PLACE * trb::MAX_HELD;
 
-// ---- Numbers
+// ---- Numbers: constants and no enum, since any byte is a state.
 
-// The release rule by its number: 5 is release 5, any other release 4.
-pub fn release_of(number: u8) -> GuestRelease
-    ensures { result ≡ release_of number }
-{
-    if number == 5 {
-        GuestRelease::Release5
-    } else {
-        GuestRelease::Release4
-    }
-}
+const NOTHING_SUBMITTED: u8 = 0;
 
-fn phase_of(number: u8) -> ControlTransferState
-    ensures { result ≡ phase_of number }
-{
-    match number {
-        1 => ControlTransferState::MaybeDataStageTrb,
-        2 => ControlTransferState::MoreData,
-        3 => ControlTransferState::ExpectStatusStageTrb,
-        4 => ControlTransferState::ExpectFinalEventDataTrb,
-        _ => ControlTransferState::ExpectSetupStageTrb,
-    }
-}
+const COLLECTING: u8 = 1;
+
+const AWAITING: u8 = 2;
+
+const PARSER_ERROR: u8 = 3;
+
+const UNEXPECTED: u8 = 4;
 
 fn phase_number(phase: ControlTransferState) -> u8
     ensures { result ≡ phase_number phase }
 {
-    match phase {
-        ControlTransferState::ExpectSetupStageTrb => 0,
-        ControlTransferState::MaybeDataStageTrb => 1,
-        ControlTransferState::MoreData => 2,
-        ControlTransferState::ExpectStatusStageTrb => 3,
-        ControlTransferState::ExpectFinalEventDataTrb => 4,
-    }
+    phase as u8
 }
 
 fn state_of(number: u8, addr: u64) -> ControlSubmissionState
     ensures { result ≡ state_of number addr }
 {
     match number {
-        0 => ControlSubmissionState::NoTrbSubmitted,
-        1 => ControlSubmissionState::CollectingTd,
-        2 => ControlSubmissionState::AwaitingControlRequest,
-        3 => ControlSubmissionState::ParserError(addr),
+        NOTHING_SUBMITTED => ControlSubmissionState::NoTrbSubmitted,
+        COLLECTING => ControlSubmissionState::CollectingTd,
+        AWAITING => ControlSubmissionState::AwaitingControlRequest,
+        PARSER_ERROR => ControlSubmissionState::ParserError(addr),
         _ => ControlSubmissionState::UnexpectedTrb(addr),
     }
 }
@@ -80,11 +61,11 @@ fn state_number(state: ControlSubmissionState) -> u8
     ensures { result ≡ state_number state }
 {
     match state {
-        ControlSubmissionState::NoTrbSubmitted => 0,
-        ControlSubmissionState::CollectingTd => 1,
-        ControlSubmissionState::ParserError(_) => 3,
-        ControlSubmissionState::UnexpectedTrb(_) => 4,
-        ControlSubmissionState::AwaitingControlRequest => 2,
+        ControlSubmissionState::NoTrbSubmitted => NOTHING_SUBMITTED,
+        ControlSubmissionState::CollectingTd => COLLECTING,
+        ControlSubmissionState::ParserError(_) => PARSER_ERROR,
+        ControlSubmissionState::UnexpectedTrb(_) => UNEXPECTED,
+        ControlSubmissionState::AwaitingControlRequest => AWAITING,
     }
 }
 
@@ -144,7 +125,7 @@ pub fn release(block: &[u8]) -> GuestRelease
     requires { head_length ≤ length block.now }
     ensures { result ≡ (block_of block.now).release }
 {
-    release_of(block[3])
+    control_block::release_of(block[3])
 }
 
 // The state of the block.
@@ -186,14 +167,14 @@ pub fn transfer(block: &[u8]) -> ControlTransfer
     ensures { result ≡ transfer_of (block_of block.now) }
 {
     ControlTransfer {
-        phase: phase_of(block[4]),
+        phase: control_block::phase_of(block[4]),
         direction: block[6] == 1,
         request: request(block),
         collected: buffers::le64(block, 32) as usize,
     }
 }
 
-// What the questions ask about. Every place that is held is sound, whatever its bytes.
+// What the questions ask about. Every place that is held is sound, whatever its bytes: so the facts are given one by one, and not by `facts_of` of a block.
 pub fn facts(block: &[u8]) -> BlockFacts
     requires { head_length ≤ length block.now }
     ensures { result ≡ facts_of (block_of block.now) }
@@ -379,7 +360,8 @@ pub fn make(block: &mut [u8], endpoint_id: u8, slot_id: u8, release: u8)
     buffers::copy_into(block, 0, &cells);
 }
 
-// The TRB is in the place behind the `i` that are held.
+// The TRB is in the place behind the `i` that are held. Of an IN block this is `in_bytes::put_trb`: what both store is `put_place`'s, and what they promise is of
+// two layouts.
 pub fn put_trb(block: &mut [u8], i: usize, numbers: TrbNumbers)
     requires block_length_in_bounds { (block_length ≤ length block.old) × (i < max_held) }
     requires numbers_value { (supported Control (trb_of numbers).variant ≡ true) × (transfer_length (trb_of numbers).variant ≤ max_transfer_length) }

@@ -6,7 +6,7 @@ ghost use Rattle.trb.specs.Limits.{min_row_log};
 ghost use Rattle.text.specs.Wrote.{HasRoom};
 ghost use Rattle.state_text.specs.Widths.{max_state, max_answer};
 ghost use Rattle.guest_memory.specs.Lent.{seen, lent, SameRegions};
-ghost use Rattle.call_answer.specs.Called.{bad_said, silent_said, ran_of, Says, Runs};
+ghost use Rattle.call_answer.specs.Called.{silent_said, ran_of, Says, Runs};
 ghost use Rattle.control_calls.specs.Calls.{standing, create_call, collect_after, submit_call, complete_call, cancel_call, hold_call, made_up, result_of, control_call, collect_behind, Stated, RunsWith};
 
 use call_answer::Ran;
@@ -16,8 +16,8 @@ use guest_memory::{GuestMemory, GuestView};
 use state_text::ControlStanding;
 use text::Text;
 use trb::{
-    Answer, ControlRequestProcessingResult, ControlSubmissionState, ControlTransferState,
-    EndpointId, SlotId, TransferTrb, UsbRequest,
+    ControlRequestProcessingResult, ControlSubmissionState, ControlTransferState, EndpointId,
+    SlotId, TransferTrb, UsbRequest,
 };
 
 // What the block is at; `collect` is the whole collect buffer.
@@ -132,6 +132,7 @@ fn cancel(text: &mut Text<'_>, block: ControlBlock, collect: &[u8]) -> Ran<Contr
     answered(text, control_endpoint::cancel(block), collect, 0)
 }
 
+#[tactic(auto, unfolding(crate::specs::Calls::hold_call))]
 fn hold(block: ControlBlock, t: TransferTrb) -> Ran<ControlBlock>
     ensures { result ≡ ran_of (hold_call block t) }
 {

@@ -17,13 +17,9 @@ use Rattle.td_part.specs.Parts.{Within, of_normal, of_data_stage, edtla_after, r
 use Rattle.td_part.proofs.PartLaws.{Kept, kept-silent, kept-report, kept-event_data, kept-realized}
 use Rattle.walks.proofs.WalkLaws.{Walker}
 use Rattle.control_chain.specs.declared.ControlTd.{ControlTd}
-use Rattle.control_chain.specs.Chain.{edtla_zeroed, move_out, move_data, realize_stage, realize_data_stage, normal_by_state, realize_normal, trb_by_kind, realize_trb, never}
+use Rattle.control_chain.specs.Chain.{edtla_zeroed, move_out, realize_stage, realize_data_stage, normal_by_state, realize_normal, trb_by_kind, realize_trb, never}
 
 -- ---- Cases
-
-pub move-by : (td : ControlTd) (w : TdProgress) (d : TrbDmaInfo) {b : Bool} → td.input ≡ b
-    → move_data td w d ≡ cond b (realize_dma td.info w d) (move_out td.info w d)
-move-by td w d e = ap (λ (b : Bool). cond b (realize_dma td.info w d) (move_out td.info w d)) e
 
 pub normal-in-state : (td : ControlTd) (w : TdProgress) (t : NormalTrb) (a : ℕ) {s : TdProcessingState} → w.state ≡ s
     → realize_normal td w t a ≡ normal_by_state s td w t a

@@ -6,7 +6,7 @@ ghost use Rattle.control_endpoint.specs.Completion.{Completes};
 
 use control_block::ControlBlock;
 use control_endpoint::Completed;
-use trb::{Answer, CompletionAnswer, ControlRequestProcessingResult, ControlSubmissionState};
+use trb::{ControlRequestProcessingResult, ControlSubmissionState};
 
 // Completes the TRB that was submitted last. With SuccessfulControlIn the device's bytes are `data`, of which only the length is read.
 // The places are copied once.
@@ -27,20 +27,11 @@ pub fn next_completion(
             block,
         },
         Ok(()) => {
-            let mut held = block.held;
-            let mut trbs = block.trbs;
             let ending = control_block::ending_of(block.state, res, data.len() as u32);
             let info = control_ending::info_of(ending, block.endpoint_id, block.slot_id);
-            let blank = held::blank();
-            let freed = control_block::places_freed(ending, held);
-            let mut progress = td_part::at_start_of_td();
-            // An index: each place is read, walked and blanked where it lies, in one pass.
-            for j in 0..freed {
-                let one = trbs[j];
-                progress = control_turn::next_trb(log, ending, info, progress, one);
-                trbs[j] = blank;
-            }
-            held -= freed;
+            let freed = control_block::places_freed(ending, block.held);
+            let ended = &block.trbs[..freed];
+            let progress = control_turn::end_held(log, ended, ending, info);
             let error_address = control_block::error_address(&block);
             let records = control_ending::log_ending(
                 log,
@@ -50,6 +41,8 @@ pub fn next_completion(
                 block.endpoint_id,
                 block.slot_id,
             );
+            let mut trbs = block.trbs;
+            held::clear(&mut trbs, freed);
             let phase = control_block::phase_behind(block.state, block.phase);
             Completed {
                 answer: Ok(control_block::result_of(ending)),
@@ -57,7 +50,7 @@ pub fn next_completion(
                 block: ControlBlock {
                     phase,
                     state: ControlSubmissionState::NoTrbSubmitted,
-                    held,
+                    held: block.held - freed,
                     trbs,
                     ..block
                 },

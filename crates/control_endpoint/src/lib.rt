@@ -3,6 +3,7 @@
 
 ghost use Rattle.std.specs.Prelude.{◌≡◌};
 ghost use Rattle.control_endpoint.specs.Creation.{Creates};
+ghost use Rattle.control_endpoint.specs.Submission.{places_dropped};
 
 use control_block::{ControlBlock, GuestRelease};
 use trb::{EndpointId, Refusal, SlotId};
@@ -12,6 +13,15 @@ pub type Created = trb::Created<ControlBlock>;
 pub type Submitted = trb::Submitted<ControlBlock>;
 
 pub type Completed = trb::Completed<ControlBlock>;
+
+// ---- Submission
+
+// How many of the `held` TRBs are dropped: all of them, where a transfer starts anew.
+pub fn places_dropped(restarts: bool, held: usize) -> usize
+    ensures { result ≡ places_dropped restarts held }
+{
+    if restarts { held } else { 0 }
+}
 
 // ---- Creation
 

@@ -41,7 +41,7 @@ use Rattle.control_endpoint.specs.Returned.{Completed}
 use Rattle.control_endpoint.specs.Returned.{Submitted}
 use Rattle.control_endpoint.proofs.CompletionLaws.{completes-refused, completes-accepted}
 use Rattle.control_endpoint.proofs.SubmissionLaws.{submits-refused, submits-accepted}
-use Rattle.control_bytes.specs.Head.{release_of}
+use Rattle.control_block.specs.Numbers.{release_of}
 use Rattle.control_bytes.specs.Layout.{head_length, block_length, block_of}
 use Rattle.control_bytes.specs.Stores.{Made}
 use Rattle.control_places.specs.Events.{completion_records}

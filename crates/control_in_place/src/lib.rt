@@ -10,7 +10,7 @@ ghost use Rattle.held_bytes.specs.Numbers.{trb_numbers, trb_of};
 ghost use Rattle.control_block.specs.Facts.{facts_of};
 ghost use Rattle.control_transfer.specs.Data.{data_of};
 ghost use Rattle.control_questions.specs.Completion.{completion_questions};
-ghost use Rattle.control_bytes.specs.Head.{release_of};
+ghost use Rattle.control_block.specs.Numbers.{release_of};
 ghost use Rattle.control_bytes.specs.Layout.{block_length, block_of};
 ghost use Rattle.control_in_place.specs.InPlace.{Asked, Acceptable, Accepts, SubmitsAsByValue, CompletesAsByValue, lent_log, block_question, raw_trb, SubmitsInPlace, CompletesInPlace, result_of, CreatesInPlace};
 
@@ -45,7 +45,7 @@ fn ask_submission(
     ensures { Asked log_length collect_length block.now (trb_of numbers) regions result }
 {
     let facts = control_bytes::facts(block);
-    let outcome = control_numbers::outcome_of(facts.phase, numbers.kind, numbers.flags);
+    let outcome = control_numbers::outcome_of(facts.phase, numbers);
     let answer = control_numbers::ask_submission(
         log_length,
         collect_length,
@@ -97,12 +97,7 @@ fn submit(
     requires { block_length ≤ length block.old }
     ensures { SubmitsAsByValue block.old (trb_of numbers) (seen memory.now) log.old collect.old result log.new collect.new block.new }
 {
-    let data = control_numbers::data_of(
-        numbers.kind,
-        numbers.flags,
-        numbers.value,
-        numbers.transfer_length,
-    );
+    let data = control_numbers::data_of(numbers);
     let regions = memory.regions();
     let asked = ask_submission(log.len(), collect.len(), block, numbers, data, regions);
     match asked.answer {
@@ -279,28 +274,24 @@ pub fn next_completion(
 
 // ---- Creation and cancel
 
-// The bytes become a fresh block for this endpoint of this slot, for guests of this release: 5, or any other number for 4. Answers 0, or 12
-// with both ids 0, or 1 where the bytes are too few for a block.
-pub fn create(block: &mut [u8], endpoint_id: u8, slot_id: u8, release: u8) -> u32
-    ensures { CreatesInPlace (record { 0 = endpoint_id }) (record { 0 = slot_id }) (release_of release) block.old result block.new }
+// The bytes become a fresh block for this endpoint of this slot, for guests of this release: 5, or any other number for 4. Where an id is refused,
+// both are 0; where the bytes are too few for a block, they stay.
+pub fn create(block: &mut [u8], endpoint_id: u8, slot_id: u8, release: u8) -> Answer
+    ensures { CreatesInPlace (record { 0 = endpoint_id }) (record { 0 = slot_id }) (release_of release) block.old (number_of result) block.new }
 {
-    if block.len() < control_bytes::BLOCK {
-        return 1;
-    }
+    trb::ask(control_bytes::BLOCK <= block.len(), Refusal::BufferTooShort)?;
     if trb::ids_in_range(EndpointId(endpoint_id), SlotId(slot_id)) {
         control_bytes::make(block, endpoint_id, slot_id, release);
-        return 0;
+        return Ok(());
     }
     control_bytes::make(block, 0, 0, release);
-    12
+    Err(Refusal::IdOutOfRange)
 }
 
-// Changes nothing; ports `cancel`, by which the Rust cancels at the device alone. Answers 0, or 1 where the bytes are too few for a block.
-pub fn cancel(block: &[u8]) -> u32
-    ensures { result ≡ first_no (block_question block.now ∷ []) }
+// Changes nothing; ports `cancel`, by which the Rust cancels at the device alone.
+#[tactic(auto, unfolding(trb::specs::Questions::first_no))]
+pub fn cancel(block: &[u8]) -> Answer
+    ensures { number_of result ≡ first_no (block_question block.now ∷ []) }
 {
-    if block.len() < control_bytes::BLOCK {
-        return 1;
-    }
-    0
+    trb::ask(control_bytes::BLOCK <= block.len(), Refusal::BufferTooShort)
 }

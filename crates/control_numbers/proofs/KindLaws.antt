@@ -6,7 +6,6 @@ use Rattle.trb.specs.declared.TransferTrbVariant.TheVariants.{SetupStage, DataSt
 use Rattle.raw_trb.specs.Layouts.{normal_type, setup_stage_type, data_stage_type, status_stage_type, isoch_type, event_data_type, no_op_type}
 use Rattle.held_bytes.specs.Numbers.{chain_on, normal_of, setup_stage_of, data_stage_of, status_stage_of, event_data_of, no_op_of, variant_of}
 use Rattle.phase_table.specs.Table.{kind_of, outcome_of, trb_outcome}
-use Rattle.control_transfer.specs.Data.{no_data, data_of}
 
 module _ (kind flags value len : ℕ) where
   -- by which types the kind is: Normal, Setup, Data, Status, Isoch, Event Data, NoOp
@@ -34,16 +33,3 @@ module _ (kind flags value len : ℕ) where
   unfolding variant_of
   outcome-by phase =
       outcome-said phase (eqb kind normal_type) (eqb kind setup_stage_type) (eqb kind data_stage_type) (eqb kind status_stage_type) (eqb kind isoch_type) (eqb kind event_data_type) (eqb kind no_op_type)
-
-  -- the kinds but Normal and Data Stage move nothing
-  none_said : (u t i e o : Bool) → data_of (said false u false t i e o) ≡ no_data
-  none_said true t i e o = refl
-  none_said false true i e o = refl
-  none_said false false true e o = refl
-  none_said false false false true o = refl
-  none_said false false false false true = refl
-  none_said false false false false false = refl
-
-  pub data-none : eqb kind normal_type ≡ false → eqb kind data_stage_type ≡ false → data_of (variant_of kind flags value len) ≡ no_data
-  unfolding variant_of
-  data-none normal stage = rw (normal, stage) (none_said (eqb kind setup_stage_type) (eqb kind status_stage_type) (eqb kind isoch_type) (eqb kind event_data_type) (eqb kind no_op_type))

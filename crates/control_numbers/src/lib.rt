@@ -12,7 +12,7 @@ ghost use Rattle.guest_memory.specs.Lent.{seen};
 ghost use Rattle.phase_table.specs.Outcomes.{holds};
 ghost use Rattle.phase_table.specs.Table.{kind_of, trb_outcome};
 ghost use Rattle.raw_trb.specs.Layouts.{setup_stage_type};
-ghost use Rattle.held_bytes.specs.Numbers.{setup_stage_of, variant_of};
+ghost use Rattle.held_bytes.specs.Numbers.{setup_stage_of, variant_of, trb_of};
 ghost use Rattle.control_transfer.specs.Data.{data_of, size_of, bytes_of};
 ghost use Rattle.control_transfer.specs.Transfers.{begun, collects, collectable};
 ghost use Rattle.control_questions.specs.Submission.{submission_questions};
@@ -22,6 +22,7 @@ ghost use Rattle.control_numbers.specs.Transfers.{size_taken, length_after, coll
 use control_block::{BlockFacts, ControlTransfer};
 use control_transfer::TrbData;
 use guest_memory::{GuestView, Regions};
+use held_bytes::TrbNumbers;
 use phase_table::{Outcome, TrbKind};
 use trb::{Answer, ControlTransferState, Refusal, UsbRequest};
 
@@ -44,22 +45,23 @@ fn kind_of(kind: u8) -> TrbKind
 }
 
 // What becomes of the TRB in this phase: by its kind and, of a kind that has one, its chain bit.
-pub fn outcome_of(phase: ControlTransferState, kind: u8, flags: u8) -> Outcome
-    ensures { (value len : ℕ) → result ≡ trb_outcome phase (variant_of kind flags value len) }
+pub fn outcome_of(phase: ControlTransferState, numbers: TrbNumbers) -> Outcome
+    ensures { result ≡ trb_outcome phase (trb_of numbers).variant }
 {
-    phase_table::outcome_of(phase, kind_of(kind), held_bytes::bit(flags, 2))
+    let chain = held_bytes::bit(numbers.flags, 2);
+    phase_table::outcome_of(phase, kind_of(numbers.kind), chain)
 }
 
 // What the TRB moves: nothing, but for a Normal and a Data Stage.
 #[tactic(auto, unfolding(held_bytes::specs::Numbers::variant_of))]
-pub fn data_of(kind: u8, flags: u8, value: u64, transfer_length: u32) -> TrbData
-    ensures { result ≡ data_of (variant_of kind flags value transfer_length) }
+pub fn data_of(numbers: TrbNumbers) -> TrbData
+    ensures { result ≡ data_of (trb_of numbers).variant }
 {
-    match kind {
+    match numbers.kind {
         raw_trb::NORMAL | raw_trb::DATA_STAGE => TrbData {
-            data_pointer: value,
-            transfer_length,
-            immediate_data: held_bytes::bit(flags, 16),
+            data_pointer: numbers.value,
+            transfer_length: numbers.transfer_length,
+            immediate_data: held_bytes::bit(numbers.flags, 16),
         },
         _ => TrbData {
             data_pointer: 0,
@@ -174,22 +176,22 @@ pub fn begins(outcome: Outcome, kind: u8) -> bool
     phase_table::is_held(outcome) && kind == raw_trb::SETUP_STAGE
 }
 
-// The transfer that a Setup TRB with these setup bytes at `addr` begins.
-pub fn begun(phase: ControlTransferState, value: u64, addr: u64) -> ControlTransfer
-    ensures { (flags : ℕ) → result ≡ begun phase (setup_stage_of flags value) addr }
+// The transfer that the Setup TRB of these numbers begins.
+pub fn begun(phase: ControlTransferState, numbers: TrbNumbers) -> ControlTransfer
+    ensures { result ≡ begun phase (setup_stage_of numbers.flags numbers.value) numbers.addr }
 {
-    let request_type = (value % 256) as u8;
+    let setup = held_bytes::setup_stage(numbers);
     let request = UsbRequest {
-        address: addr,
-        request_type,
-        request: (value / 256 % 256) as u8,
-        value: (value / 65536 % 65536) as u16,
-        index: (value / 4294967296 % 65536) as u16,
+        address: numbers.addr,
+        request_type: setup.request_type,
+        request: setup.request,
+        value: setup.value,
+        index: setup.index,
         length: 0,
     };
     ControlTransfer {
         phase,
-        direction: 128 <= request_type,
+        direction: 128 <= setup.request_type,
         request,
         collected: 0,
     }

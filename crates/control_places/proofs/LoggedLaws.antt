@@ -23,6 +23,8 @@ use Rattle.walks.proofs.WalkLaws.{walk-counts}
 use Rattle.phase_table.specs.declared.Outcome.{Outcome}
 use Rattle.phase_table.specs.Outcomes.{restarts, requests}
 use Rattle.control_block.specs.declared.ControlBlock.{ControlBlock}
+use Rattle.trb.specs.declared.CompletionCode.{CompletionCode}
+use Rattle.trb.specs.declared.TrbProcessingResult.{TrbProcessingResult}
 use Rattle.control_block.specs.declared.Ending.{Ending}
 use Rattle.control_block.specs.declared.Ending.TheVariants.{KeepCollecting, ReportBadTrb, Fail, Realize}
 use Rattle.control_block.specs.Blocks.{held_of}
@@ -118,8 +120,12 @@ module _ (b : ControlBlock) (x : Ending) (td : TdInfo) (d : ℕ) (l l' : List �
 
 -- ---- Where the last event goes
 
-pub event-at : (x y : Ending) (b : ControlBlock) (a : ℕ) → x ≡ y → EventAt y b a → EventAt x b a
-event-at x y b a e h = subst (λ (z : Ending). EventAt z b a) (sym e) h
+-- no other ending has an event with an address
+pub event-elsewhere : (x : Ending) (b : ControlBlock) (a : ℕ) → ((code : CompletionCode) (r : TrbProcessingResult) → x ≡ Fail code r → ⊥) → EventAt x b a
+event-elsewhere KeepCollecting b a other e s = refl
+event-elsewhere (ReportBadTrb address) b a other e s = refl
+event-elsewhere (Fail code r) b a other e s = absurd (other code r refl)
+event-elsewhere (Realize input n) b a other e s = refl
 
 pub error-at : (x : Ending) (b : ControlBlock) (a : ℕ) → a ≡ error_address b → EventAt x b a
 error-at x b a h e s = ap (λ (n : ℕ). last_records x n e s) h

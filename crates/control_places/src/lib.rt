@@ -11,7 +11,7 @@ ghost use Rattle.control_block.specs.Blocks.{held_of};
 ghost use Rattle.control_block.specs.Stages.{stage_address, error_address};
 ghost use Rattle.control_chain.specs.Chain.{never};
 ghost use Rattle.control_chain.specs.Endings.{next_trb};
-ghost use Rattle.control_endpoint.specs.Submission.{places_dropped, records_of};
+ghost use Rattle.control_endpoint.specs.Submission.{records_of};
 ghost use Rattle.control_bytes.specs.Layout.{block_length, block_of};
 ghost use Rattle.control_places.specs.Events.{is_silent, is_collecting, EventAt, completion_records};
 
@@ -25,6 +25,7 @@ fn end_held(log: &mut [u8], block: &[u8], count: usize, ending: Ending, info: Td
     ensures { Meets (walk (next_trb ending info) never at_start (take count (block_of block.now).trbs)) 0 log.old result log.new }
 {
     let mut progress = td_part::at_start_of_td();
+    // An index: a place is read by its number where it lies in the block's bytes, which are no slice of places. So below.
     for j in 0..count {
         let numbers = control_bytes::numbers_at(block, j);
         progress = control_turn_numbers::next_trb(log, ending, info, progress, numbers);
@@ -33,13 +34,6 @@ fn end_held(log: &mut [u8], block: &[u8], count: usize, ending: Ending, info: Td
 }
 
 // ---- Submission
-
-// How many of the `held` TRBs are dropped: all of them, where a transfer starts anew.
-pub fn places_dropped(restarts: bool, held: usize) -> usize
-    ensures { result ≡ places_dropped restarts held }
-{
-    if restarts { held } else { 0 }
-}
 
 // Is there nothing to log of a TRB of this outcome?
 fn is_silent(outcome: Outcome) -> bool
@@ -62,7 +56,7 @@ fn log_outcome(log: &mut [u8], block: &[u8], outcome: Outcome) -> usize
         slot_id,
         data_length: 0,
     };
-    let dropped = places_dropped(phase_table::is_restart(outcome), held);
+    let dropped = control_endpoint::places_dropped(phase_table::is_restart(outcome), held);
     let progress = end_held(log, block, dropped, Ending::ReportBadTrb(0), info);
     control_transfer::log_request(
         log,
@@ -120,10 +114,8 @@ fn event_address(block: &[u8], ending: Ending) -> u64
     ensures { EventAt ending (block_of block.now) result }
 {
     match ending {
-        Ending::KeepCollecting => 0,
-        Ending::ReportBadTrb(_) => 0,
         Ending::Fail(_, _) => error_address(block),
-        Ending::Realize(_, _) => 0,
+        _ => 0,
     }
 }
 

@@ -6,7 +6,7 @@ ghost use Rattle.trb.specs.Answers.{number_of};
 ghost use Rattle.trb.specs.Limits.{max_held, max_collected};
 ghost use Rattle.trb.specs.Questions.{first_no};
 ghost use Rattle.control_transfer.specs.Transfers.{collectable};
-ghost use Rattle.control_questions.specs.Completion.{is_given, completion_questions};
+ghost use Rattle.control_questions.specs.Completion.{completion_questions};
 ghost use Rattle.control_questions.specs.Submission.{immediate_allowed, has_room, reaches, submission_questions};
 
 use control_block::BlockFacts;
@@ -46,11 +46,8 @@ fn is_collectable(outcome: Outcome, input: bool, collected: usize, data: TrbData
     requires { collected ≤ max_collected }
     ensures { result ≡ collectable outcome input collected «data» }
 {
-    if !control_transfer::is_collected(outcome, input) {
-        return true;
-    }
-    let size = control_transfer::size_of(data) as usize;
-    collected + size <= trb::MAX_COLLECTED
+    !control_transfer::is_collected(outcome, input)
+        || collected + control_transfer::size_of(data) as usize <= trb::MAX_COLLECTED
 }
 
 // Questions 1, 13, 2 to 4, 21 and 5 to 7, of a log and a collect buffer of these lengths, guest memory in these regions, and a TRB that

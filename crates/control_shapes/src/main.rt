@@ -1,7 +1,7 @@
 // Prints the shapes of control chains up to the length that it is given on standard input (R-10).
 #![tactic(auto)]
 
-ghost use Rattle.std.specs.Prelude.{◌≡◌, ◌∷◌, [], ◌≤◌, length, OnOk};
+ghost use Rattle.std.specs.Prelude.{◌≡◌, ◌≤◌, length, OnOk};
 ghost use Rattle.input_bytes.specs.Outputs.{WritesFor};
 ghost use Rattle.buffers.specs.Patch.{patch};
 ghost use Rattle.text.specs.Wrote.{HasRoom, Wrote};

@@ -50,7 +50,7 @@ fn advance(
     let phase = phase_table::phase_after(before, outcome);
     let state = phase_table::state_after(outcome, numbers.addr);
     if control_numbers::begins(outcome, numbers.kind) {
-        let begun = control_numbers::begun(phase, numbers.value, numbers.addr);
+        let begun = control_numbers::begun(phase, numbers);
         control_bytes::put_head(block, begun, state, held);
         return;
     }
@@ -70,7 +70,7 @@ pub fn take_trb(block: &mut [u8], outcome: Outcome, data: TrbData, numbers: TrbN
 {
     let transfer = control_bytes::transfer(block);
     let held = control_bytes::held(block);
-    let dropped = control_places::places_dropped(phase_table::is_restart(outcome), held);
+    let dropped = control_endpoint::places_dropped(phase_table::is_restart(outcome), held);
     let next = hold_trb(block, outcome, numbers, held - dropped);
     advance(block, outcome, transfer, data, numbers, next);
 }

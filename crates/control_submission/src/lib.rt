@@ -3,20 +3,13 @@
 
 ghost use Rattle.std.specs.Prelude.{◌≡◌};
 ghost use Rattle.guest_memory.specs.Lent.{seen};
-ghost use Rattle.control_endpoint.specs.Submission.{places_dropped, Submits};
+ghost use Rattle.control_endpoint.specs.Submission.{Submits};
 
-use control_block::{ControlBlock, ControlTransfer};
+use control_block::{ControlBlock, ControlTransfer, Ending};
 use control_endpoint::Submitted;
 use guest_memory::GuestView;
 use td_part::TdInfo;
-use trb::{Answer, TransferTrb};
-
-// How many of the `held` TRBs are dropped: all of them, where a transfer starts anew.
-fn places_dropped(restarts: bool, held: usize) -> usize
-    ensures { result ≡ places_dropped restarts held }
-{
-    if restarts { held } else { 0 }
-}
+use trb::TransferTrb;
 
 // Takes a TRB. The places are copied once: copies of the block are most of what a call costs.
 pub fn submit_trb(
@@ -46,23 +39,16 @@ pub fn submit_trb(
             block,
         },
         Ok(()) => {
-            let mut held = block.held;
-            let mut trbs = block.trbs;
             let info = TdInfo {
                 endpoint_id: block.endpoint_id,
                 slot_id: block.slot_id,
                 data_length: 0,
             };
-            let blank = held::blank();
-            let dropped = places_dropped(phase_table::is_restart(outcome), held);
-            let mut progress = td_part::at_start_of_td();
-            // An index: each place is read, reported and blanked where it lies, in one pass.
-            for j in 0..dropped {
-                let one = trbs[j];
-                progress = control_dropped::report_dropped(log, info, progress, one);
-                trbs[j] = blank;
-            }
-            held -= dropped;
+            let restarts = phase_table::is_restart(outcome);
+            let dropped = control_endpoint::places_dropped(restarts, block.held);
+            let reported = Ending::ReportBadTrb(0);
+            let ended = &block.trbs[..dropped];
+            let progress = control_turn::end_held(log, ended, reported, info);
             let records = control_transfer::log_request(
                 log,
                 progress.records,
@@ -79,6 +65,9 @@ pub fn submit_trb(
                 t.variant,
                 memory,
             );
+            let mut held = block.held - dropped;
+            let mut trbs = block.trbs;
+            held::clear(&mut trbs, dropped);
             if phase_table::is_held(outcome) {
                 trbs[held] = t;
                 held += 1;

@@ -112,6 +112,7 @@ fn collect_memory(collect: &mut [u8], at: usize, pointer: u64, count: u32, memor
 }
 
 // Lays the bytes of a TRB of an OUT transfer over `collect` from index `at` on; ports `collect_transfer_data`.
+#[tactic(auto, unfolding(crate::specs::Data::bytes_of))]
 pub fn collect_transfer_data(collect: &mut [u8], at: usize, data: TrbData, memory: &GuestView<'_>)
     requires { at + size_of «data» ≤ length collect.old }
     ensures { collect.new ≡ patch collect.old at (bytes_of (seen memory.now) «data») }

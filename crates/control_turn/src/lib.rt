@@ -1,11 +1,12 @@
-// The turn of a TRB held as the completion of a control transfer comes; ports a turn of `realize_control_chain`.
+// The turns of the TRBs held as the completion of a control transfer comes; ports `realize_control_chain`.
 #![tactic(auto)]
 
 ghost use Rattle.std.specs.Prelude.{◌+◌, ◌*◌, ◌≤◌, length};
 ghost use Rattle.trb.specs.Limits.{record_length};
 ghost use Rattle.call_log.specs.Calls.{Meets};
-ghost use Rattle.td_part.specs.Parts.{Within};
-ghost use Rattle.control_chain.specs.Chain.{realize_trb};
+ghost use Rattle.walks.specs.Walk.{walk};
+ghost use Rattle.td_part.specs.Parts.{Within, at_start};
+ghost use Rattle.control_chain.specs.Chain.{realize_trb, never};
 ghost use Rattle.control_chain.specs.Endings.{next_trb};
 
 use control_block::Ending;
@@ -65,4 +66,16 @@ pub fn next_trb(
         Ending::ReportBadTrb(_) => control_dropped::report_dropped(log, info, progress, t),
         Ending::Realize(input, _) => realize_trb(log, ControlTd { info, input }, progress, t),
     }
+}
+
+// Each of these TRBs has its turn so, from the first on.
+pub fn end_held(log: &mut [u8], trbs: &[TransferTrb], ending: Ending, info: TdInfo) -> TdProgress
+    requires { record_length * (2 * length trbs.now) ≤ length log.old }
+    ensures { Meets (walk (next_trb ending info) never at_start trbs.now) 0 log.old result log.new }
+{
+    let mut progress = td_part::at_start_of_td();
+    for t in trbs {
+        progress = next_trb(log, ending, info, progress, *t);
+    }
+    progress
 }

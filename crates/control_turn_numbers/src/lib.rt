@@ -1,7 +1,7 @@
 // The turn of a TRB held as the completion of a control transfer comes, as in control_turn, of a TRB that is given by numbers.
 #![tactic(auto)]
 
-ghost use Rattle.std.specs.Prelude.{◌≡◌, ◌+◌, ◌*◌, ◌≤◌, length};
+ghost use Rattle.std.specs.Prelude.{◌+◌, ◌*◌, ◌≤◌, length};
 ghost use Rattle.trb.specs.Limits.{record_length};
 ghost use Rattle.call_log.specs.Calls.{Meets};
 ghost use Rattle.td_part.specs.Parts.{Within};
@@ -24,26 +24,25 @@ fn realize_trb(
     requires { (record_length * (progress.records + 2) ≤ length log.old) × Within td.info progress }
     ensures { Meets (realize_trb td progress (trb_of numbers)) progress.records log.old result log.new }
 {
-    let flags = numbers.flags;
     let addr = numbers.addr;
     match numbers.kind {
         raw_trb::SETUP_STAGE | raw_trb::STATUS_STAGE => control_chain::realize_stage(
             log,
             td.info,
             progress,
-            held_bytes::bit(flags, 4),
+            held_bytes::bit(numbers.flags, 4),
             addr,
         ),
         raw_trb::DATA_STAGE => {
-            let stage = held_bytes::data_stage(flags, numbers.value, numbers.transfer_length);
+            let stage = held_bytes::data_stage(numbers);
             control_chain::realize_data_stage(log, td, progress, stage, addr)
         }
         raw_trb::NORMAL => {
-            let normal = held_bytes::normal(flags, numbers.value, numbers.transfer_length);
+            let normal = held_bytes::normal(numbers);
             control_chain::realize_normal(log, td, progress, normal, addr)
         }
         raw_trb::EVENT_DATA => {
-            let event = held_bytes::event_data(flags, numbers.value);
+            let event = held_bytes::event_data(numbers);
             td_data::handle_event_data_trb(log, td.info, progress, event)
         }
         _ => progress,

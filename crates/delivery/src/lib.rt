@@ -52,6 +52,7 @@ fn writes_inside(trbs: &[TransferTrb], given: u32, regions: Regions) -> bool
     ensures { result ≡ writes_inside regions given trbs.now }
 {
     let mut left = given;
+    // A loop that a no ends, and no `all`: what is left goes on from TRB to TRB, and a closure that counts it has no law.
     for t in trbs {
         let count = bytes_taken(t.variant, left);
         if !write_inside(t.variant, count, regions) {

@@ -1,10 +1,11 @@
 // The usbmon header of an event; ports `log_packet`.
 #![tactic(auto)]
 
-ghost use Rattle.std.specs.Prelude.{cond, ◌≡◌};
+ghost use Rattle.std.specs.Prelude.{◌≡◌};
 ghost use Rattle.capture_record.specs.Headers.{no_setup, usb_header};
 ghost use Rattle.capture_record.specs.Events.{completion, control, without_setup, rotated_right, transfer_type, submission_flag, completion_flag, in_status, error_status, setup_of, endpoint_zero, header_of};
 
+use capture_file::CaptureTime;
 use capture_record::{CaptureEvent, InPipe, TransferError, UsbDevice, UsbHeader, UsbSetup};
 use trb::{InTrbProcessingStatus, UsbRequest};
 
@@ -31,8 +32,8 @@ fn no_setup() -> UsbSetup
 }
 
 // What every header has: whose transfer it is of, when, and its identifier. It has no setup bytes, and all else is 0.
-fn blank(device: UsbDevice, seconds: u32, microseconds: u32, id: u64) -> UsbHeader
-    ensures { result ≡ usb_header device seconds microseconds id 0 0 0 without_setup 0 0 0 0 no_setup }
+fn blank(device: UsbDevice, time: CaptureTime, id: u64) -> UsbHeader
+    ensures { result ≡ usb_header device time.seconds time.microseconds id 0 0 0 without_setup 0 0 0 0 no_setup }
 {
     UsbHeader {
         id,
@@ -43,8 +44,8 @@ fn blank(device: UsbDevice, seconds: u32, microseconds: u32, id: u64) -> UsbHead
         bus_number: device.bus_number,
         setup_flag: WITHOUT_SETUP,
         data_flag: 0,
-        seconds: seconds as u64,
-        microseconds,
+        seconds: time.seconds as u64,
+        microseconds: time.microseconds,
         status: 0,
         length: 0,
         delivered: 0,
@@ -122,13 +123,12 @@ fn setup_of(request: UsbRequest) -> UsbSetup
 
 fn in_submission_header(
     device: UsbDevice,
-    seconds: u32,
-    microseconds: u32,
+    time: CaptureTime,
     pipe: InPipe,
     id: u64,
     length: u32,
 ) -> UsbHeader
-    ensures { result ≡ header_of device seconds microseconds (CaptureEvent.InSubmission pipe id length) 0 }
+    ensures { result ≡ header_of device time.seconds time.microseconds (CaptureEvent.InSubmission pipe id length) 0 }
 {
     let endpoint = pipe.endpoint_id.0;
     UsbHeader {
@@ -137,20 +137,19 @@ fn in_submission_header(
         endpoint_address: rotated_right(endpoint),
         data_flag: submission_flag(capture_record::is_odd(endpoint)),
         length,
-        ..blank(device, seconds, microseconds, id)
+        ..blank(device, time, id)
     }
 }
 
 fn in_completion_header(
     device: UsbDevice,
-    seconds: u32,
-    microseconds: u32,
+    time: CaptureTime,
     pipe: InPipe,
     id: u64,
     status: InTrbProcessingStatus,
     count: u32,
 ) -> UsbHeader
-    ensures { result ≡ header_of device seconds microseconds (CaptureEvent.InCompletion pipe id status) count }
+    ensures { result ≡ header_of device time.seconds time.microseconds (CaptureEvent.InCompletion pipe id status) count }
 {
     let endpoint = pipe.endpoint_id.0;
     let input = capture_record::is_odd(endpoint);
@@ -162,18 +161,17 @@ fn in_completion_header(
         status: in_status(status),
         length: count,
         delivered: if input { count } else { 0 },
-        ..blank(device, seconds, microseconds, id)
+        ..blank(device, time, id)
     }
 }
 
 fn control_submission_header(
     device: UsbDevice,
-    seconds: u32,
-    microseconds: u32,
+    time: CaptureTime,
     request: UsbRequest,
     count: u32,
 ) -> UsbHeader
-    ensures { result ≡ header_of device seconds microseconds (CaptureEvent.ControlSubmission request) count }
+    ensures { result ≡ header_of device time.seconds time.microseconds (CaptureEvent.ControlSubmission request) count }
 {
     let input = capture_record::to_host(request);
     UsbHeader {
@@ -185,21 +183,20 @@ fn control_submission_header(
         length: if input { request.length } else { 0 },
         delivered: if input { 0 } else { count },
         setup: setup_of(request),
-        ..blank(device, seconds, microseconds, request.address)
+        ..blank(device, time, request.address)
     }
 }
 
 // Of a control transfer that ended well.
 fn control_completion_header(
     device: UsbDevice,
-    seconds: u32,
-    microseconds: u32,
+    time: CaptureTime,
     to_host: bool,
     id: u64,
     length: u32,
     delivered: u32,
 ) -> UsbHeader
-    ensures { result ≡ usb_header device seconds microseconds id completion control (endpoint_zero to_host) without_setup (completion_flag to_host) 0 length delivered no_setup }
+    ensures { result ≡ usb_header device time.seconds time.microseconds id completion control (endpoint_zero to_host) without_setup (completion_flag to_host) 0 length delivered no_setup }
 {
     UsbHeader {
         event_type: capture_record::COMPLETION,
@@ -208,20 +205,19 @@ fn control_completion_header(
         data_flag: completion_flag(to_host),
         length,
         delivered,
-        ..blank(device, seconds, microseconds, id)
+        ..blank(device, time, id)
     }
 }
 
 fn control_error_header(
     device: UsbDevice,
-    seconds: u32,
-    microseconds: u32,
+    time: CaptureTime,
     to_host: bool,
     error: TransferError,
     request: UsbRequest,
     collected: u32,
 ) -> UsbHeader
-    ensures { result ≡ header_of device seconds microseconds (CaptureEvent.ControlError to_host error request collected) 0 }
+    ensures { result ≡ header_of device time.seconds time.microseconds (CaptureEvent.ControlError to_host error request collected) 0 }
 {
     UsbHeader {
         event_type: FAILURE,
@@ -232,59 +228,45 @@ fn control_error_header(
         status: error_status(error),
         length: collected,
         setup: setup_of(request),
-        ..blank(device, seconds, microseconds, request.address)
+        ..blank(device, time, request.address)
     }
 }
 
-fn trb_error_header(device: UsbDevice, seconds: u32, microseconds: u32, id: u64) -> UsbHeader
-    ensures { result ≡ header_of device seconds microseconds (CaptureEvent.TrbError id) 0 }
+fn trb_error_header(device: UsbDevice, time: CaptureTime, id: u64) -> UsbHeader
+    ensures { result ≡ header_of device time.seconds time.microseconds (CaptureEvent.TrbError id) 0 }
 {
     UsbHeader {
         event_type: FAILURE,
         transfer_type: capture_record::CONTROL,
         data_flag: ERROR_FLAG,
         status: TRB_ERROR_STATUS,
-        ..blank(device, seconds, microseconds, id)
+        ..blank(device, time, id)
     }
 }
 
 // The usbmon header of an event with a payload of `count` bytes; ports `log_packet`.
-pub fn header_of(
-    device: UsbDevice,
-    seconds: u32,
-    microseconds: u32,
-    event: CaptureEvent,
-    count: u32,
-) -> UsbHeader
-    ensures { result ≡ header_of device seconds microseconds event count }
+pub fn header_of(device: UsbDevice, time: CaptureTime, event: CaptureEvent, count: u32) -> UsbHeader
+    ensures { result ≡ header_of device time.seconds time.microseconds event count }
 {
     match event {
         CaptureEvent::InSubmission(pipe, id, length) => {
-            in_submission_header(device, seconds, microseconds, pipe, id, length)
+            in_submission_header(device, time, pipe, id, length)
         }
         CaptureEvent::InCompletion(pipe, id, status) => {
-            in_completion_header(device, seconds, microseconds, pipe, id, status, count)
+            in_completion_header(device, time, pipe, id, status, count)
         }
         CaptureEvent::ControlSubmission(request) => {
-            control_submission_header(device, seconds, microseconds, request, count)
+            control_submission_header(device, time, request, count)
         }
         CaptureEvent::ControlCompletionIn(id) => {
-            control_completion_header(device, seconds, microseconds, true, id, count, count)
+            control_completion_header(device, time, true, id, count, count)
         }
         CaptureEvent::ControlCompletionOut(id, length) => {
-            control_completion_header(device, seconds, microseconds, false, id, length, 0)
+            control_completion_header(device, time, false, id, length, 0)
         }
         CaptureEvent::ControlError(to_host, error, request, collected) => {
-            control_error_header(
-                device,
-                seconds,
-                microseconds,
-                to_host,
-                error,
-                request,
-                collected,
-            )
+            control_error_header(device, time, to_host, error, request, collected)
         }
-        CaptureEvent::TrbError(id) => trb_error_header(device, seconds, microseconds, id),
+        CaptureEvent::TrbError(id) => trb_error_header(device, time, id),
     }
 }

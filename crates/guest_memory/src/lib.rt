@@ -103,12 +103,7 @@ impl GuestMemory<'_> {
     pub fn regions(&self) -> Regions
         ensures { result ≡ regions_of (lent self.now) }
     {
-        guest_regions(
-            self.low_base,
-            self.low.len(),
-            self.high_base,
-            self.high.len(),
-        )
+        self.view().regions()
     }
 
     // Lent on to be read.

@@ -7,7 +7,7 @@ ghost use Rattle.capture_record.specs.Headers.{header_bytes};
 use capture_record::UsbHeader;
 
 // The 48 bytes of a header.
-pub fn header_bytes(header: UsbHeader) -> [u8; 48]
+pub fn header_bytes(header: UsbHeader) -> [u8; capture_file::USB_HEADER_LENGTH]
     ensures { result ≡ header_bytes header }
 {
     let setup = header.setup;

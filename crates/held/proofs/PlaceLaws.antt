@@ -19,23 +19,6 @@ pub blanked-none : (xs : List TransferTrb) → blanked 0 xs ≡ xs
 unfolding blanked
 blanked-none xs = refl
 
--- one more
-pub blanked-more : (xs : List TransferTrb) (i : ℕ) → i < length xs → set (blanked i xs) i blank_trb ≡ blanked (i + 1) xs
-unfolding blanked
-blanked-more xs i h =
-    let b : List TransferTrb = replicate i blank_trb in
-    rw (drop-cons xs i blank_trb h, set_at b (get_or xs i blank_trb) (drop (suc i) xs) blank_trb i (length-replicate i blank_trb))
-    (sym (append_assoc b (blank_trb ∷ []) (drop (suc i) xs))
-    ∙ ap (λ (l : List TransferTrb). l ++ drop (suc i) xs) (replicate-append-replicate i 1 blank_trb)
-    ∙ ap (λ (n : ℕ). replicate (i + 1) blank_trb ++ drop n xs) (sym (add-one i)))
-
--- the next place is as it was
-pub blanked-next : (xs : List TransferTrb) (i : ℕ) (d : TransferTrb) → i < length xs → get_or (blanked i xs) i d ≡ get_or xs i d
-unfolding blanked
-blanked-next [] i d h = absurd (not-suc-le-zero h)
-blanked-next (x ∷ xs) zero d h = refl
-blanked-next (x ∷ xs) (suc i) d h = blanked-next xs i d (omega arith)
-
 pub cleared-blanked : (n : ℕ) (xs : List TransferTrb) → n ≤ length xs → blanked n xs ≡ cleared n xs
 unfolding blanked cleared
 cleared-blanked n xs h =

@@ -33,7 +33,7 @@ pub struct TrbNumbers {
 
 // ---- From numbers
 
-// Is the bit of this weight on?
+// Is the bit of this weight on? By division, since the weight may be any number but 0: of one that is no power of two a mask says something else.
 pub fn bit(n: u8, weight: u8) -> bool
     requires { 0 < weight }
     ensures { result ≡ bit_of n weight }
@@ -42,55 +42,57 @@ pub fn bit(n: u8, weight: u8) -> bool
 }
 
 // The Normal TRB that these numbers are.
-pub fn normal(flags: u8, value: u64, transfer_length: u32) -> NormalTrb
-    ensures { result ≡ normal_of flags value transfer_length }
+pub fn normal(numbers: TrbNumbers) -> NormalTrb
+    ensures { result ≡ normal_of numbers.flags numbers.value numbers.transfer_length }
 {
     NormalTrb {
-        data_pointer: value,
-        transfer_length,
-        interrupt_on_short: bit(flags, 8),
-        chain: bit(flags, 2),
-        interrupt_on_completion: bit(flags, 4),
-        immediate_data: bit(flags, 16),
+        data_pointer: numbers.value,
+        transfer_length: numbers.transfer_length,
+        interrupt_on_short: bit(numbers.flags, 8),
+        chain: bit(numbers.flags, 2),
+        interrupt_on_completion: bit(numbers.flags, 4),
+        immediate_data: bit(numbers.flags, 16),
     }
 }
 
-fn setup_stage(flags: u8, value: u64) -> SetupStageTrb
-    ensures { result ≡ setup_stage_of flags value }
+// The Setup TRB that these numbers are.
+pub fn setup_stage(numbers: TrbNumbers) -> SetupStageTrb
+    ensures { result ≡ setup_stage_of numbers.flags numbers.value }
 {
+    let bytes = numbers.value;
     SetupStageTrb {
-        request_type: (value % 256) as u8,
-        request: (value / 256 % 256) as u8,
-        value: (value / 65536 % 65536) as u16,
-        index: (value / 4294967296 % 65536) as u16,
-        length: (value / 281474976710656 % 65536) as u16,
-        interrupt_on_completion: bit(flags, 4),
+        request_type: (bytes & 0xff) as u8,
+        request: (bytes >> 8 & 0xff) as u8,
+        value: (bytes >> 16 & 0xffff) as u16,
+        index: (bytes >> 32 & 0xffff) as u16,
+        length: (bytes >> 48) as u16,
+        interrupt_on_completion: bit(numbers.flags, 4),
     }
 }
 
 // The Data Stage TRB that these numbers are.
-pub fn data_stage(flags: u8, value: u64, transfer_length: u32) -> DataStageTrb
-    ensures { result ≡ data_stage_of flags value transfer_length }
+pub fn data_stage(numbers: TrbNumbers) -> DataStageTrb
+    ensures { result ≡ data_stage_of numbers.flags numbers.value numbers.transfer_length }
 {
     DataStageTrb {
-        data_pointer: value,
-        transfer_length,
-        chain: bit(flags, 2),
-        interrupt_on_completion: bit(flags, 4),
-        interrupt_on_short: bit(flags, 8),
-        immediate_data: bit(flags, 16),
-        direction: bit(flags, 32),
+        data_pointer: numbers.value,
+        transfer_length: numbers.transfer_length,
+        chain: bit(numbers.flags, 2),
+        interrupt_on_completion: bit(numbers.flags, 4),
+        interrupt_on_short: bit(numbers.flags, 8),
+        immediate_data: bit(numbers.flags, 16),
+        direction: bit(numbers.flags, 32),
     }
 }
 
 // The Event Data TRB that these numbers are.
-pub fn event_data(flags: u8, value: u64) -> EventDataTrb
-    ensures { result ≡ event_data_of flags value }
+pub fn event_data(numbers: TrbNumbers) -> EventDataTrb
+    ensures { result ≡ event_data_of numbers.flags numbers.value }
 {
     EventDataTrb {
-        event_data: value,
-        chain: bit(flags, 2),
-        interrupt_on_completion: bit(flags, 4),
+        event_data: numbers.value,
+        chain: bit(numbers.flags, 2),
+        interrupt_on_completion: bit(numbers.flags, 4),
     }
 }
 
@@ -105,23 +107,21 @@ pub fn no_op(flags: u8) -> NoOpTrb
 }
 
 #[tactic(auto, unfolding(crate::specs::Numbers::variant_of))]
-fn variant(kind: u8, flags: u8, value: u64, transfer_length: u32) -> TransferTrbVariant
-    ensures { result ≡ variant_of kind flags value transfer_length }
+fn variant(numbers: TrbNumbers) -> TransferTrbVariant
+    ensures { result ≡ variant_of numbers.kind numbers.flags numbers.value numbers.transfer_length }
 {
-    match kind {
-        raw_trb::NORMAL => TransferTrbVariant::Normal(normal(flags, value, transfer_length)),
-        raw_trb::SETUP_STAGE => TransferTrbVariant::SetupStage(setup_stage(flags, value)),
-        raw_trb::DATA_STAGE => {
-            TransferTrbVariant::DataStage(data_stage(flags, value, transfer_length))
-        }
+    match numbers.kind {
+        raw_trb::NORMAL => TransferTrbVariant::Normal(normal(numbers)),
+        raw_trb::SETUP_STAGE => TransferTrbVariant::SetupStage(setup_stage(numbers)),
+        raw_trb::DATA_STAGE => TransferTrbVariant::DataStage(data_stage(numbers)),
         raw_trb::STATUS_STAGE => TransferTrbVariant::StatusStage(StatusStageTrb {
-            chain: bit(flags, 2),
-            interrupt_on_completion: bit(flags, 4),
-            direction: bit(flags, 32),
+            chain: bit(numbers.flags, 2),
+            interrupt_on_completion: bit(numbers.flags, 4),
+            direction: bit(numbers.flags, 32),
         }),
         raw_trb::ISOCH => TransferTrbVariant::Isoch,
-        raw_trb::EVENT_DATA => TransferTrbVariant::EventData(event_data(flags, value)),
-        raw_trb::NO_OP => TransferTrbVariant::NoOp(no_op(flags)),
+        raw_trb::EVENT_DATA => TransferTrbVariant::EventData(event_data(numbers)),
+        raw_trb::NO_OP => TransferTrbVariant::NoOp(no_op(numbers.flags)),
         _ => TransferTrbVariant::Unrecognized,
     }
 }
@@ -131,12 +131,7 @@ pub fn trb_of(numbers: TrbNumbers) -> TransferTrb
     ensures { result ≡ trb_of numbers }
 {
     TransferTrb {
-        variant: variant(
-            numbers.kind,
-            numbers.flags,
-            numbers.value,
-            numbers.transfer_length,
-        ),
+        variant: variant(numbers),
         addr: numbers.addr,
         cycle_bit: bit(numbers.flags, 1),
     }

@@ -22,6 +22,7 @@ pub struct InBlock {
     pub slot_id: SlotId,
     pub mode: InMode,
     pub state: TdBasedNormalSubmissionState,
+    // Of the places, the first so many are held. Places and their count, with no heap: a script makes blocks that say any count, and question 2 asks for the bound.
     pub held: usize,
     pub trbs: [TransferTrb; trb::MAX_HELD],
 }
@@ -54,7 +55,7 @@ pub fn with_state(block: InBlock, state: TdBasedNormalSubmissionState) -> InBloc
     InBlock { state, ..block }
 }
 
-// One TRB more is held.
+// One TRB more is held. `control_block` has the same: what the two share is the store to a place, which is one line.
 pub fn store(block: InBlock, t: TransferTrb) -> InBlock
     requires { block.held < max_held }
     ensures { result ≡ stored block t }

@@ -2,7 +2,7 @@
 -- questions need. Assumes nothing.
 use Prim.Native.Nat.{ℕ, zero, suc, ◌+◌, ◌*◌, ◌%◌, ◌<◌, ◌≤◌}
 use mathlib.Core.Path.{◌≡◌, refl, sym, ap, ◌∙◌}
-use mathlib.Core.Bool.{Bool, true, false, cond}
+use mathlib.Core.Bool.{Bool, true, false, cond, not, ◌&&◌}
 use mathlib.Core.List.{List}
 use native.Mathlib.Nat.{zero-add}
 use native.Mathlib.Numerals.{add-one}
@@ -10,7 +10,8 @@ use native.Mathlib.Omega.{arith}
 use lib.Dec.{eqb}
 use lib.ListN.{length, take, drop, get_or, drop_of_length-le}
 use lib.Seq.{drop-cons, get_or-take, length-take-le}
-use borrow.Author.Tests.{le-leb}
+use borrow.Author.Tests.{le-leb, eq-eqb, ne_eqb}
+use Rattle.std.specs.List.{list_all, range_with_len}
 use Rattle.trb.specs.Limits.{max_held, max_transfer_length}
 use Rattle.held.specs.Places.{past_end}
 use Rattle.held.specs.Sound.{sound_trb}
@@ -88,6 +89,11 @@ requested-few b n h =
 
 -- ---- A loop over the first n places
 
+-- a Normal more: is the sum 0?
+one-more : (x : Bool) (rest : ℕ) → (not x && eqb rest 0) ≡ eqb (cond x 1 0 + rest) 0
+one-more true rest = sym (ne_eqb (1 + rest) 0 (λ e. omega (arith, e)))
+one-more false rest = ap (λ (x : ℕ). eqb x 0) (sym (zero-add rest))
+
 module _ (b : List ℕ) (n : ℕ) (few : n ≤ max_held) where
   -- the TRB that a turn reads, and the rest
   pub normals-turn : (i : ℕ) → i < n
@@ -101,10 +107,17 @@ module _ (b : List ℕ) (n : ℕ) (few : n ≤ max_held) where
       let len : length (take n (places b)) ≡ n = length-take-le n (places b) (few-places b n few) in
       ap normals (drop_of_length-le (take n (places b)) {i = i} (omega arith))
 
-  pub normals-some : (i : ℕ) → i < n → is_normal (place_of In (drop (head_length + place_length * i) b)).variant ≡ true
-      → normals (drop i (take n (places b))) ≡ 1 + normals (drop (i + 1) (take n (places b)))
-  normals-some i more e = normals-turn i more ∙ ap (λ (x : Bool). cond x 1 0 + normals (drop (i + 1) (take n (places b)))) e
+  -- is the TRB in place i no Normal?
+  abbrev pub other-at : ℕ → Bool
+  other-at i = not (is_normal (place_of In (drop (head_length + place_length * i) b)).variant)
 
-  pub normals-none : (i : ℕ) → i < n → is_normal (place_of In (drop (head_length + place_length * i) b)).variant ≡ false
-      → normals (drop i (take n (places b))) ≡ normals (drop (i + 1) (take n (places b)))
-  normals-none i more e = normals-turn i more ∙ ap (λ (x : Bool). cond x 1 0 + normals (drop (i + 1) (take n (places b)))) e ∙ zero-add _
+  none-from : (k i : ℕ) → i + k ≡ n → list_all other-at (range_with_len i k) ≡ eqb (normals (drop i (take n (places b)))) 0
+  none-from zero i e = sym (eq-eqb _ _ (normals-end i (omega arith)))
+  none-from (suc k) i e =
+      let at : Bool = is_normal (place_of In (drop (head_length + place_length * i) b)).variant in
+      let rest : ℕ = normals (drop (i + 1) (take n (places b))) in
+      ap (λ (x : Bool). other-at i && x) (none-from k (i + 1) (omega arith)) ∙ one-more at rest ∙ ap (λ (x : ℕ). eqb x 0) (sym (normals-turn i (omega arith)))
+
+  -- none of the n is a Normal
+  pub none-normal : list_all other-at (range_with_len 0 n) ≡ eqb (normals (take n (places b))) 0
+  none-normal = none-from n 0 (zero-add n)

@@ -2,7 +2,7 @@
 // bytes are.
 #![tactic(auto)]
 
-ghost use Rattle.std.specs.Prelude.{◌≡◌, true, cond, [], ◌∷◌, ◌+◌, ◌*◌, ◌<◌, ◌≤◌, ◌%◌, ◌/◌, eqb, length, drop, take, set, replicate};
+ghost use Rattle.std.specs.Prelude.{◌≡◌, true, cond, [], ◌∷◌, ◌+◌, ◌*◌, ◌≤◌, ◌%◌, ◌/◌, eqb, length, drop, take, set, replicate};
 ghost use Rattle.trb.specs.Limits.{max_held, max_transfer_length};
 ghost use Rattle.buffers.specs.Patch.{patch};
 ghost use Rattle.buffers.specs.LittleEndian.{le_bytes, le_field};
@@ -88,15 +88,13 @@ pub fn state_of(number: u8, addr: u64) -> TdBasedNormalSubmissionState
 }
 
 #[tactic(auto, unfolding(held_bytes::specs::Numbers::variant_of))]
-fn held_variant(kind: u8, flags: u8, value: u64, transfer_length: u32) -> TransferTrbVariant
-    ensures { result ≡ variant_of (held_type In kind) flags value transfer_length }
+fn held_variant(numbers: TrbNumbers) -> TransferTrbVariant
+    ensures { result ≡ variant_of (held_type In numbers.kind) numbers.flags numbers.value numbers.transfer_length }
 {
-    match kind {
-        raw_trb::NORMAL => {
-            TransferTrbVariant::Normal(held_bytes::normal(flags, value, transfer_length))
-        }
-        raw_trb::EVENT_DATA => TransferTrbVariant::EventData(held_bytes::event_data(flags, value)),
-        _ => TransferTrbVariant::NoOp(held_bytes::no_op(flags)),
+    match numbers.kind {
+        raw_trb::NORMAL => TransferTrbVariant::Normal(held_bytes::normal(numbers)),
+        raw_trb::EVENT_DATA => TransferTrbVariant::EventData(held_bytes::event_data(numbers)),
+        _ => TransferTrbVariant::NoOp(held_bytes::no_op(numbers.flags)),
     }
 }
 
@@ -107,12 +105,7 @@ pub fn trb_from(block: &[u8], at: usize) -> TransferTrb
 {
     let numbers = held_bytes::numbers_at(block, at);
     TransferTrb {
-        variant: held_variant(
-            numbers.kind,
-            numbers.flags,
-            numbers.value,
-            numbers.transfer_length,
-        ),
+        variant: held_variant(numbers),
         addr: numbers.addr,
         cycle_bit: held_bytes::bit(numbers.flags, 1),
     }
@@ -147,12 +140,7 @@ fn no_normal(block: &[u8], held: usize) -> bool
     requires { (held ≤ max_held) × (block_length ≤ length block.now) }
     ensures { result ≡ eqb (normals (take held (places block.now))) 0 }
 {
-    for i in 0..held {
-        if normal_at(block, i) {
-            return false;
-        }
-    }
-    true
+    (0..held).all(|i| !normal_at(block, i))
 }
 
 // 0 where none of the first `held` TRBs is a Normal, else 1. Where this is not asked, 0 without a look.
@@ -163,7 +151,8 @@ pub fn normals_seen(asked: bool, block: &[u8], held: usize) -> usize
     (asked && !no_normal(block, held)) as usize
 }
 
-// How many of the first `held` TRBs are Normals.
+// How many of the first `held` TRBs are Normals. A place is 24 bytes, and no element of a slice: so this loop and the next go over its
+// number.
 pub fn count_normals(block: &[u8], held: usize) -> usize
     requires { (held ≤ max_held) × (block_length ≤ length block.now) }
     ensures { result ≡ normals (take held (places block.now)) }
@@ -201,7 +190,8 @@ pub fn requested_length(block: &[u8], held: usize) -> u32
 
 // ---- Storing
 
-// Stores the numbers of a TRB in place number i.
+// Stores the numbers of a TRB in place number i. Of a control block this is `control_bytes::put_trb`: what both store is `put_place`'s, and what they promise is
+// of two layouts.
 pub fn put_trb(block: &mut [u8], i: usize, numbers: TrbNumbers)
     requires { head_length + place_length * (i + 1) ≤ length block.old }
     ensures { block.new ≡ patch block.old (head_length + place_length * i) (place_bytes numbers) }
@@ -214,8 +204,9 @@ pub fn put_head(block: &mut [u8], state: u8, held: u16)
     requires { head_length ≤ length block.old }
     ensures { block.new ≡ set (set (set block.old 4 (held % 256)) 5 (held / 256)) 6 state }
 {
-    block[4] = (held % 256) as u8;
-    block[5] = (held / 256) as u8;
+    let [low, high] = held.to_le_bytes();
+    block[4] = low;
+    block[5] = high;
     block[6] = state;
 }
 

@@ -32,7 +32,6 @@ use Rattle.in_endpoint.specs.Completion.{completion}
 use Rattle.in_endpoint.specs.Returned.{Created}
 use Rattle.in_endpoint.specs.Returned.{Submitted}
 use Rattle.in_endpoint.specs.Returned.{Completed}
-use Rattle.row_walk.specs.declared.TdResult.{TdResult}
 use Rattle.in_row.specs.Completion.{row_completion}
 use Rattle.in_row.specs.declared.TdsCompleted.{TdsCompleted}
 use Rattle.state_text.specs.Widths.{max_state, max_answer}
@@ -40,6 +39,7 @@ use Rattle.call_answer.specs.Called.{Said, bad_said, silent_said, Called, called
 use Rattle.in_block.specs.Blocks.{stored}
 use Rattle.in_block.specs.declared.InBlock.{InBlock}
 use Rattle.call_answer.specs.declared.Ran.{Ran}
+use Rattle.in_calls.specs.declared.Row.{Row}
 use Rattle.in_calls.specs.Calls.{answered, created, submitted, completed, row_completed, create_call, submit_call, complete_call, row_call, cancel_call, hold_call, result_call, in_call, Stated}
 
 -- a call that prints nothing
@@ -73,12 +73,12 @@ module _ {log log' : List ℕ} {t t' t'' : Text} {r : Ran InBlock} (b : InBlock)
   runs-completed x bytes met w st =
       runs-met (λ c l. completed c l bytes m) met (record { says = says-answered (lit≤ tt) w.text st; log = refl; memory = w.after })
 
-  pub runs-row : {c : TdsCompleted} {m' : Memory} (ts : List TransferTrb) (k : ℕ) (rs : List TdResult) (n : ℕ) (bytes : List ℕ)
-      → Meets (row_completion (length log) b k (take k ts) n (take n rs) (length bytes) (regions_of m)) 0 log c log'
+  pub runs-row : {c : TdsCompleted} {m' : Memory} (row : Row) (bytes : List ℕ)
+      → Meets (row_completion (length log) b row.count (take row.count row.trbs) row.tds (take row.tds row.results) (length bytes) (regions_of m)) 0 log c log'
       → RowAnswered c.answer c.finished c.records log' bytes m t t' m' → Stated c.block c.records t' r t''
-      → Runs (row_call b ts k rs n bytes log m) t r t'' log' m'
+      → Runs (row_call b row bytes log m) t r t'' log' m'
   unfolding row_call
-  runs-row ts k rs n bytes met w st =
+  runs-row row bytes met w st =
       runs-met (λ c l. row_completed c l bytes m) met (record { says = says-answered (lit≤ tt) w.text st; log = refl; memory = w.after })
 
 module _ {t t' t'' : Text} {r : Ran InBlock} where

@@ -28,10 +28,10 @@ use Rattle.in_endpoint.specs.Completion.{completion}
 use Rattle.in_endpoint.specs.Returned.{Created}
 use Rattle.in_endpoint.specs.Returned.{Submitted}
 use Rattle.in_endpoint.specs.Returned.{Completed}
-use Rattle.row_walk.specs.declared.TdResult.{TdResult}
 use Rattle.in_row.specs.Completion.{row_completion}
 use Rattle.in_row.specs.declared.TdsCompleted.{TdsCompleted}
 use Rattle.call_answer.specs.declared.Ran.{Ran}
+use Rattle.in_calls.specs.declared.Row.{Row}
 
 -- `st in STATE HELD`
 abbrev pub state_line : InBlock → List ℕ
@@ -75,10 +75,10 @@ submit_call b t log m = let o = submission (length log) b t (regions_of m) in su
 unfoldable pub complete_call : InBlock → Option InTrbProcessingStatus → List ℕ → List ℕ → Memory → Called InBlock
 complete_call b r bytes log m = let o = completion (length log) b r (length bytes) in completed o.state (logged log 0 o.records) bytes m
 
--- `r`: of the first k TRBs of ts, with the first n results of rs and these bytes
-unfoldable pub row_call : InBlock → List TransferTrb → ℕ → List TdResult → ℕ → List ℕ → List ℕ → Memory → Called InBlock
-row_call b ts k rs n bytes log m =
-    let o = row_completion (length log) b k (take k ts) n (take n rs) (length bytes) (regions_of m) in
+-- `r`: of as many TRBs and results of a row as it has, with these bytes
+unfoldable pub row_call : InBlock → Row → List ℕ → List ℕ → Memory → Called InBlock
+row_call b row bytes log m =
+    let o = row_completion (length log) b row.count (take row.count row.trbs) row.tds (take row.tds row.results) (length bytes) (regions_of m) in
     row_completed o.state (logged log 0 o.records) bytes m
 
 -- `x`

@@ -7,7 +7,7 @@ ghost use Rattle.text.specs.Wrote.{HasRoom};
 ghost use Rattle.state_text.specs.Widths.{max_state, max_answer};
 ghost use Rattle.guest_memory.specs.Lent.{seen, lent, SameRegions};
 ghost use Rattle.in_block.specs.Blocks.{with_state};
-ghost use Rattle.call_answer.specs.Called.{bad_said, silent_said, ran_of, Says, Runs};
+ghost use Rattle.call_answer.specs.Called.{silent_said, ran_of, Says, Runs};
 ghost use Rattle.in_calls.specs.Calls.{create_call, submit_call, complete_call, row_call, cancel_call, hold_call, result_of, result_call, in_call, Stated};
 
 use call_answer::Ran;
@@ -17,9 +17,17 @@ use in_block::InBlock;
 use in_td::InMode;
 use row_walk::TdResult;
 use text::Text;
-use trb::{
-    Answer, EndpointId, InTrbProcessingStatus, SlotId, TdBasedNormalSubmissionState, TransferTrb,
-};
+use trb::{EndpointId, InTrbProcessingStatus, SlotId, TdBasedNormalSubmissionState, TransferTrb};
+
+// A row that was written down: TRBs and results, and how many there are of each. A count stands beside its places, and is no slice's length: without a heap
+// the places are fixed memory, and a row of more TRBs than they hold is refused by its count.
+#[derive(Clone, Copy)]
+pub struct Row {
+    pub trbs: [TransferTrb; trb::MAX_ROW],
+    pub count: usize,
+    pub results: [TdResult; trb::MAX_ROW],
+    pub tds: usize,
+}
 
 // Writes the state line, behind the answer of a call that logged so many records.
 fn answered(text: &mut Text<'_>, block: InBlock, records: usize) -> Ran<InBlock>
@@ -139,30 +147,27 @@ fn make_up(block: InBlock, state: TdBasedNormalSubmissionState) -> Ran<InBlock>
     call_answer::silent(in_block::with_state(block, state))
 }
 
-// A row of so many TRBs, with so many results; of the device's data so many bytes are given, if there are as many.
+// Completes the TDs of a row.
 pub fn complete_row(
     text: &mut Text<'_>,
     log: &mut [u8],
     block: InBlock,
-    row: [TransferTrb; trb::MAX_ROW],
-    count: usize,
-    results: [TdResult; trb::MAX_ROW],
-    tds: usize,
+    row: Row,
     data: &[u8],
     memory: &mut GuestMemory<'_>,
 ) -> Ran<InBlock>
     requires has_room { HasRoom max_answer text.old }
     requires log_len_bound { length log.old ≤ min_row_log }
-    ensures answer { Runs (row_call block row count results tds «data».now log.old (lent memory.old)) text.old result text.new log.new (lent memory.new) }
+    ensures answer { Runs (row_call block row «data».now log.old (lent memory.old)) text.old result text.new log.new (lent memory.new) }
     ensures same { SameRegions memory.old memory.new }
 {
     let completed = in_row::complete_tds(
         log,
         block,
-        row,
-        count,
-        results,
-        tds,
+        row.trbs,
+        row.count,
+        row.results,
+        row.tds,
         &memory.view(),
         data,
     );

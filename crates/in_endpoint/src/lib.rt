@@ -62,10 +62,8 @@ pub fn report_unsupported(log: &mut [u8], addr: u64, endpoint_id: EndpointId, sl
 pub fn completion_answer(asked: Answer, res: TrbProcessingResult) -> CompletionAnswer
     ensures { result ≡ completion_answer asked res }
 {
-    match asked {
-        Ok(()) => Ok(res),
-        Err(refusal) => Err(refusal),
-    }
+    asked?;
+    Ok(res)
 }
 
 // ---- Cancel

@@ -10,7 +10,7 @@ ghost use Rattle.trb.specs.Trbs.{chain_of};
 ghost use Rattle.in_block.specs.Outcomes.{outcome_of};
 ghost use Rattle.in_block.specs.declared.Outcome.TheVariants.{Collect, CompleteLocally, Request};
 ghost use Rattle.in_questions.specs.Questions.{trb_questions, submission_questions};
-ghost use Rattle.held_bytes.specs.Numbers.{normal_of, variant_of, trb_of};
+ghost use Rattle.held_bytes.specs.Numbers.{normal_of, trb_of};
 ghost use Rattle.trb.specs.declared.TransferTrbVariant.TheVariants.{Normal};
 
 use guest_memory::Regions;
@@ -20,45 +20,32 @@ use trb::{Answer, Refusal};
 
 // Questions 4, 21, 5 and 6, of a Normal behind `held` others.
 #[tactic(auto, unfolding(trb::specs::Questions::first_no))]
-pub fn ask_of_normal(
-    held: usize,
-    flags: u8,
-    value: u64,
-    transfer_length: u32,
-    regions: Regions,
-) -> Answer
+pub fn ask_of_normal(held: usize, numbers: TrbNumbers, regions: Regions) -> Answer
     requires { held ≤ max_held }
-    ensures { number_of result ≡ first_no (trb_questions held (Normal (normal_of flags value transfer_length)) regions) }
+    ensures { number_of result ≡ first_no (trb_questions held (Normal (normal_of numbers.flags numbers.value numbers.transfer_length)) regions) }
 {
     trb::ask(
-        transfer_length <= trb::MAX_TRANSFER_LENGTH,
+        numbers.transfer_length <= trb::MAX_TRANSFER_LENGTH,
         Refusal::TransferTooLong,
     )?;
-    trb::ask(!held_bytes::bit(flags, 16), Refusal::ImmediateInput)?;
+    trb::ask(!held_bytes::bit(numbers.flags, 16), Refusal::ImmediateInput)?;
     trb::ask(held < trb::MAX_HELD, Refusal::TooManyHeld)?;
     trb::ask(
-        guest_memory::range_inside(regions, value, transfer_length),
+        guest_memory::range_inside(regions, numbers.value, numbers.transfer_length),
         Refusal::OutsideGuestMemory,
     )
 }
 
 // Questions 4, 21, 5 and 6, of a TRB behind `held` others. Of any other than a Normal or Data Stage there is no length to ask about.
 #[tactic(auto, unfolding(held_bytes::specs::Numbers::variant_of, trb::specs::Questions::first_no))]
-fn ask_of_trb(
-    held: usize,
-    kind: u8,
-    flags: u8,
-    value: u64,
-    transfer_length: u32,
-    regions: Regions,
-) -> Answer
+fn ask_of_trb(held: usize, numbers: TrbNumbers, regions: Regions) -> Answer
     requires { held ≤ max_held }
-    ensures { number_of result ≡ first_no (trb_questions held (variant_of kind flags value transfer_length) regions) }
+    ensures { number_of result ≡ first_no (trb_questions held (trb_of numbers).variant regions) }
 {
-    match kind {
-        raw_trb::NORMAL => ask_of_normal(held, flags, value, transfer_length, regions),
+    match numbers.kind {
+        raw_trb::NORMAL => ask_of_normal(held, numbers, regions),
         raw_trb::DATA_STAGE => trb::ask(
-            transfer_length <= trb::MAX_TRANSFER_LENGTH,
+            numbers.transfer_length <= trb::MAX_TRANSFER_LENGTH,
             Refusal::TransferTooLong,
         ),
         raw_trb::EVENT_DATA | raw_trb::NO_OP => {
@@ -85,14 +72,7 @@ pub fn ask_submission(
     )?;
     trb::ask(in_block::is_sound(facts), Refusal::UnsoundBlock)?;
     trb::ask(in_block::submission_due(facts.state), Refusal::OutOfTurn)?;
-    ask_of_trb(
-        facts.held,
-        numbers.kind,
-        numbers.flags,
-        numbers.value,
-        numbers.transfer_length,
-        regions,
-    )
+    ask_of_trb(facts.held, numbers, regions)
 }
 
 // ---- What becomes of the TRB

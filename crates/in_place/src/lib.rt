@@ -3,15 +3,14 @@
 #![tactic(auto)]
 
 ghost use Rattle.std.specs.Prelude.{◌≡◌, true, ◌≤◌, length};
+ghost use Rattle.trb.specs.Answers.{number_of};
 ghost use Rattle.in_bytes.specs.Layout.{block_length, mode_of};
 ghost use Rattle.in_place_questions.specs.Lent.{lent_log};
 ghost use Rattle.in_place.specs.InPlace.{CreatesInPlace, CancelsInPlace, CompletesInPlace, GoesOn, result_of};
 
 use answer_numbers::CompletionAnswered;
 use in_block::Ending;
-use trb::{
-    CompletionAnswer, EndpointId, InTrbProcessingStatus, Refusal, SlotId, TrbProcessingResult,
-};
+use trb::{Answer, EndpointId, InTrbProcessingStatus, Refusal, SlotId, TrbProcessingResult};
 
 // ---- Completion
 
@@ -99,31 +98,26 @@ pub fn next_completion(
 
 // ---- Creation and cancel
 
-// The bytes become a fresh block for this endpoint of this slot; mode 0 as ported, any other strict. Answers 0, or 12 with both ids 0, or 1
-// where the bytes are too few for a block.
-pub fn create(block: &mut [u8], endpoint_id: u8, slot_id: u8, mode: u8) -> u32
-    ensures { CreatesInPlace (record { 0 = endpoint_id }) (record { 0 = slot_id }) (mode_of mode) block.old result block.new }
+// The bytes become a fresh block for this endpoint of this slot; mode 0 as ported, any other strict. Where an id is refused, both are 0; where the
+// bytes are too few for a block, they stay.
+pub fn create(block: &mut [u8], endpoint_id: u8, slot_id: u8, mode: u8) -> Answer
+    ensures { CreatesInPlace (record { 0 = endpoint_id }) (record { 0 = slot_id }) (mode_of mode) block.old (number_of result) block.new }
 {
-    if block.len() < in_bytes::BLOCK {
-        return 1;
-    }
+    trb::ask(in_bytes::BLOCK <= block.len(), Refusal::BufferTooShort)?;
     if trb::ids_in_range(EndpointId(endpoint_id), SlotId(slot_id)) {
         in_place_store::make(block, endpoint_id, slot_id, mode);
-        return 0;
+        return Ok(());
     }
     in_place_store::make(block, 0, 0, mode);
-    12
+    Err(Refusal::IdOutOfRange)
 }
 
-// Nothing is held any more, whatever the block held, and a submission is due; ports `cancel`. Answers 0, or 1 where the bytes are too few for
-// a block.
-pub fn cancel(block: &mut [u8]) -> u32
-    ensures { CancelsInPlace block.old result block.new }
+// Nothing is held any more, whatever the block held, and a submission is due; ports `cancel`. Bytes that are too few for a block stay.
+pub fn cancel(block: &mut [u8]) -> Answer
+    ensures { CancelsInPlace block.old (number_of result) block.new }
 {
-    if block.len() < in_bytes::BLOCK {
-        return 1;
-    }
+    trb::ask(in_bytes::BLOCK <= block.len(), Refusal::BufferTooShort)?;
     let held = buffers::le16(block, 4);
     in_place_store::free(block, held);
-    0
+    Ok(())
 }

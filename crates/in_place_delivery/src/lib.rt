@@ -15,7 +15,7 @@ ghost use Rattle.in_place_delivery.specs.Delivering.{DeliversInPlace};
 
 use answer_numbers::CompletionAnswered;
 use guest_memory::{GuestMemory, Regions};
-use trb::{Answer, CompletionAnswer, InTrbProcessingStatus, Refusal, TrbProcessingResult};
+use trb::{Answer, InTrbProcessingStatus, Refusal, TrbProcessingResult};
 
 // Question 11, of the first `held` places: do their writes lie in one of the regions each, where the device has given so many bytes?
 fn writes_inside(block: &[u8], held: usize, given: u32, regions: Regions) -> bool
@@ -23,6 +23,7 @@ fn writes_inside(block: &[u8], held: usize, given: u32, regions: Regions) -> boo
     ensures { result ≡ writes_inside regions given (take held (places block.now)) }
 {
     let mut left = given;
+    // A loop that a no ends, as in `delivery`; an index, since a place is read by its number in the block's bytes.
     for i in 0..held {
         let one = in_bytes::trb_at(block, i);
         let count = delivery::bytes_taken(one.variant, left);

@@ -1,4 +1,3 @@
-pub mod LookLaws
 pub mod TakenLaws
 pub mod KeptLaws
 pub mod CallLaws

@@ -1,17 +1,14 @@
 -- A row of TDs in place: by the definitions of the row by value (in_row), of the block, the row and the results that the bytes are. Assumes
 -- nothing.
-use Rattle.std.specs.Prelude.{ℕ, ◌+◌, ◌≤◌, ◌≡◌, Bool, true, false, cond, List, eqb, length, drop, get_or, Ok}
+use Rattle.std.specs.Prelude.{ℕ, ◌+◌, ◌≤◌, ◌≡◌, Bool, true, false, cond, List, eqb, length, get_or, Ok}
 use Rattle.trb.specs.Limits.{max_transfer_length}
 use Rattle.trb.specs.Questions.{first_no}
 use Rattle.trb.specs.Answers.{CompletionAnswer}
-use Rattle.trb.specs.declared.TransferTrb.{TransferTrb}
 use Rattle.buffers.specs.LittleEndian.{le_field}
 use Rattle.call_log.specs.Calls.{Out, Meets}
 use Rattle.call_log.specs.Logs.{records_in}
 use Rattle.guest_memory.specs.Places.{range_inside}
 use Rattle.guest_memory.specs.declared.Regions.{Regions}
-use Rattle.in_td.specs.Normals.{requested}
-use Rattle.in_td.specs.Td.{normals}
 use Rattle.in_block.specs.Facts.{facts_of}
 use Rattle.raw_trb.specs.Layouts.{normal_type}
 use Rattle.held_bytes.specs.Numbers.{chain_on, immediate_on}
@@ -19,20 +16,12 @@ use Rattle.answer_numbers.specs.Numbers.{completion_answered}
 use Rattle.in_bytes.specs.Layout.{block_of}
 use Rattle.row_walk.specs.Accounts.{RowAccounted}
 use Rattle.row_walk.specs.Rows.{row_tds}
-use Rattle.row_walk.specs.Tds.{first_td}
 use Rattle.row_questions.specs.Questions.{row_questions}
 use Rattle.row_questions.specs.declared.RowTest.{RowTest}
 use Rattle.in_row.specs.Completion.{row_completion}
 use Rattle.in_row.specs.declared.TdsCompleted.{TdsCompleted}
 use Rattle.row_bytes.specs.Layout.{trbs_in, results_in, row_count}
 use Rattle.in_place_row.specs.declared.RowAnswered.{RowAnswered}
-use Rattle.in_place_row.specs.declared.TdLooked.{TdLooked}
-
--- the TD whose first TRB has this index: S, its Normals, and the index behind its last TRB
-abbrev pub looked_at : List TransferTrb → ℕ → TdLooked
-looked_at ts first =
-    let td : List TransferTrb = first_td (drop first ts) in
-    record { asked = record { length = requested td; normals = normals td }; end = first + length td }
 
 -- ---- A TRB of the row
 

@@ -14,22 +14,22 @@ ghost use Rattle.held.specs.declared.EndpointKind.TheVariants.{In};
 ghost use Rattle.held_bytes.specs.Places.{place_length, places_of};
 ghost use Rattle.in_bytes.specs.Layout.{block_length, block_of};
 ghost use Rattle.in_place_questions.specs.Lent.{lent_log};
-ghost use Rattle.row_walk.specs.Rows.{past_results, process_row, Walkable};
+ghost use Rattle.row_walk.specs.Rows.{looked_at, past_results, process_row, Walkable};
 ghost use Rattle.row_walk.specs.Tds.{endsTd};
 ghost use Rattle.row_questions.specs.Questions.{row_questions};
 ghost use Rattle.row_questions.specs.Tests.{untested, tested_trb, tested_row};
 ghost use Rattle.row_bytes.specs.Layout.{trbs_in, results_in, row_count};
-ghost use Rattle.in_place_row.specs.InPlaceRow.{looked_at, Taken, with_normal, row_answered, CompletesTdsInPlace};
+ghost use Rattle.in_place_row.specs.InPlaceRow.{Taken, with_normal, row_answered, CompletesTdsInPlace};
 
 use guest_memory::Regions;
 use in_td::InMode;
 use row_questions::RowTest;
-use row_walk::{RowProgress, TdAsk};
+use row_walk::{RowProgress, TdLooked};
 use trb::{Answer, CompletionAnswer, EndpointId, Refusal, SlotId, TrbProcessingResult};
 
-// A number with the values beside it, since C reads it.
 // What a row answers: the number of the question that said no, or 0; the failing result, else Ok (0 Ok, 1 Stall, 2 transaction error, 3
 // disconnect), with its completion code; whether it carries an address and a cycle bit, and these; TDs finished well; records logged.
+// A number with the values beside it, since C reads it.
 #[repr(C)]
 #[derive(Clone, Copy)]
 pub struct RowAnswered {
@@ -44,13 +44,6 @@ pub struct RowAnswered {
 }
 
 // ---- The walk
-
-// A TD of the row: what it asks of the device, and the index behind its last TRB.
-#[derive(Clone, Copy)]
-struct TdLooked {
-    asked: TdAsk,
-    end: usize,
-}
 
 // Looks at the TD whose first TRB has this index.
 fn look_at_td(row: &[u8], first: usize) -> TdLooked
@@ -85,6 +78,7 @@ fn walk_row(
     let tds = row_bytes::result_count(results);
     let mut so_far = row_walk::at_start_of_row();
     let mut first = 0;
+    // An index: a result is read by its number where it lies in the lent bytes, and so is a TRB below.
     for i in 0..tds {
         let given = row_bytes::result_at(results, i);
         let TdLooked { asked, end } = look_at_td(row, first);

@@ -17,7 +17,7 @@ use answer_numbers::Answered;
 use guest_memory::Regions;
 use held_bytes::TrbNumbers;
 use in_block::{HeldTest, Outcome};
-use trb::{Answer, Refusal};
+use trb::Refusal;
 
 // What becomes of a TRB behind the first `held`. Only at the end of a TD it is asked whether that has a Normal.
 fn outcome_of(block: &[u8], held: usize, numbers: TrbNumbers) -> Outcome
@@ -111,13 +111,7 @@ fn is_collected(log_length: usize, block: &[u8], numbers: TrbNumbers, regions: R
         return false;
     }
     let held = buffers::le16(block, 4) as usize;
-    let answer = in_numbers::ask_of_normal(
-        held,
-        numbers.flags,
-        numbers.value,
-        numbers.transfer_length,
-        regions,
-    );
+    let answer = in_numbers::ask_of_normal(held, numbers, regions);
     answer.is_ok()
 }
 

@@ -5,7 +5,7 @@ ghost use Rattle.std.specs.Prelude.{◌≡◌, ◌≤◌};
 ghost use Rattle.trb.specs.Answers.{number_of};
 ghost use Rattle.trb.specs.Limits.{max_held};
 ghost use Rattle.trb.specs.Questions.{first_no};
-ghost use Rattle.in_questions.specs.Questions.{trb_questions, submission_questions, is_given, completion_questions};
+ghost use Rattle.in_questions.specs.Questions.{trb_questions, submission_questions, completion_questions};
 
 use guest_memory::Regions;
 use held::EndpointKind;

@@ -55,10 +55,8 @@ pub fn complete_tds(
         block.endpoint_id,
         block.slot_id,
         block.mode,
-        row,
-        count,
-        results,
-        tds,
+        &row[..count],
+        &results[..tds],
     );
     TdsCompleted {
         answer: in_endpoint::completion_answer(asked, walked.result),

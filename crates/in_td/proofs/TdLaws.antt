@@ -2,7 +2,6 @@
 use Prim.Native.Nat.{ℕ, ◌-◌}
 use mathlib.Core.Path.{◌≡◌, ap, ◌∙◌}
 use mathlib.Core.Bool.{Bool, true, false, cond}
-use mathlib.Core.List.{List}
 use Rattle.trb.specs.declared.CompletionCode.{CompletionCode}
 use Rattle.trb.specs.declared.CompletionCode.TheVariants.{Success, ShortPacket, StallError, UsbTransactionError}
 use Rattle.trb.specs.declared.InTrbProcessingStatus.{InTrbProcessingStatus}
@@ -13,7 +12,7 @@ use Rattle.trb.specs.declared.TransferTrbVariant.{TransferTrbVariant}
 use Rattle.trb.specs.declared.TransferTrbVariant.TheVariants.{SetupStage, DataStage, StatusStage, Normal, EventData, NoOp, Isoch, Unrecognized}
 use Rattle.trb.specs.declared.TrbProcessingResult.{TrbProcessingResult}
 use Rattle.trb.specs.declared.TrbProcessingResult.TheVariants as result
-use Rattle.call_log.specs.Calls.{Out, silent, Meets}
+use Rattle.call_log.specs.Calls.{Out, silent}
 use Rattle.td_part.specs.declared.TdProcessingState.{TdProcessingState}
 use Rattle.td_part.specs.declared.TdProcessingState.TheVariants.{Default, ShortTransfer}
 use Rattle.td_part.specs.declared.TdProgress.{TdProgress}
@@ -22,18 +21,9 @@ use Rattle.td_part.proofs.PartLaws as parts
 use Rattle.walks.proofs.WalkLaws.{Walker, Fine}
 use Rattle.in_td.specs.declared.InTd.{InTd}
 use Rattle.in_td.specs.declared.TdProcessed.{TdProcessed}
-use Rattle.in_td.specs.Td.{going_on, goes_on, ends_with, ending_normal, is_done, normal_by_state, handle_normal, trb_by_kind, process_trb, ended}
+use Rattle.in_td.specs.Td.{goes_on, ends_with, ending_normal, is_done, normal_by_state, handle_normal, trb_by_kind, process_trb, ended}
 
 -- ---- Cases
-
--- a TRB after which processing goes on
-pub meets-goes_on : {left : ℕ} {o : Out TdProgress} {k : ℕ} {l l' : List ℕ} {w : TdProgress} {r : TdProcessed} → Meets o k l w l' → r ≡ going_on left w
-    → Meets (goes_on left o) k l r l'
-meets-goes_on {left} m e = record { state = e ∙ ap (going_on left) m.state; log = m.log; fits = m.fits }
-
-pub ending-by : (td : InTd) (left : ℕ) (w : TdProgress) (n : NormalTrb) (a : ℕ) (cycle : Bool) {st : InTrbProcessingStatus} → td.status ≡ st
-    → ending_normal td.status td.info left w n a cycle ≡ ending_normal st td.info left w n a cycle
-ending-by td left w n a cycle e = ap (λ (st : InTrbProcessingStatus). ending_normal st td.info left w n a cycle) e
 
 module _ (td : InTd) (p : TdProcessed) (n : NormalTrb) (a : ℕ) (cycle : Bool) where
   abbrev residual : ℕ
@@ -46,10 +36,6 @@ module _ (td : InTd) (p : TdProcessed) (n : NormalTrb) (a : ℕ) (cycle : Bool) 
   pub normal-done : p.progress.state ≡ Default → is_done td p.normals_left residual ≡ true
       → handle_normal td p n a cycle ≡ goes_on (p.normals_left - 1) (realize_dma td.info p.progress (of_normal n a))
   normal-done e d = normal-in-state e ∙ rw d
-
-  pub normal-ending : p.progress.state ≡ Default → is_done td p.normals_left residual ≡ false
-      → handle_normal td p n a cycle ≡ ending_normal td.status td.info (p.normals_left - 1) p.progress n a cycle
-  normal-ending e d = normal-in-state e ∙ rw d
 
 pub trb-by : (td : InTd) (p : TdProcessed) (t : TransferTrb) {x : TransferTrbVariant} → t.variant ≡ x
     → process_trb td p t ≡ trb_by_kind x td p t.addr t.cycle_bit

@@ -45,10 +45,9 @@ pub fn going_on(normals_left: usize, progress: TdProgress) -> TdProcessed
 fn fails_at_last(mode: InMode, status: InTrbProcessingStatus, normals_left: usize) -> bool
     ensures { result ≡ fails_at_last mode status normals_left }
 {
-    match mode {
-        InMode::AsPorted => false,
-        InMode::Strict => { normals_left == 1 && !matches!(status, InTrbProcessingStatus::Success) }
-    }
+    matches!(mode, InMode::Strict)
+        && normals_left == 1
+        && !matches!(status, InTrbProcessingStatus::Success)
 }
 
 // Is a Normal full, and the transfer not failed at it?

@@ -15,7 +15,8 @@ pub fn read_full<R: Read>(reader: &mut R, buffer: &mut [u8]) -> io::Result<usize
     ensures end { IfOk result (λ n. n < length buffer.new → IsAtEnd (R.remaining reader.new)) }
 {
     let mut filled = 0;
-    // A read gives as many bytes as it likes: nothing is counted by one.
+    // A read gives as many bytes as it likes: nothing is counted by one. Of the library, `read_exact` fails where the input ends, `read_to_end` takes a `Vec`, and
+    // what `io::copy` leaves in a slice no contract says.
     while filled < buffer.len() {
         let read = reader.read(&mut buffer[filled..])?;
         if read == 0 {

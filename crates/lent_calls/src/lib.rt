@@ -1,7 +1,7 @@
 // The calls of a script on an endpoint, with as much of each buffer as the script lends.
 #![tactic(auto)]
 
-ghost use Rattle.std.specs.Prelude.{◌≡◌, ◌≤◌, length, take};
+ghost use Rattle.std.specs.Prelude.{◌≤◌, length, take};
 ghost use Rattle.trb.specs.Limits.{min_row_log};
 ghost use Rattle.text.specs.Wrote.{HasRoom};
 ghost use Rattle.state_text.specs.Widths.{max_answer};
@@ -14,9 +14,8 @@ use call_script::Call;
 use control_block::ControlBlock;
 use guest_memory::GuestMemory;
 use in_block::InBlock;
-use row_walk::TdResult;
+use in_calls::Row;
 use text::Text;
-use trb::TransferTrb;
 
 // How much is lent: bytes of the log and of the collect buffer, and the bases and lengths of the regions.
 #[derive(Clone, Copy)]
@@ -29,7 +28,10 @@ pub struct Lent {
     pub high: usize,
 }
 
-// A call on an IN endpoint.
+// A call on an IN endpoint. Like the two below it takes slices, and no struct of them: of a field of a struct that is lent `split_at_mut` gets no proof, nor
+// does a reborrow of the field into a variable. The three cut log and regions alike: a method that gives both would lend three slices at once, which no clause
+// says; a function that does it for a closure is proved, but its callers find nothing of the call in what is inferred of the closure, and a contract written
+// at each closure says all that stands here.
 pub fn run_in(
     text: &mut Text<'_>,
     lent: Lent,
@@ -58,15 +60,12 @@ pub fn run_in(
     in_calls::run(text, &mut log[..log_end], block, call, data, &mut memory)
 }
 
-// A row of so many TRBs, with so many results and so many bytes of the device's data.
+// A row, with so many bytes of the device's data.
 pub fn run_row(
     text: &mut Text<'_>,
     lent: Lent,
     block: InBlock,
-    row: [TransferTrb; trb::MAX_ROW],
-    count: usize,
-    results: [TdResult; trb::MAX_ROW],
-    tds: usize,
+    row: Row,
     bytes: usize,
     log: &mut [u8],
     data: &[u8],
@@ -75,7 +74,7 @@ pub fn run_row(
 ) -> Ran<InBlock>
     requires has_room { HasRoom max_answer text.old }
     requires log_len_bound { length log.old ≤ min_row_log }
-    ensures { RunsLent (row_call block row count results tds (take bytes «data».now) (take lent.log log.old) (lent_memory lent low.old high.old)) lent text.old result text.new log.old log.new low.old low.new high.old high.new }
+    ensures { RunsLent (row_call block row (take bytes «data».now) (take lent.log log.old) (lent_memory lent low.old high.old)) lent text.old result text.new log.old log.new low.old low.new high.old high.new }
 {
     let log_end = lent.log.min(log.len());
     let low_end = lent.low.min(low.len());
@@ -94,9 +93,6 @@ pub fn run_row(
         &mut log[..log_end],
         block,
         row,
-        count,
-        results,
-        tds,
         &data[..given],
         &mut memory,
     )

@@ -1,7 +1,6 @@
 // Layers over any function: a lent block is passed on by value, and the block of the answer is stored where it was lent.
 #![tactic(auto)]
 
-ghost use Rattle.std.specs.Prelude.{◌≡◌};
 ghost use Rattle.std.specs.Fn.{FnOnceTakesAtMut, FnOnceReturnsAtMut};
 ghost use Rattle.lent_laws.specs.Layers.{TakesCompletion, CompletesBy, TakesSubmission, SubmitsBy, TakesCollecting, CollectsBy};
 

@@ -19,13 +19,8 @@ fn kind_known(kind: u8) -> bool
 pub fn well_formed(log: &[u8]) -> bool
     ensures { result ≡ well_formed log.now }
 {
-    if log.len() % trb::RECORD_LENGTH != 0 {
-        return false;
-    }
-    for index in 0..log.len() / trb::RECORD_LENGTH {
-        if !kind_known(log[trb::RECORD_LENGTH * index]) {
-            return false;
-        }
-    }
-    true
+    log.len() % trb::RECORD_LENGTH == 0
+        && call_log::records(log)
+            .iter()
+            .all(|cells| kind_known(cells[0]))
 }

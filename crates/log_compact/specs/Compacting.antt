@@ -3,7 +3,6 @@ use Rattle.std.specs.Prelude.{ℕ, ◌*◌, ◌-◌, ◌≤◌, Bool, ◌≡◌,
 use Rattle.trb.specs.Answers.{number_of, refusal_of}
 use Rattle.trb.specs.Limits.{record_length}
 use Rattle.trb.specs.Questions.{first_no, after_questions}
-use Rattle.trb.specs.Refusals.{refusal_number}
 use Rattle.log_check.specs.WellFormed.{well_formed}
 use Rattle.trb.specs.declared.Refusal.{Refusal}
 use Rattle.kept_records.specs.Rows.{rows_in, rows_of, bytes_of}

@@ -23,6 +23,7 @@ fn joins_last(log: &[u8], kept: usize, record: Record) -> bool
 }
 
 // The bytes of row number `index`.
+#[tactic(auto, unfolding(kept_records::specs::Rows::row_at))]
 fn row_at(log: &[u8], index: usize) -> [u8; 32]
     requires { record_length * (index + 1) ≤ length log.now }
     ensures { result ≡ row_at log.now index }

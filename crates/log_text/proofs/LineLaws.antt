@@ -1,26 +1,21 @@
 -- Laws of a record's line. Assumes nothing.
-use Prim.Native.Nat.{ℕ, zero, suc, ◌+◌, ◌-◌, ◌*◌, ◌<◌, ◌≤◌}
-use mathlib.Core.Path.{◌≡◌}
-use mathlib.Core.List.{List, ◌++◌}
+use Prim.Native.Nat.{ℕ, zero, suc, ◌+◌, ◌*◌, ◌<◌, ◌≤◌}
+use mathlib.Core.Path.{◌≡◌, refl, ap}
+use mathlib.Core.List.{List, [], ◌∷◌, ◌++◌}
+use native.Mathlib.Numerals.{add-one}
 use native.Mathlib.Omega.{arith}
-use lib.ListN.{length, take, drop, length-append, length-take}
-use lib.Seq.{drop-drop}
+use lib.ListN.{length, take, drop, get_or, length-append, length-take}
+use lib.Seq.{drop-cons}
+use Rattle.std.specs.List.{flat_map}
+use Rattle.std.specs.Simd.{first_chunks}
 use Rattle.trb.specs.Limits.{record_length}
 use Rattle.call_log.specs.declared.Record.{Record}
 use Rattle.call_log.specs.Records.{decode}
+use Rattle.call_log.proofs.RecordLaws.{part-take, decode-take}
+use Rattle.numerals.specs.Digits.{bytes_hex}
 use Rattle.numerals.proofs.DigitLaws.{length-decimal_of, length-hex_of, length-bytes_hex}
-use Rattle.log_text.specs.Lines.{kind_fields, id_fields, number_fields, fields_of, line_of, lines_in}
+use Rattle.log_text.specs.Lines.{line_feed, kind_fields, id_fields, number_fields, fields_of, line_of, lines_in}
 use Rattle.log_text.specs.Widths.{max_kinds, max_ids, max_numbers, max_fields, max_line}
-
--- bytes 24 to 31 of record number k
-pub last_bytes : (l : List ℕ) (k : ℕ)
-    → take (record_length * k + 24 + 8 - (record_length * k + 24)) (drop (record_length * k + 24) l) ≡ take 8 (drop 24 (drop (record_length * k) l))
-last_bytes l k =
-    let eight : record_length * k + 24 + 8 - (record_length * k + 24) ≡ 8 = omega arith in
-    rw (eight, drop-drop 24 (record_length * k) l)
-
-pub length-last_bytes : (l : List ℕ) (k : ℕ) → 2 * length (take 8 (drop 24 (drop (record_length * k) l))) ≤ 2 * 8
-length-last_bytes l k = omega (arith, length-take 8 (drop 24 (drop (record_length * k) l)))
 
 pub length-kind_fields : (r : Record) → length (kind_fields r) ≤ max_kinds
 unfolding kind_fields
@@ -49,11 +44,18 @@ length-lines_in zero l = omega arith
 length-lines_in (suc n) l =
     omega (arith, length-append (line_of l) (lines_in n (drop record_length l)), length-line_of l, length-lines_in n (drop record_length l))
 
--- of the lines of n records, those from number i on are the line of record number i and those behind it
-pub lines_in-next : (n i : ℕ) (l : List ℕ) → i < n
-    → lines_in (n - i) (drop (record_length * i) l) ≡ line_of (drop (record_length * i) l) ++ lines_in (n - (i + 1)) (drop (record_length * (i + 1)) l)
+-- a line is made of the record's bytes alone
+line_of-take : (l : List ℕ) → line_of (take record_length l) ≡ line_of l
+unfolding line_of
+line_of-take l = λ i. fields_of (decode-take l i) ++ bytes_hex (part-take 24 8 0 l i) ++ (line_feed ∷ [])
+
+-- the lines of the first n records, each by its bytes
+pub lines_in-cells : (n : ℕ) (l : List ℕ) → flat_map line_of (first_chunks record_length n l) ≡ lines_in n l
 unfolding lines_in
-lines_in-next n i l h =
-    let left : n - i ≡ suc (n - (i + 1)) = omega arith in
-    let at : record_length * i + record_length ≡ record_length * (i + 1) = omega arith in
-    rw (left, drop-drop record_length (record_length * i) l, at)
+lines_in-cells zero l = refl
+lines_in-cells (suc n) l = λ i. line_of-take l i ++ lines_in-cells n (drop record_length l) i
+
+-- of lines, that of the record at index i, and those behind it
+pub lines-next : (cells : List (List ℕ)) (i : ℕ) → i < length cells
+    → flat_map line_of (drop i cells) ≡ line_of (get_or cells i []) ++ flat_map line_of (drop (i + 1) cells)
+lines-next cells i h = rw add-one (ap (flat_map line_of) (drop-cons cells i [] h))

@@ -1,7 +1,7 @@
 // The lines of a log, one for each record.
 #![tactic(auto)]
 
-ghost use Rattle.std.specs.Prelude.{◌≡◌, ◌+◌, ◌*◌, ◌/◌, ◌≤◌, length, drop};
+ghost use Rattle.std.specs.Prelude.{◌≡◌, ◌+◌, ◌/◌, length};
 ghost use Rattle.trb.specs.Limits.{record_length};
 ghost use Rattle.numerals.specs.Digits.{decimal_of, hex_of};
 ghost use Rattle.numerals.specs.Widths.{decimal_places, hex_places};
@@ -38,7 +38,7 @@ pub fn text_limits() -> TextLimits
 
 // ---- Lines
 
-// Writes a number in decimal and a space behind it.
+// Writes a number in decimal and a space behind it. As in hex but for the digits: a closure for these makes it no plainer.
 fn put_decimal_field(text: &mut Text<'_>, n: u32)
     requires { HasRoom (decimal_places + 1) text.old }
     ensures { Wrote (decimal_places + 1) text.old (field (decimal_of n)) text.new }
@@ -95,17 +95,13 @@ fn put_fields(text: &mut Text<'_>, record: Record)
     put_numbers(text, record);
 }
 
-// Writes the line of record number `index` of a log.
-pub fn put_line(text: &mut Text<'_>, log: &[u8], index: usize)
-    requires max_line_in_bounds { HasRoom max_line text.old }
-    requires index_in_bounds { record_length * (index + 1) ≤ length log.now }
-    ensures { Wrote max_line text.old (line_of (drop (record_length * index) log.now)) text.new }
+// Writes the line of a record, by its bytes.
+pub fn put_line(text: &mut Text<'_>, cells: &[u8; trb::RECORD_LENGTH])
+    requires { HasRoom max_line text.old }
+    ensures { Wrote max_line text.old (line_of cells.now) text.new }
 {
-    let record = call_log::read_record(log, index);
-    put_fields(text, record);
-    let from = trb::RECORD_LENGTH * index + 24;
-    let to = from + 8;
-    written_numbers::put_bytes(text, &log[from..to]);
+    put_fields(text, call_log::decoded(cells));
+    written_numbers::put_bytes(text, &cells[24..32]);
     text.put_char(b'\n');
 }
 
@@ -114,8 +110,7 @@ pub fn put_lines(text: &mut Text<'_>, log: &[u8])
     requires { HasRoom (lines_room (length log.now)) text.old }
     ensures { Wrote (lines_room (length log.now)) text.old (lines_in (length log.now / record_length) log.now) text.new }
 {
-    let records = log.len() / trb::RECORD_LENGTH;
-    for index in 0..records {
-        put_line(text, log, index);
+    for cells in call_log::records(log) {
+        put_line(text, cells);
     }
 }

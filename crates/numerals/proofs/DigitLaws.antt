@@ -1,13 +1,15 @@
 -- Laws of digits. Assumes nothing.
-use Prim.Native.Nat.{ℕ, zero, suc, ◌+◌, ◌*◌, ◌/◌, ◌%◌, ◌<◌, ◌≤◌, ◌^◌}
+use Prim.Native.Nat.{ℕ, zero, suc, ◌+◌, ◌-◌, ◌*◌, ◌/◌, ◌%◌, ◌<◌, ◌≤◌, ◌^◌}
 use mathlib.Core.Bool.{Bool, true, false, cond}
 use mathlib.Core.Path.{◌≡◌, refl, sym, ap, ◌∙◌}
 use mathlib.Core.List.{List, [], ◌∷◌, ◌++◌, map}
 use native.Mathlib.Nat.{mod-lt}
 use native.Mathlib.Omega.{arith}
 use lib.Dec.{eqb}
-use lib.ListN.{length, drop, get_or, length-append, length-map}
+use lib.ListN.{length, take, drop, get_or, length-append, length-map}
 use lib.Seq.{drop-cons}
+use Rattle.std.specs.List.{prefix_len, take_while}
+use Rattle.std.proofs.lemmas.List.Folds.{length-prefix_len}
 use borrow.Author.Tests.{ne_eqb}
 use Rattle.numerals.specs.Digits.{digit_char, digits, trimmed, AllBelow, decimal_of, hex_of, byte_hex, bytes_hex}
 use Rattle.numerals.specs.Widths.{decimal_places, hex_places}
@@ -48,12 +50,25 @@ length-trimmed [] = omega arith
 length-trimmed (d ∷ []) = omega arith
 length-trimmed (d ∷ e ∷ ds) = length-cond (eqb d 0) (trimmed (e ∷ ds)) (d ∷ e ∷ ds) (omega (arith, length-trimmed (e ∷ ds))) (omega arith)
 
--- one digit or none
-pub trimmed-short : (ds : List ℕ) → length ds ≤ 1 → trimmed ds ≡ ds
+-- behind a digit that is zero, where others follow it, and else from it on
+trimmed-by : (b : Bool) (d e : ℕ) (ds : List ℕ) (k : ℕ) → drop k (e ∷ ds) ≡ trimmed (e ∷ ds)
+    → drop (cond b (1 + k) 0) (d ∷ e ∷ ds) ≡ cond b (trimmed (e ∷ ds)) (d ∷ e ∷ ds)
+trimmed-by true d e ds k h = let next : 1 + k ≡ suc k = omega arith in rw next h
+trimmed-by false d e ds k h = refl
+
+-- behind the zeros that all digits but the last begin with
+pub trimmed-zeros : (d : ℕ) (ds : List ℕ) → drop (prefix_len (λ c. eqb c 0) (take (length ds) (d ∷ ds))) (d ∷ ds) ≡ trimmed (d ∷ ds)
 unfolding trimmed
-trimmed-short [] h = refl
-trimmed-short (d ∷ []) h = refl
-trimmed-short (d ∷ e ∷ ds) h = absurd (omega arith)
+trimmed-zeros d [] = refl
+trimmed-zeros d (e ∷ ds) = trimmed-by (eqb d 0) d e ds (prefix_len (λ c. eqb c 0) (take (length ds) (e ∷ ds))) (trimmed-zeros e ds)
+
+-- the same of digits, or of none
+pub drop-zeros : (ds : List ℕ) → drop (length (take_while (λ c. eqb c 0) (take (length ds - 1) ds))) ds ≡ trimmed ds
+unfolding trimmed
+drop-zeros [] = refl
+drop-zeros (d ∷ ds) =
+    let rest : length (d ∷ ds) - 1 ≡ length ds = omega arith in
+    rw (rest, length-prefix_len (λ c. eqb c 0) (take (length ds) (d ∷ ds))) (trimmed-zeros d ds)
 
 -- a leading zero, and not the last digit
 pub trimmed-zero : (ds : List ℕ) (k : ℕ) → suc k < length ds → get_or ds k 0 ≡ 0 → trimmed (drop k ds) ≡ trimmed (drop (suc k) ds)

@@ -1,7 +1,8 @@
 // The digits of a number in decimal and in hex. `written_numbers` writes them.
 #![tactic(auto)]
 
-ghost use Rattle.std.specs.Prelude.{◌≡◌, ◌*◌, ◌/◌, ◌%◌, ◌<◌, ◌≤◌, ◌^◌, length, drop};
+ghost use Rattle.std.specs.Prelude.{◌≡◌, ◌*◌, ◌/◌, ◌%◌, ◌<◌, ◌≤◌, ◌^◌, eqb, length, drop};
+ghost use Rattle.std.specs.List.{take_while};
 ghost use Rattle.numerals.specs.Digits.{digit_char, trimmed, FirstPlace};
 ghost use Rattle.numerals.specs.Widths.{decimal_places, width_table};
 
@@ -44,17 +45,19 @@ pub fn digit_char(digit: u8) -> u8
     }
 }
 
+// How many zeros the digits begin with.
+fn zeros(digits: &[u8]) -> usize
+    ensures { result ≡ length (take_while (λ d. eqb d 0) digits.now) }
+{
+    digits.iter().take_while(|digit| **digit == 0).count()
+}
+
 // How many leading zeros the digits have, the last digit not counted.
 pub fn leading_zeros(digits: &[u8]) -> usize
     ensures { (result ≤ length digits.now) × (drop result digits.now ≡ trimmed digits.now) }
 {
     let last = digits.len().saturating_sub(1);
-    for skipped in 0..last {
-        if digits[skipped] != 0 {
-            return skipped;
-        }
-    }
-    last
+    zeros(&digits[..last])
 }
 
 // ---- Decimal. 02, R-3: the digit at a place is how often its power of ten can be subtracted; nothing is divided.

@@ -3,7 +3,7 @@ ghost use Rattle.std.specs.Prelude.{◌≡◌, [], ◌∷◌};
 ghost use Rattle.trb.specs.Questions.{first_no};
 ghost use Rattle.guest_memory.specs.Places.{memory_of};
 ghost use Rattle.held_bytes.specs.Numbers.{trb_numbers, trb_of};
-ghost use Rattle.control_bytes.specs.Head.{release_of};
+ghost use Rattle.control_block.specs.Numbers.{release_of};
 ghost use Rattle.control_bytes.specs.Layout.{block_length};
 ghost use Rattle.control_in_place.specs.InPlace.{block_question, lent_log, raw_trb, CreatesInPlace, SubmitsInPlace, CompletesInPlace, result_of};
 
@@ -30,7 +30,8 @@ pub extern "C" fn polvihe_control_create(
 ) -> u32
     ensures { CreatesInPlace (record { 0 = endpoint_id }) (record { 0 = slot_id }) (release_of release) block.old result block.new }
 {
-    control_in_place::create(block, endpoint_id, slot_id, release)
+    let created = control_in_place::create(block, endpoint_id, slot_id, release);
+    trb::number_of(created) as u32
 }
 
 // Takes a TRB, given by numbers: xHCI's type, the flags (by weight: 1 cycle bit, 2 chain, 4 interrupt on completion, 8 interrupt on short, 16
@@ -123,5 +124,5 @@ pub extern "C" fn polvihe_control_complete(
 pub extern "C" fn polvihe_control_cancel(block: &[u8]) -> u32
     ensures { result ≡ first_no (block_question block.now ∷ []) }
 {
-    control_in_place::cancel(block)
+    trb::number_of(control_in_place::cancel(block)) as u32
 }

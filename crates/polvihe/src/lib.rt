@@ -23,7 +23,8 @@ ghost use Rattle.raw_numbers.specs.RawNumbers.{raw_trb, numbered_trb, room_quest
 ghost use Rattle.capture_writer.specs.Writing.{call_of, Writes, WritesHead};
 ghost use Rattle.capture_reader.specs.Reading.{ReadsCapture, read_at};
 ghost use Rattle.stored_logs.specs.Stored.{check_questions, Compacts, Prints};
-ghost use Rattle.capture_numbers.specs.Captured.{written_by, device_of, pipe_of, status_of, error_of, request_of, count_by, record_by};
+ghost use Rattle.answer_numbers.specs.Numbers.{status_of};
+ghost use Rattle.capture_numbers.specs.Captured.{written_by, device_of, pipe_of, error_of, request_of, count_by, record_by};
 ghost use Rattle.polvihe.specs.GuestMemory.{CarriesOut};
 
 use answer_numbers::{Answered, CompletionAnswered};
@@ -33,7 +34,7 @@ use guest_memory::GuestMemory;
 use held_bytes::TrbNumbers;
 use trb::UsbRequest;
 
-// ---- Guest memory
+// ---- Guest memory: C hands over two bases and two slices.
 
 // Performs the writes of a log, in its order, on guest memory in two regions, with the device's data. The number: 0, or 13, 10, 11
 // with guest memory as it was.
@@ -59,7 +60,8 @@ pub extern "C" fn polvihe_carry_out(
 
 // ---- Raw TRBs
 
-// A TRB by numbers, but for its address: xHCI's type, flags, data pointer or event data or setup bytes, and transfer length.
+// A TRB by numbers, since C reads it, but for its address: xHCI's type, flags, data pointer or event data or setup bytes, and transfer
+// length.
 #[repr(C)]
 #[derive(Clone, Copy)]
 pub struct RawTrb {
@@ -95,7 +97,14 @@ pub extern "C" fn polvihe_encode_trb(
 ) -> u8
     ensures { Encodes (room_questions (numbered_trb kind flags value transfer_length) raw.old) (numbered_trb kind flags value transfer_length) raw.old result raw.new }
 {
-    raw_numbers::encode_trb(kind, flags, value, transfer_length, raw)
+    let numbers = TrbNumbers {
+        kind,
+        flags,
+        addr: 0,
+        value,
+        transfer_length,
+    };
+    trb::number_of(raw_numbers::encode_trb(numbers, raw))
 }
 
 // ---- Stored logs, of any length
@@ -207,7 +216,7 @@ pub extern "C" fn polvihe_write_in_submission(
     )
 }
 
-// Its completion with a device result, numbered as `capture_numbers::in_status` has it, and the device's data.
+// Its completion with a device result, numbered as `answer_numbers::status_of` has it, and the device's data.
 #[unsafe(no_mangle)]
 pub extern "C" fn polvihe_write_in_completion(
     output: &mut [u8],
@@ -226,7 +235,7 @@ pub extern "C" fn polvihe_write_in_completion(
     let event = CaptureEvent::InCompletion(
         capture_numbers::in_pipe(endpoint_id, interrupt),
         id,
-        capture_numbers::in_status(status),
+        answer_numbers::status_of(status),
     );
     capture_numbers::write_event(
         output,
@@ -429,7 +438,8 @@ pub extern "C" fn polvihe_in_block_length() -> usize
 pub extern "C" fn polvihe_in_create(block: &mut [u8], endpoint_id: u8, slot_id: u8, mode: u8) -> u32
     ensures { CreatesInPlace (record { 0 = endpoint_id }) (record { 0 = slot_id }) (mode_of mode) block.old result block.new }
 {
-    in_place::create(block, endpoint_id, slot_id, mode)
+    let created = in_place::create(block, endpoint_id, slot_id, mode);
+    trb::number_of(created) as u32
 }
 
 // Submits a TRB by numbers: xHCI's type, flags (by weight: 1 cycle bit, 2 chain, 4 interrupt on completion, 8 interrupt on short, 16
@@ -490,5 +500,5 @@ pub extern "C" fn polvihe_in_complete(
 pub extern "C" fn polvihe_in_cancel(block: &mut [u8]) -> u32
     ensures { CancelsInPlace block.old result block.new }
 {
-    in_place::cancel(block)
+    trb::number_of(in_place::cancel(block)) as u32
 }

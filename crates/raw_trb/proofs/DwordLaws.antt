@@ -2,17 +2,16 @@
 use Prim.Native.Nat.{ℕ, ◌/◌, ◌%◌, ◌<◌, ◌≤◌, ◌^◌}
 use mathlib.Core.Bool.{Bool, true, false, ◌&&◌}
 use mathlib.Core.List.{List, [], ◌∷◌}
-use mathlib.Core.Path.{◌≡◌, refl, sym, subst}
+use mathlib.Core.Path.{◌≡◌, refl}
 use lib.Dec.{eqb, lit≤}
 use native.Mathlib.Omega.{arith}
 use borrow.Author.Tests.{eqb-true, eqb-false}
 use Rattle.buffers.proofs.LittleEndianLaws.{le_number-le_bytes}
-use Rattle.trb.specs.declared.TransferTrbVariant.{TransferTrbVariant}
 use Rattle.trb.proofs.TestLaws.{and_left, and_right}
 use Rattle.raw_trb.specs.declared.Dwords.{Dwords}
 use Rattle.raw_trb.specs.Fields.{Field, bits, field_of, is_set, zero_too, all_zero, bit_number, dwords_of, bytes_of}
 use Rattle.raw_trb.specs.Layouts.{pointer_low, pointer_high}
-use Rattle.raw_trb.specs.Raw.{EncodedAs, pointer_of}
+use Rattle.raw_trb.specs.Raw.{pointer_of}
 
 -- dwords are equal by their numbers
 pub dwords-eq : {a b : Dwords} → a.d0 ≡ b.d0 → a.d1 ≡ b.d1 → a.d2 ≡ b.d2 → a.d3 ≡ b.d3 → a ≡ b
@@ -77,9 +76,3 @@ zero-too b (f ∷ fs) d h =
 
 pub zero-all : (fs : List Field) (d : Dwords) → all_zero fs d ≡ true → AllZero fs d
 zero-all fs d h = (zero-too true fs d h).1
-
--- ---- A TRB
-
--- the same of an equal TRB
-pub encoded-as : {v w : TransferTrbVariant} {c : Bool} {d : Dwords} → EncodedAs w c d → v ≡ w → EncodedAs v c d
-encoded-as {c = c} {d = d} h e = subst (λ (x : TransferTrbVariant). EncodedAs x c d) (sym e) h

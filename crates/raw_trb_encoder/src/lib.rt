@@ -8,7 +8,7 @@ ghost use Rattle.raw_trb.specs.Raw.{has_fields, EncodedAs, Encodes};
 
 use raw_trb::Dwords;
 use trb::{
-    Answer, DataStageTrb, EventDataTrb, NoOpTrb, NormalTrb, Refusal, SetupStageTrb, StatusStageTrb,
+    DataStageTrb, EventDataTrb, NoOpTrb, NormalTrb, Refusal, SetupStageTrb, StatusStageTrb,
     TransferTrbVariant,
 };
 

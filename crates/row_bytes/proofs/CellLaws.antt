@@ -11,7 +11,8 @@ use Rattle.buffers.specs.LittleEndian.{le_field}
 use Rattle.trb.specs.declared.TransferTrb.{TransferTrb}
 use Rattle.held_bytes.specs.Places.{place_length}
 use Rattle.row_walk.specs.declared.TdResult.{TdResult}
-use Rattle.row_bytes.specs.Layout.{cells_of, given_trb, trbs_in, result_length, status_of, given_result, results_in}
+use Rattle.answer_numbers.specs.Numbers.{status_of}
+use Rattle.row_bytes.specs.Layout.{cells_of, given_trb, trbs_in, result_length, given_result, results_in}
 
 -- ---- Cells of w bytes each
 

@@ -11,12 +11,11 @@
 use Rattle.std.specs.Prelude.{ℕ, zero, suc, ◌+◌, ◌/◌, ◌%◌, cond, ◌&&◌, List, [], ◌∷◌, eqb, length, drop, get_or}
 use Rattle.buffers.specs.LittleEndian.{le_field}
 use Rattle.trb.specs.Limits.{max_row}
-use Rattle.trb.specs.declared.InTrbProcessingStatus.{InTrbProcessingStatus}
-use Rattle.trb.specs.declared.InTrbProcessingStatus.TheVariants.{Disconnect, Stall, TransactionError, Success}
 use Rattle.trb.specs.declared.TransferTrb.{TransferTrb}
 use Rattle.held_bytes.specs.Numbers.{trb_numbers, trb_of}
 use Rattle.held_bytes.specs.Places.{place_length}
 use Rattle.held_bytes.specs.declared.TrbNumbers.{TrbNumbers}
+use Rattle.answer_numbers.specs.Numbers.{status_of}
 use Rattle.row_walk.specs.declared.TdResult.{TdResult}
 
 -- n cells of w bytes each, one behind the other from the start of l on
@@ -41,9 +40,6 @@ trbs_in row = cells_of given_trb place_length (length row / place_length) row
 
 abbrev pub result_length : ℕ
 result_length = 8
-
-abbrev pub status_of : ℕ → InTrbProcessingStatus
-status_of n = cond (eqb n 0) Success (cond (eqb n 1) Stall (cond (eqb n 3) Disconnect TransactionError))
 
 unfoldable pub given_result : List ℕ → TdResult
 given_result l = record { status = status_of (get_or l 0 0); length = le_field 4 4 l }

@@ -6,7 +6,7 @@ ghost use Rattle.held.specs.Places.{past_end};
 ghost use Rattle.held_bytes.specs.Numbers.{trb_of};
 ghost use Rattle.held_bytes.specs.Places.{place_length};
 ghost use Rattle.row_walk.specs.Rows.{past_results};
-ghost use Rattle.row_bytes.specs.Layout.{given_numbers, status_of, trbs_in, result_length, given_result, results_in, row_count};
+ghost use Rattle.row_bytes.specs.Layout.{given_numbers, trbs_in, result_length, given_result, results_in, row_count};
 
 use held_bytes::TrbNumbers;
 use row_walk::TdResult;
@@ -35,11 +35,7 @@ fn trb_of(numbers: TrbNumbers) -> TransferTrb
 {
     if numbers.kind == raw_trb::NORMAL {
         return TransferTrb {
-            variant: TransferTrbVariant::Normal(held_bytes::normal(
-                numbers.flags,
-                numbers.value,
-                numbers.transfer_length,
-            )),
+            variant: TransferTrbVariant::Normal(held_bytes::normal(numbers)),
             addr: numbers.addr,
             cycle_bit: held_bytes::bit(numbers.flags, 1),
         };
@@ -57,24 +53,13 @@ pub fn trb_at(row: &[u8], i: usize) -> TransferTrb
 
 // ---- Results
 
-fn status_of(number: u8) -> InTrbProcessingStatus
-    ensures { result ≡ status_of number }
-{
-    match number {
-        0 => InTrbProcessingStatus::Success,
-        1 => InTrbProcessingStatus::Stall,
-        3 => InTrbProcessingStatus::Disconnect,
-        _ => InTrbProcessingStatus::TransactionError,
-    }
-}
-
 // The result in the bytes from index `at` on.
 fn result_from(results: &[u8], at: usize) -> TdResult
     requires { at + result_length ≤ length results.now }
     ensures { result ≡ given_result (drop at results.now) }
 {
     TdResult {
-        status: status_of(results[at]),
+        status: answer_numbers::status_of(results[at]),
         length: buffers::le32(results, at + 4),
     }
 }

@@ -24,10 +24,7 @@ pub struct RowPlan {
 fn status_of(res: Option<InTrbProcessingStatus>) -> InTrbProcessingStatus
     ensures { result ≡ status_of res }
 {
-    match res {
-        None => InTrbProcessingStatus::Success,
-        Some(status) => status,
-    }
+    res.unwrap_or(InTrbProcessingStatus::Success)
 }
 
 // The questions that completion asks of a block that holds the row and awaits the device, by what was found of the row's TRBs.

@@ -15,7 +15,8 @@ use Rattle.in_td.specs.Normals.{normal_length, requested}
 use Rattle.in_td.specs.Td.{normals, normal_count}
 use Rattle.in_block.proofs.TestLaws.{normals-length}
 use Rattle.row_walk.specs.declared.TdAsk.{TdAsk}
-use Rattle.row_walk.specs.Rows.{nothing_asked, asked_more}
+use Rattle.row_walk.specs.declared.TdLooked.{TdLooked}
+use Rattle.row_walk.specs.Rows.{nothing_asked, asked_more, looked_at}
 use Rattle.row_walk.specs.Tds.{in_front, tds_of, endsTd, first_td}
 
 -- ---- The first TD
@@ -144,3 +145,13 @@ looked-end ts first asked end h k = record {
   sum = omega (arith, k.sum);
   count = omega (arith, k.count);
 }
+
+-- and so is one that is the definition's
+pub found_at : (ts : List TransferTrb) (first : ℕ) (r : TdLooked) → first < length ts → r ≡ looked_at ts first → Found ts first r.asked r.end
+found_at ts first r h e = rw e (record {
+  size = refl;
+  some = omega (arith, ap length (first_td-next ts first past_end h));
+  inside = omega (arith, length-first_td (drop first ts), length-drop first ts);
+  sum = refl;
+  count = refl;
+})

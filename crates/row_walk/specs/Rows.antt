@@ -1,5 +1,5 @@
 -- 02, R-7: what a row of TDs logs and answers, TD by TD, over lists of any length. Assumes nothing.
-use Rattle.std.specs.Prelude.{ℕ, ◌+◌, ◌*◌, ◌<◌, ◌≤◌, ◌^◌, ◌≡◌, Bool, true, not, cond, List, [], ◌∷◌, ◌++◌, map, eqb, length}
+use Rattle.std.specs.Prelude.{ℕ, ◌+◌, ◌*◌, ◌<◌, ◌≤◌, ◌^◌, ◌≡◌, Bool, true, not, cond, List, [], ◌∷◌, ◌++◌, map, eqb, length, drop}
 use Rattle.trb.specs.Limits.{record_length}
 use Rattle.trb.specs.declared.EndpointId.{EndpointId}
 use Rattle.trb.specs.declared.InTrbProcessingStatus.TheVariants.{Disconnect}
@@ -21,8 +21,9 @@ use Rattle.account.specs.Guest.{is_write}
 use Rattle.in_endpoint.specs.Submission.{request_of}
 use Rattle.row_walk.specs.declared.RowProgress.{RowProgress}
 use Rattle.row_walk.specs.declared.TdAsk.{TdAsk}
+use Rattle.row_walk.specs.declared.TdLooked.{TdLooked}
 use Rattle.row_walk.specs.declared.TdResult.{TdResult}
-use Rattle.row_walk.specs.Tds.{tds_of, endsTd}
+use Rattle.row_walk.specs.Tds.{tds_of, endsTd, first_td}
 
 -- a TD and its device result
 pub record RowTd : Type 0 where
@@ -106,6 +107,12 @@ nothing_asked = record { length = 0; normals = 0 }
 
 abbrev pub asked_more : TdAsk → TransferTrb → TdAsk
 asked_more a t = record { length = a.length + normal_length t; normals = a.normals + normal_count t.variant }
+
+-- the TD whose first TRB has this index: S, its Normals, and the index behind its last TRB
+abbrev pub looked_at : List TransferTrb → ℕ → TdLooked
+looked_at ts first =
+    let td : List TransferTrb = first_td (drop first ts) in
+    record { asked = record { length = requested td; normals = normals td }; end = first + length td }
 
 -- ---- How the code walks a TD: from where it stands in the row's data and log
 

@@ -1,13 +1,14 @@
 // The walk over a row of whole TDs on one IN endpoint: no block is held, and each record is written where it stays.
 #![tactic(auto)]
 
-ghost use Rattle.std.specs.Prelude.{◌≡◌, not, ◌+◌, ◌*◌, ◌<◌, ◌≤◌, ◌^◌, eqb, length, take};
+ghost use Rattle.std.specs.Prelude.{◌≡◌, true, not, ◌+◌, ◌*◌, ◌<◌, ◌≤◌, ◌^◌, eqb, length};
 ghost use Rattle.trb.specs.Limits.{record_length, max_row};
 ghost use Rattle.call_log.specs.Calls.{Meets, counted};
 ghost use Rattle.call_log.specs.Records.{in_request, when};
-ghost use Rattle.in_td.specs.Normals.{normal_length};
+ghost use Rattle.in_td.specs.Normals.{normal_length, requested};
 ghost use Rattle.in_td.specs.Td.{normal_count};
-ghost use Rattle.row_walk.specs.Rows.{nothing_asked, asked_more, unstarted, td_done, process_row, from, td_from, Walkable};
+ghost use Rattle.row_walk.specs.Rows.{nothing_asked, asked_more, looked_at, unstarted, td_done, process_row, from, td_from, Walkable};
+ghost use Rattle.row_walk.specs.Tds.{endsTd};
 
 use in_td::{InMode, InTd, TdProcessed};
 use td_part::{TdProcessingState, TdProgress};
@@ -39,6 +40,13 @@ pub struct TdAsk {
     pub normals: usize,
 }
 
+// A TD that was looked at whole: what it asks, and the index behind its last TRB.
+#[derive(Clone, Copy)]
+pub struct TdLooked {
+    pub asked: TdAsk,
+    pub end: usize,
+}
+
 // Before its first TRB was looked at.
 pub fn nothing_asked() -> TdAsk
     ensures { result ≡ nothing_asked }
@@ -65,6 +73,24 @@ pub fn asked_more(asked: TdAsk, t: TransferTrb) -> TdAsk
         length: asked.length + in_request::normal_length(t.variant),
         normals: asked.normals + normal_count(t.variant),
     }
+}
+
+// Looks at the TD whose first TRB has this index.
+fn look_at_td(row: &[TransferTrb], first: usize) -> TdLooked
+    requires { (first < length row.now) × ((length row.now ≤ max_row) × ((endsTd row.now ≡ true) × (requested row.now < 2 ^ 32))) }
+    ensures { result ≡ looked_at row.now first }
+{
+    let mut asked = nothing_asked();
+    let mut end = first;
+    let mut more = true;
+    // An index: it is what is looked for, and the TRB that ends the TD is looked at too.
+    while more {
+        let t = row[end];
+        asked = asked_more(asked, t);
+        more = trb::chain_of(t.variant);
+        end += 1;
+    }
+    TdLooked { asked, end }
 }
 
 // Logs the request of a TD whose first TRB is at `addr`, if it has a Normal.
@@ -144,54 +170,36 @@ pub fn td_done(so_far: RowProgress, given: TdResult, processed: TdProcessed) -> 
     }
 }
 
-// The walk over the TDs of a row, and over the TRBs of each: a failing TRB leaves both.
+// The walk over the TDs of a row, and over the TRBs of each: a failing TRB leaves both. Where a TD ends is known only once its chain was
+// followed, and its TRBs are then walked a second time.
 pub fn walk_row(
     log: &mut [u8],
     endpoint_id: EndpointId,
     slot_id: SlotId,
     mode: InMode,
-    row: [TransferTrb; trb::MAX_ROW],
-    count: usize,
-    results: [TdResult; trb::MAX_ROW],
-    tds: usize,
+    row: &[TransferTrb],
+    results: &[TdResult],
 ) -> RowProgress
-    requires { (count ≤ max_row) × ((tds ≤ max_row) × Walkable (take count row) (take tds results) (length log.old)) }
-    ensures { Meets (process_row endpoint_id slot_id mode (take count row) (take tds results)) 0 log.old result log.new }
+    requires { (length row.now ≤ max_row) × ((length results.now ≤ max_row) × Walkable row.now results.now (length log.old)) }
+    ensures { Meets (process_row endpoint_id slot_id mode row.now results.now) 0 log.old result log.new }
 {
-    // Indices: where a TD ends is known only once its chain was followed, and its TRBs are then walked a second time.
     let mut so_far = at_start_of_row();
-    let mut first: usize = 0;
-    let mut i: usize = 0;
-    'row: while i < tds {
-        let mut asked = nothing_asked();
-        let mut end = first;
-        let mut more = true;
-        while more {
-            let t = row[end];
-            asked = asked_more(asked, t);
-            more = trb::chain_of(t.variant);
-            end += 1;
-        }
+    let mut first = 0;
+    'row: for given in results {
+        let TdLooked { asked, end } = look_at_td(row, first);
         let head = row[first];
         let records = log_request(log, so_far.records, asked, head.addr, endpoint_id, slot_id);
-        let given = results[i];
-        let td = td_from(endpoint_id, slot_id, mode, so_far.start, given);
+        let td = td_from(endpoint_id, slot_id, mode, so_far.start, *given);
         let mut processed = unprocessed_from(so_far.start, records, asked.normals);
-        let size = end - first;
-        let mut j: usize = 0;
-        while j < size {
-            let at = first + j;
-            let t = row[at];
-            processed = in_turn::process_trb(log, td, processed, t);
-            j += 1;
+        for t in &row[first..end] {
+            processed = in_turn::process_trb(log, td, processed, *t);
             if in_td::is_error(processed.result) {
-                so_far = td_done(so_far, given, processed);
+                so_far = td_done(so_far, *given, processed);
                 break 'row;
             }
         }
-        so_far = td_done(so_far, given, processed);
+        so_far = td_done(so_far, *given, processed);
         first = end;
-        i += 1;
     }
     so_far
 }

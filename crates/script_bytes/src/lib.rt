@@ -17,8 +17,8 @@ fn guest_byte(base: u64, k: usize) -> u8
 pub fn fill_guest(window: &mut [u8], base: u64)
     ensures { window.new ≡ guest_bytes base (length window.old) }
 {
-    for k in 0..window.len() {
-        window[k] = guest_byte(base, k);
+    for (k, byte) in window.iter_mut().enumerate() {
+        *byte = guest_byte(base, k);
     }
 }
 
@@ -34,8 +34,8 @@ fn device_byte(k: usize) -> u8
 pub fn fill_device(device: &mut [u8])
     ensures { device.new ≡ device_bytes (length device.old) }
 {
-    for k in 0..device.len() {
-        device[k] = device_byte(k);
+    for (k, byte) in device.iter_mut().enumerate() {
+        *byte = device_byte(k);
     }
 }
 
@@ -46,9 +46,9 @@ pub fn weighted_sum(bytes: &[u8]) -> u32
     ensures { result ≡ weighted_sum 0 0 bytes.now }
 {
     let mut sum: u32 = 0;
-    for k in 0..bytes.len() {
+    for (k, byte) in bytes.iter().enumerate() {
         let weight = k as u32 + 1;
-        sum = sum.wrapping_add(weight * bytes[k] as u32);
+        sum = sum.wrapping_add(weight * *byte as u32);
     }
     sum
 }

@@ -1,9 +1,9 @@
 // A line of a script taken apart: its letter, and the fields behind it, each behind one space.
 #![tactic(auto)]
 
-ghost use Rattle.std.specs.Prelude.{◌≡◌, ◌+◌, ◌≤◌, length, drop, not, eqb, leb};
+ghost use Rattle.std.specs.Prelude.{◌≡◌, ◌+◌, ◌≤◌, length, not, eqb, leb};
 ghost use Rattle.std.specs.List.{take_while, list_all, zip};
-ghost use Rattle.script_fields.specs.Words.{space, first_word};
+ghost use Rattle.script_fields.specs.Words.{space};
 ghost use Rattle.script_fields.specs.Fields.{max_numbers, fields_of, within_limits, raw_fields_of};
 
 // Numbers of a line.

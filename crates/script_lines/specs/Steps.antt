@@ -1,74 +1,92 @@
 -- What a step over the lines of an input finds. Assumes nothing.
 use Rattle.std.specs.Prelude.{ℕ, ◌+◌, ◌-◌, ◌≤◌, ◌<◌, ◌≡◌, cond, List, [], ltb, length, take, drop}
 use Rattle.script_lines.specs.Lines.{first_line}
+use Rattle.script_lines.specs.declared.input.Input.{Input}
 use Rattle.script_lines.specs.declared.Found.{Found}
 use Rattle.script_lines.specs.declared.Found.TheVariants.{Line, Piece, End, Unfinished}
 use Rattle.script_lines.specs.declared.Refilled.{Refilled}
 use Rattle.script_lines.specs.declared.Refilled.TheVariants as refilled
-use Rattle.script_lines.specs.declared.Step.{Step}
 
--- in a buffer of n bytes, the line and what is left behind it lie in the bytes that are filled
-pub record Stepped (n : ℕ) (s : Step) : Type 0 where
-  pub line : s.from ≤ s.end
-  pub inside : s.end ≤ n
-  pub left : s.next ≤ s.filled
-  pub room : s.filled ≤ n
+-- so many bytes are read and not yet taken
+abbrev pub left : Input → ℕ
+left i = i.filled - i.from
 
--- no line was found: the next step starts at the front, with so many bytes in the buffer
-abbrev pub no_line : Found → ℕ → Step
-no_line f n = record { found = f; from = 0; end = 0; next = 0; filled = n }
+-- what was left stands at the front
+pub record MovedToFront (i i' : Input) : Type 0 where
+  pub start : i'.from ≡ 0
+  pub count : i'.filled ≡ left i
+  pub bytes : take (left i) i'.bytes.now ≡ take (left i) (drop i.from i.bytes.now)
+  pub size : length i'.bytes.now ≡ length i.bytes.now
+  pub same : i'.bytes.ghost_name ≡ i.bytes.ghost_name
+
+-- bytes may stand behind those that were read before
+pub record ReadBehind (i i' : Input) : Type 0 where
+  pub start : i'.from ≡ i.from
+  pub more : i.filled ≤ i'.filled
+  pub bytes : take i.filled i'.bytes.now ≡ take i.filled i.bytes.now
+
+-- those behind the first n
+abbrev pub bytes_behind : ℕ → Input → List ℕ
+bytes_behind n i = drop n (take i.filled i.bytes.now)
 
 -- the input has ended: a line is unfinished where n of its bytes are held
 abbrev pub at_end : ℕ → Refilled
 at_end n = cond (ltb 0 n) refilled.Unfinished refilled.End
 
 -- what is found where no line was
-abbrev pub step_of : Refilled → Step
-step_of (refilled.Piece n) = no_line Piece n
-step_of refilled.End = no_line End 0
-step_of refilled.Unfinished = no_line Unfinished 0
+abbrev pub found_of : Refilled → Found
+found_of refilled.Piece = Piece
+found_of refilled.End = End
+found_of refilled.Unfinished = Unfinished
 
--- a line was found: the bytes from index from up to the first line feed. The input is as it was
-pub record LineTaken (l : List ℕ) (from filled : ℕ) (s : Step) (l' : List ℕ) : Type 0 where
-  pub input : l' ≡ l
-  pub start : s.from ≡ from
-  pub line : s.end ≡ from + length (first_line (drop from (take filled l)))
-  pub ended : s.end < filled
-  pub next : s.next ≡ s.end + 1
-  pub bytes : s.filled ≡ filled
+-- in a buffer of n bytes, the line lies in it
+abbrev pub LineInside : Found → ℕ → Type 0
+LineInside (Line from end) n = (from ≤ end) × (end ≤ n)
+LineInside Piece n = Unit {0}
+LineInside End n = Unit {0}
+LineInside Unfinished n = Unit {0}
 
--- a piece of input was read behind the bytes that were left, which stand at the front: n bytes are there
-pub record PieceRead (l : List ℕ) (from filled n : ℕ) (l' : List ℕ) : Type 0 where
-  pub front : take (filled - from) l' ≡ take (filled - from) (drop from l)
-  pub more : filled - from < n
-  pub room : n ≤ length l'
+-- a line was found: the bytes from index from up to the first line feed. The input is as it was, and goes on behind the line feed
+pub record LineTaken (i : Input) (from end : ℕ) (i' : Input) : Type 0 where
+  pub input : i'.bytes.now ≡ i.bytes.now
+  pub start : from ≡ i.from
+  pub line : end ≡ from + length (first_line (drop from (take i.filled i.bytes.now)))
+  pub ended : end < i.filled
+  pub next : i'.from ≡ end + 1
+  pub bytes : i'.filled ≡ i.filled
 
--- what was read behind the bytes from index from on of the input l, of which so many were filled: where nothing was, they are unfinished, if there are any
-abbrev pub Refills : Refilled → List ℕ → ℕ → ℕ → List ℕ → Type 0
-Refills (refilled.Piece n) l from filled l' = PieceRead l from filled n l'
-Refills refilled.End l from filled l' = from ≡ filled
-Refills refilled.Unfinished l from filled l' = from < filled
+-- a piece of input was read behind the bytes that were left, which stand at the front
+pub record PieceRead (i i' : Input) : Type 0 where
+  pub start : i'.from ≡ 0
+  pub front : take (left i) i'.bytes.now ≡ take (left i) (drop i.from i.bytes.now)
+  pub more : left i < i'.filled
 
--- the bytes that were read behind n bytes that were left, where the input is l' then
-abbrev pub refill_bytes : Refilled → ℕ → List ℕ → List ℕ
-refill_bytes (refilled.Piece m) n l' = drop n (take m l')
-refill_bytes refilled.End n l' = []
-refill_bytes refilled.Unfinished n l' = []
+-- what was read behind the bytes that were left: where nothing was, they are unfinished, if there are any
+abbrev pub Refills : Refilled → Input → Input → Type 0
+Refills refilled.Piece i i' = PieceRead i i'
+Refills refilled.End i i' = i.from ≡ i.filled
+Refills refilled.Unfinished i i' = i.from < i.filled
 
--- the same of a step, with so many bytes in the buffer then
-abbrev pub step_bytes : Found → ℕ → ℕ → List ℕ → List ℕ
-step_bytes Line filled n l' = []
-step_bytes Piece filled n l' = drop n (take filled l')
-step_bytes End filled n l' = []
-step_bytes Unfinished filled n l' = []
+-- the bytes that were read behind n bytes that were left
+abbrev pub refill_bytes : Refilled → ℕ → Input → List ℕ
+refill_bytes refilled.Piece n i' = bytes_behind n i'
+refill_bytes refilled.End n i' = []
+refill_bytes refilled.Unfinished n i' = []
 
--- what a step found, from index from of the input l on, of which so many bytes were filled
-abbrev pub Finds : Found → List ℕ → ℕ → ℕ → Step → List ℕ → Type 0
-Finds Line l from filled s l' = LineTaken l from filled s l'
-Finds Piece l from filled s l' = PieceRead l from filled s.filled l'
-Finds End l from filled s l' = from ≡ filled
-Finds Unfinished l from filled s l' = from < filled
+-- the same of a step
+abbrev pub found_bytes : Found → ℕ → Input → List ℕ
+found_bytes (Line from end) n i' = []
+found_bytes Piece n i' = bytes_behind n i'
+found_bytes End n i' = []
+found_bytes Unfinished n i' = []
 
-pub record NextLine (l : List ℕ) (from filled : ℕ) (s : Step) (l' : List ℕ) : Type 0 where
-  pub stepped : Stepped (length l) s
-  pub finds : Finds s.found l from filled s l'
+-- what a step found
+abbrev pub Finds : Found → Input → Input → Type 0
+Finds (Line from end) i i' = LineTaken i from end i'
+Finds Piece i i' = PieceRead i i'
+Finds End i i' = i.from ≡ i.filled
+Finds Unfinished i i' = i.from < i.filled
+
+pub record NextLine (i : Input) (f : Found) (i' : Input) : Type 0 where
+  pub inside : LineInside f (length i'.bytes.now)
+  pub finds : Finds f i i'

@@ -4,11 +4,15 @@
 ghost use Rattle.std.specs.Prelude.{◌≡◌, ◌+◌, ◌-◌, ◌≤◌, ◌<◌, min, not, eqb, [], ◌++◌, length, take, drop, IfOk, OnOk};
 ghost use Rattle.std.specs.List.{take_while};
 ghost use Rattle.std.specs.Io.KnownBytes.{Appends, Consumes, IsAtEnd};
-ghost use Rattle.script_lines.specs.Lines.{max_line, line_feed, LineEnd, MovedToFront, ReadBehind, MakesRoom, KeepsText, bad_line_text, counted};
-ghost use Rattle.script_lines.specs.Steps.{no_line, at_end, Refills, refill_bytes, step_of, step_bytes, NextLine};
+ghost use Rattle.script_lines.specs.Lines.{max_line, line_feed, LineEnd, MakesRoom, KeepsText, bad_line_text, counted};
+ghost use Rattle.script_lines.specs.Steps.{left, MovedToFront, ReadBehind, bytes_behind, at_end, Refills, refill_bytes, found_bytes, NextLine};
 
+mod input;
+
+pub use input::Input;
 use std::io;
 use std::io::{Read, Write};
+use text::Text;
 
 // Characters of the longest line that can be good: `u`, an address and a raw TRB, and the spaces between them.
 pub const MAX_LINE: usize = 3 + numerals::HEX_PLACES + call_number::RAW_PLACES;
@@ -24,32 +28,38 @@ pub fn input_buffer() -> [u8; PIECE]
     [0u8; PIECE]
 }
 
-// What a step found: a whole line, a piece of input, the input's end, or a line that is too long or that no line feed ends. Each is taken for itself.
+// What was found: a line, which stands from an index up to another one; a piece of input; its end; or a line that is too long or that no line feed ends.
+// Each is taken for itself.
 #[derive(Clone, Copy)]
 pub enum Found {
-    Line,
+    Line(usize, usize),
     Piece,
     End,
     Unfinished,
 }
 
-// What was read behind an unfinished line: a piece, with so many bytes in the buffer then; or nothing, since the input has ended there, or ended in the
-// line, or the line is too long. Three cases and no Option: each is taken for itself.
+// What was read behind an unfinished line: a piece; or nothing, since the input has ended there, or ended in the line, or the line is too long. Three cases
+// and no Option: each is taken for itself.
 #[derive(Clone, Copy)]
 pub enum Refilled {
-    Piece(usize),
+    Piece,
     End,
     Unfinished,
 }
 
-// A line stands from `from` up to `end`; the next step starts at `next`, with `filled` bytes in the buffer.
-#[derive(Clone, Copy)]
-pub struct Step {
-    pub found: Found,
-    pub from: usize,
-    pub end: usize,
-    pub next: usize,
-    pub filled: usize,
+impl From<Refilled> for Found {
+    ghost use Rattle.std.specs.Prelude.{◌≡◌};
+    ghost use Rattle.script_lines.specs.Steps.{found_of};
+
+    ghost from_gives = { λ refilled found. found ≡ found_of refilled };
+
+    fn from(refilled: Refilled) -> Found {
+        match refilled {
+            Refilled::Piece => Found::Piece,
+            Refilled::End => Found::End,
+            Refilled::Unfinished => Found::Unfinished,
+        }
+    }
 }
 
 // How many bytes stand before the first line feed.
@@ -67,37 +77,25 @@ pub fn line_end(input: &[u8], from: usize) -> usize
     from + line_length(&input[from..])
 }
 
-// Reads behind the first `held` bytes of the input. Returns how many bytes there are then.
-fn read_behind<R: Read>(reader: &mut R, input: &mut [u8], held: usize) -> io::Result<usize>
-    requires { held ≤ length input.old }
-    ensures behind { IfOk result (λ r. ReadBehind held r input.old input.new) }
-    ensures bytes { IfOk result (λ r. Consumes (R.remaining reader.old) (R.remaining reader.new) (drop held (take r input.new))) }
-    ensures end { IfOk result (λ r. r ≡ held → held < length input.old → IsAtEnd (R.remaining reader.new)) }
+// Moves the bytes that are not taken yet to the front.
+fn move_to_front(input: &mut Input<'_>)
+    ensures { MovedToFront input.old input.new }
 {
-    let got = reader.read(&mut input[held..])?;
-    Ok(held + got)
+    input.bytes.copy_within(input.from..input.filled, 0);
+    input.filled -= input.from;
+    input.from = 0;
 }
 
-// Moves the bytes from `from` up to `end` to the front. Returns how many they are.
-fn move_to_front(input: &mut [u8], from: usize, end: usize) -> usize
-    requires { (from ≤ end) × (end ≤ length input.old) }
-    ensures { MovedToFront from end result input.old input.new }
+// Reads a piece behind the bytes that are read.
+#[tactic(auto, using(crate::proofs::LineLaws::read_part))]
+fn read_behind<R: Read>(reader: &mut R, input: &mut Input<'_>) -> io::Result<()>
+    ensures same { input.new.bytes.ghost_name ≡ input.old.bytes.ghost_name }
+    ensures behind { IfOk result (λ _. ReadBehind input.old input.new) }
+    ensures bytes { IfOk result (λ _. Consumes (R.remaining reader.old) (R.remaining reader.new) (bytes_behind input.old.filled input.new)) }
+    ensures end { IfOk result (λ _. input.new.filled ≡ input.old.filled → input.old.filled < length input.old.bytes.now → IsAtEnd (R.remaining reader.new)) }
 {
-    input.copy_within(from..end, 0);
-    end - from
-}
-
-// No line: the next step starts at the front, with so many bytes in the buffer.
-fn no_line(found: Found, filled: usize) -> Step
-    ensures { result ≡ no_line found filled }
-{
-    Step {
-        found,
-        from: 0,
-        end: 0,
-        next: 0,
-        filled,
-    }
+    input.filled += reader.read(&mut input.bytes[input.filled..])?;
+    Ok(())
 }
 
 // The input has ended, with so many bytes of a line that no line feed ends.
@@ -112,62 +110,37 @@ fn at_end(held: usize) -> Refilled
 }
 
 // Reads a piece of input behind the bytes of an unfinished line, which then stand at the front.
-pub fn refill<R: Read>(
-    reader: &mut R,
-    input: &mut [u8],
-    from: usize,
-    filled: usize,
-) -> io::Result<Refilled>
-    requires { (from ≤ filled) × (filled ≤ length input.old) }
-    ensures refills { IfOk result (λ r. Refills r input.old from filled input.new) }
-    ensures bytes { IfOk result (λ r. Consumes (R.remaining reader.old) (R.remaining reader.new) (refill_bytes r (filled - from) input.new)) }
-    ensures end { IfOk result (λ r. refill_bytes r (filled - from) input.new ≡ [] → filled - from ≤ max_line → filled - from < length input.old → IsAtEnd (R.remaining reader.new)) }
+pub fn refill<R: Read>(reader: &mut R, input: &mut Input<'_>) -> io::Result<Refilled>
+    ensures same { input.new.bytes.ghost_name ≡ input.old.bytes.ghost_name }
+    ensures refills { IfOk result (λ r. Refills r input.old input.new) }
+    ensures bytes { IfOk result (λ r. Consumes (R.remaining reader.old) (R.remaining reader.new) (refill_bytes r (left input.old) input.new)) }
+    ensures end { IfOk result (λ r. refill_bytes r (left input.old) input.new ≡ [] → left input.old ≤ max_line → left input.old < length input.old.bytes.now → IsAtEnd (R.remaining reader.new)) }
 {
-    let held = move_to_front(input, from, filled);
+    move_to_front(input);
+    let held = input.filled;
     if MAX_LINE < held {
         return Ok(Refilled::Unfinished);
     }
-    let end = read_behind(reader, input, held)?;
-    if end == held {
-        return Ok(at_end(held));
+    read_behind(reader, input)?;
+    if held < input.filled {
+        return Ok(Refilled::Piece);
     }
-    Ok(Refilled::Piece(end))
+    Ok(at_end(held))
 }
 
-// No line was found.
-fn step_of(refilled: Refilled) -> Step
-    ensures { result ≡ step_of refilled }
+// The next line of the input, or a further piece of it. A line is taken: what is left stands behind it.
+pub fn next_line<R: Read>(reader: &mut R, input: &mut Input<'_>) -> io::Result<Found>
+    ensures same { input.new.bytes.ghost_name ≡ input.old.bytes.ghost_name }
+    ensures next { IfOk result (λ f. NextLine input.old f input.new) }
+    ensures bytes { IfOk result (λ f. Consumes (R.remaining reader.old) (R.remaining reader.new) (found_bytes f (left input.old) input.new)) }
 {
-    match refilled {
-        Refilled::Piece(filled) => no_line(Found::Piece, filled),
-        Refilled::End => no_line(Found::End, 0),
-        Refilled::Unfinished => no_line(Found::Unfinished, 0),
+    let from = input.from;
+    let end = line_end(input.filled_bytes(), from);
+    if end < input.filled {
+        input.from = end + 1;
+        return Ok(Found::Line(from, end));
     }
-}
-
-// The next line of the input, or a further piece of it.
-pub fn next_line<R: Read>(
-    reader: &mut R,
-    input: &mut [u8],
-    from: usize,
-    filled: usize,
-) -> io::Result<Step>
-    requires { (from ≤ filled) × (filled ≤ length input.old) }
-    ensures next { IfOk result (λ s. NextLine input.old from filled s input.new) }
-    ensures bytes { IfOk result (λ s. Consumes (R.remaining reader.old) (R.remaining reader.new) (step_bytes s.found s.filled (filled - from) input.new)) }
-{
-    let end = line_end(&input[..filled], from);
-    if end < filled {
-        return Ok(Step {
-            found: Found::Line,
-            from,
-            end,
-            next: end + 1,
-            filled,
-        });
-    }
-    let refilled = refill(reader, input, from, filled)?;
-    Ok(step_of(refilled))
+    Ok(Found::from(refill(reader, input)?))
 }
 
 // ---- Text out
@@ -179,22 +152,20 @@ pub fn lines_behind(n: u64, more: usize) -> u64
     n.saturating_add(more as u64)
 }
 
-// Writes the text out where there may be no room behind it for an answer of so many characters. Returns where the next answer starts.
-pub fn make_room<W: Write>(
-    writer: &mut W,
-    text: &[u8],
-    end: usize,
-    most: usize,
-) -> io::Result<usize>
-    requires { most ≤ length text.now }
-    ensures room { IfOk result (λ r. MakesRoom (length text.now) end most r) }
-    ensures text { IfOk result (λ r. KeepsText text.now end r (W.contents writer.old) (W.contents writer.new)) }
+// Writes the text out where there may be no room behind it for an answer of so many characters; the next answer starts anew then.
+pub fn make_room<W: Write>(writer: &mut W, text: &mut Text<'_>, most: usize) -> io::Result<()>
+    requires { most ≤ length text.old.bytes.now }
+    ensures same { text.new.bytes.ghost_name ≡ text.old.bytes.ghost_name }
+    ensures bytes { text.new.bytes.now ≡ text.old.bytes.now }
+    ensures room { IfOk result (λ _. MakesRoom most text.old text.new) }
+    ensures text { IfOk result (λ _. KeepsText text.old text.new (W.contents writer.old) (W.contents writer.new)) }
 {
-    if end <= text.len() - most {
-        return Ok(end);
+    if text.end <= text.bytes.len() - most {
+        return Ok(());
     }
-    write_text(writer, text, end)?;
-    Ok(0)
+    write_text(writer, text)?;
+    text.end = 0;
+    Ok(())
 }
 
 // Writes out the number of the bad line at which a run ended, if it did.
@@ -207,23 +178,17 @@ pub fn print_bad_line<W: Write>(writer: &mut W, lines: u64, good: bool) -> io::R
     Ok(())
 }
 
-// Writes out the first `end` characters of the text, or as many as it has.
-pub fn write_text<W: Write>(writer: &mut W, text: &[u8], end: usize) -> io::Result<()>
-    ensures { OnOk result (Appends (W.contents writer.old) (W.contents writer.new) (take end text.now)) }
+// Writes the text out: its first `end` characters, or as many as there are.
+pub fn write_text<W: Write>(writer: &mut W, text: &Text<'_>) -> io::Result<()>
+    ensures { OnOk result (Appends (W.contents writer.old) (W.contents writer.new) (take text.now.end text.now.bytes.now)) }
 {
-    writer.write_all(&text[..end.min(text.len())])
+    writer.write_all(&text.bytes[..text.end.min(text.bytes.len())])
 }
 
 // Writes out what is left of the text and, where the run ended at a bad line, its number.
-pub fn finish<W: Write>(
-    writer: &mut W,
-    text: &[u8],
-    end: usize,
-    lines: u64,
-    good: bool,
-) -> io::Result<()>
-    ensures { OnOk result (Appends (W.contents writer.old) (W.contents writer.new) (take end text.now ++ bad_line_text lines good)) }
+pub fn finish<W: Write>(writer: &mut W, text: &Text<'_>, lines: u64, good: bool) -> io::Result<()>
+    ensures { OnOk result (Appends (W.contents writer.old) (W.contents writer.new) (take text.now.end text.now.bytes.now ++ bad_line_text lines good)) }
 {
-    write_text(writer, text, end)?;
+    write_text(writer, text)?;
     print_bad_line(writer, lines, good)
 }

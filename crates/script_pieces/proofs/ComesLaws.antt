@@ -5,6 +5,7 @@ use mathlib.Core.Bool.{Bool, true, false, cond, true≢false}
 use mathlib.Core.List.{List, [], ◌∷◌, ◌++◌, append_assoc}
 use native.Mathlib.Omega.{arith}
 use lib.ListN.{length, take}
+use Rattle.text.specs.declared.Text.{Text}
 use Rattle.session_calls.specs.Answers.{State, Answer, line_answer}
 use Rattle.script_run.specs.Runs.{lines_of, Unfed, Run, run_with, line_call, going_on, take_line, take_lines, end_of, run_of, Reading, take_piece}
 use Rattle.script_run.proofs.PieceLaws.{rest-unfed, piece-none, piece-append}
@@ -62,13 +63,13 @@ module _ (bytes : List ℕ) (p : Run) where
 
 module _ {bytes : List ℕ} where
   -- lines were taken: what is left behind them comes to what there was
-  pub taken-reads : (l : List ℕ) (filled : ℕ) {from : ℕ} {s : State} {r : Taken} {t : List ℕ} {s' : State} → TakesLines bytes (take filled l) from s r t s' → (n : ℕ) (w : List ℕ)
-      → read_with bytes (behind_text w (run_with s' (n + r.lines) t r.end r.good)) (waiting l r.next filled) ≡ read_with bytes (behind_text w (run_anew s n)) (waiting l from filled)
+  pub taken-reads : (l : List ℕ) (filled : ℕ) {from : ℕ} {s : State} {r : Taken} {t : Text} {s' : State} → TakesLines bytes (take filled l) from s r t s' → (n : ℕ) (w : List ℕ)
+      → read_with bytes (behind_text w (run_with s' (n + r.lines) t.bytes.now t.end r.good)) (waiting l r.next filled) ≡ read_with bytes (behind_text w (run_anew s n)) (waiting l from filled)
   unfolding take_piece
   taken-reads l filled {from} {s} {r} {t} {s'} k n w =
-      let lines : take_lines bytes (behind_text w (run_with s' (n + r.lines) t r.end r.good)) (lines_from (take filled l) r.next).whole
+      let lines : take_lines bytes (behind_text w (run_with s' (n + r.lines) t.bytes.now t.end r.good)) (lines_from (take filled l) r.next).whole
       ≡ take_lines bytes (behind_text w (run_anew s n)) (lines_from (take filled l) from).whole =
-      take_lines-behind bytes w (run_with s' (n + r.lines) t r.end r.good) (lines_from (take filled l) r.next).whole
+      take_lines-behind bytes w (run_with s' (n + r.lines) t.bytes.now t.end r.good) (lines_from (take filled l) r.next).whole
       ∙ (ap (behind_text w) (k.run n) ∙ sym (take_lines-behind bytes w (run_anew s n) (lines_from (take filled l) from).whole)) in
       rw (lines, k.rest)
 

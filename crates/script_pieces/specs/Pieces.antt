@@ -1,5 +1,7 @@
 -- docs/CALLS.md: a script's run, of which a part of the input is at hand: its whole lines are taken one after the other, as far as there is room for the text. Assumes nothing.
 use Rattle.std.specs.Prelude.{ℕ, ◌+◌, ◌*◌, ◌≤◌, ◌≡◌, Bool, true, false, List, [], ◌++◌, length, take, drop}
+use Rattle.text.specs.declared.Text.{Text}
+use Rattle.text.specs.Wrote.{HasRoom}
 use Rattle.state_text.specs.Widths.{max_answer}
 use Rattle.session_calls.specs.Answers.{State}
 use Rattle.script_run.specs.Runs.{Lines, lines_of, Unfed, Run, run_with, take_lines, end_of, Reading, take_piece}
@@ -18,16 +20,16 @@ abbrev pub lines_from : List ℕ → ℕ → Lines
 lines_from input i = lines_of (drop i input)
 
 -- of the input from index from on, in the state s, lines were taken: r was returned, with the text t and the state s'
-pub record TakesLines (bytes input : List ℕ) (from : ℕ) (s : State) (r : Taken) (t : List ℕ) (s' : State) : Type 0 where
+pub record TakesLines (bytes input : List ℕ) (from : ℕ) (s : State) (r : Taken) (t : Text) (s' : State) : Type 0 where
   -- what was taken, and behind it the lines that are left, come to what all of them come to
-  pub run : (n : ℕ) → take_lines bytes (run_with s' (n + r.lines) t r.end r.good) (lines_from input r.next).whole ≡ take_lines bytes (run_anew s n) (lines_from input from).whole
+  pub run : (n : ℕ) → take_lines bytes (run_with s' (n + r.lines) t.bytes.now t.end r.good) (lines_from input r.next).whole ≡ take_lines bytes (run_anew s n) (lines_from input from).whole
   pub rest : (lines_from input r.next).rest ≡ (lines_from input from).rest
   -- where every line was good and there is room for an answer more, no whole line is left
-  pub stopped : r.good ≡ true → r.end + max_answer ≤ length t → Unfed (drop r.next input)
+  pub stopped : r.good ≡ true → HasRoom max_answer t → Unfed (drop r.next input)
   pub inside : r.next ≤ length input
-  pub within : r.end ≤ length t
+  pub within : t.end ≤ length t.bytes.now
   -- a line's answer has at most so many characters
-  pub most : r.end ≤ r.lines * max_answer
+  pub most : t.end ≤ r.lines * max_answer
 
 -- ---- By pieces
 

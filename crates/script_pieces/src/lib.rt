@@ -2,48 +2,45 @@
 #![tactic(auto)]
 
 ghost use Rattle.std.specs.Prelude.{◌≡◌, ◌≤◌, length};
-ghost use Rattle.trb.specs.Limits.{min_row_log};
 ghost use Rattle.state_text.specs.Widths.{max_answer};
-ghost use Rattle.session_calls.specs.Answers.{state_of};
+ghost use Rattle.session_calls.specs.Buffers.{SameBuffers};
+ghost use Rattle.session_calls.specs.Answers.{state_in};
 ghost use Rattle.script_pieces.specs.Pieces.{TakesLines};
 
-use session::Session;
+use session::{LentBuffers, Session};
 use text::Text;
 
-// What was taken: the session behind it, the index of the first byte that was not, how many lines, where their text ends, and whether every line was good: the
-// others are there either way.
+// What was taken: the session behind it, the index of the first byte that was not, how many lines, and whether every line was good: the others are there either
+// way.
 #[derive(Clone, Copy)]
 pub struct Taken {
     pub session: Session,
     pub next: usize,
     pub lines: usize,
-    pub end: usize,
     pub good: bool,
 }
 
 // Takes the whole lines of the input from index `from` on, as long as they are good and the text has room for a further answer. The text starts anew.
 pub fn take_lines(
-    text: &mut [u8],
+    text: &mut Text<'_>,
     session: Session,
     input: &[u8],
     from: usize,
-    log: &mut [u8],
-    collect: &mut [u8],
-    data: &[u8],
-    low: &mut [u8],
-    high: &mut [u8],
+    buffers: &mut LentBuffers<'_>,
 ) -> Taken
-    requires max_answer_in_bounds { max_answer ≤ length text.old }
+    requires max_answer_in_bounds { max_answer ≤ length text.old.bytes.now }
     requires from_in_bounds { from ≤ length input.now }
-    requires log_len_bound { length log.old ≤ min_row_log }
-    ensures { TakesLines «data».now input.now from (state_of session log.old collect.old low.old high.old) result text.new (state_of result.session log.new collect.new low.new high.new) }
+    ensures taken { TakesLines buffers.old.«data».now input.now from (state_in session buffers.old) result text.new (state_in result.session buffers.new) }
+    ensures text { text.new.bytes.ghost_name ≡ text.old.bytes.ghost_name }
+    ensures size { length text.new.bytes.now ≡ length text.old.bytes.now }
+    ensures same { SameBuffers buffers.old buffers.new }
 {
-    let room = text.len() - state_text::MAX_ANSWER;
+    let room = text.bytes.len() - state_text::MAX_ANSWER;
+    text.end = 0;
     let mut taken = Taken {
         session,
         next: from,
         lines: 0,
-        end: 0,
         good: true,
     };
     // A line ends where its line feed is, and a bad one ends the run.
@@ -52,28 +49,15 @@ pub fn take_lines(
         if input.len() <= stop {
             return taken;
         }
-        if room < taken.end {
+        if room < text.end {
             return taken;
         }
-        let mut printed = Text {
-            bytes: text,
-            end: taken.end,
-        };
-        let ran = script_run::take_line(
-            &mut printed,
-            taken.session,
-            &input[taken.next..stop],
-            log,
-            collect,
-            data,
-            low,
-            high,
-        );
+        let line = &input[taken.next..stop];
+        let ran = script_run::take_line(text, taken.session, line, buffers);
         taken = Taken {
             session: ran.left,
             next: stop + 1,
             lines: taken.lines + 1,
-            end: printed.end,
             good: ran.good,
         };
     }

@@ -1,8 +1,7 @@
 -- What a call script says from line to line, and each change of it. Assumes nothing.
-use Rattle.std.specs.Prelude.{ℕ, Bool, true, false, List, replicate, None, Option, Some}
+use Rattle.std.specs.Prelude.{ℕ, Bool, true, false, replicate, None, Option, Some}
 use Rattle.trb.specs.Limits.{max_row, max_collected}
 use Rattle.trb.specs.declared.InTrbProcessingStatus.TheVariants.{Success}
-use Rattle.trb.specs.declared.TransferTrb.{TransferTrb}
 use Rattle.held.specs.Places.{blank_trb}
 use Rattle.in_td.specs.declared.InMode.TheVariants.{AsPorted}
 use Rattle.in_block.specs.Blocks.{fresh_block}
@@ -10,9 +9,9 @@ use Rattle.in_block.specs.declared.InBlock.{InBlock}
 use Rattle.control_block.specs.Blocks.{fresh_block as fresh_control_block}
 use Rattle.control_block.specs.declared.ControlBlock.{ControlBlock}
 use Rattle.control_block.specs.declared.GuestRelease.TheVariants.{Release4}
-use Rattle.row_walk.specs.declared.TdResult.{TdResult}
 use Rattle.call_script.specs.Limits.{max_lent_log}
 use Rattle.call_answer.specs.declared.Ran.{Ran}
+use Rattle.in_calls.specs.declared.Row.{Row}
 use Rattle.lent_calls.specs.declared.Lent.{Lent}
 use Rattle.held.specs.declared.EndpointKind.{EndpointKind}
 use Rattle.held.specs.declared.EndpointKind.TheVariants.{In, Control}
@@ -37,10 +36,7 @@ new_session = record {
   high_length = 0;
   log_length = max_lent_log;
   collect_length = max_collected;
-  row = replicate max_row blank_trb;
-  row_count = 0;
-  results = replicate max_row (record { status = Success; length = 0 });
-  result_count = 0;
+  row = record { trbs = replicate max_row blank_trb; count = 0; results = replicate max_row (record { status = Success; length = 0 }); tds = 0 };
 }
 
 abbrev pub is_in_endpoint : Option EndpointKind → Bool
@@ -50,89 +46,34 @@ is_in_endpoint (Some Control) = false
 
 -- ---- Each change
 
--- another endpoint, or another block of it
-abbrev pub with_endpoint : Session → Option EndpointKind → InBlock → ControlBlock → Session
-with_endpoint s e a b = record {
-  endpoint = e;
-  in_block = a;
-  control_block = b;
-  low_base = s.low_base;
-  low_length = s.low_length;
-  high_base = s.high_base;
-  high_length = s.high_length;
-  log_length = s.log_length;
-  collect_length = s.collect_length;
-  row = s.row;
-  row_count = s.row_count;
-  results = s.results;
-  result_count = s.result_count;
-}
-
 -- calls are made on an IN endpoint with this block
 abbrev pub with_in_block : Session → InBlock → Session
-with_in_block s b = with_endpoint s (Some In) b s.control_block
+with_in_block s b = record s { endpoint = Some In; in_block = b }
 
 -- calls are made on a control endpoint with this block
 abbrev pub with_control_block : Session → ControlBlock → Session
-with_control_block s b = with_endpoint s (Some Control) s.in_block b
+with_control_block s b = record s { endpoint = Some Control; control_block = b }
 
 -- other regions, by base and length
 abbrev pub with_regions : Session → ℕ → ℕ → ℕ → ℕ → Session
-with_regions s low_base low_length high_base high_length = record {
-  endpoint = s.endpoint;
-  in_block = s.in_block;
-  control_block = s.control_block;
-  low_base = low_base;
-  low_length = low_length;
-  high_base = high_base;
-  high_length = high_length;
-  log_length = s.log_length;
-  collect_length = s.collect_length;
-  row = s.row;
-  row_count = s.row_count;
-  results = s.results;
-  result_count = s.result_count;
-}
+with_regions s low_base low_length high_base high_length =
+    record s { low_base = low_base; low_length = low_length; high_base = high_base; high_length = high_length }
 
 -- so many bytes of log and collect buffer are lent
 abbrev pub with_lengths : Session → ℕ → ℕ → Session
-with_lengths s log collect = record {
-  endpoint = s.endpoint;
-  in_block = s.in_block;
-  control_block = s.control_block;
-  low_base = s.low_base;
-  low_length = s.low_length;
-  high_base = s.high_base;
-  high_length = s.high_length;
-  log_length = log;
-  collect_length = collect;
-  row = s.row;
-  row_count = s.row_count;
-  results = s.results;
-  result_count = s.result_count;
-}
+with_lengths s log collect = record s { log_length = log; collect_length = collect }
 
--- another row is written down: its TRBs and results, and how many of each
-abbrev pub with_row : Session → List TransferTrb → ℕ → List TdResult → ℕ → Session
-with_row s ts k rs n = record {
-  endpoint = s.endpoint;
-  in_block = s.in_block;
-  control_block = s.control_block;
-  low_base = s.low_base;
-  low_length = s.low_length;
-  high_base = s.high_base;
-  high_length = s.high_length;
-  log_length = s.log_length;
-  collect_length = s.collect_length;
-  row = ts;
-  row_count = k;
-  results = rs;
-  result_count = n;
-}
+-- another row is written down
+abbrev pub with_row : Session → Row → Session
+with_row s w = record s { row = w }
+
+-- a row of which nothing is written down
+abbrev pub emptied : Row → Row
+emptied w = record w { count = 0; tds = 0 }
 
 -- no row is written down
 abbrev pub without_row : Session → Session
-without_row s = with_row s s.row 0 s.results 0
+without_row s = with_row s (emptied s.row)
 
 -- how much of each buffer is lent
 abbrev pub lent_of : Session → Lent

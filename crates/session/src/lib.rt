@@ -1,17 +1,19 @@
 // What a call script has come to, and each change of it.
 #![tactic(auto)]
 
-ghost use Rattle.std.specs.Prelude.{◌≡◌};
-ghost use Rattle.session.specs.Sessions.{new_session, is_in_endpoint, with_in_block, with_control_block, without_row, lent_of, in_ran, control_ran};
+ghost use Rattle.std.specs.Prelude.{◌≡◌, ◌≤◌, length};
+ghost use Rattle.trb.specs.Limits.{min_row_log};
+ghost use Rattle.session.specs.Sessions.{new_session, is_in_endpoint, without_row, lent_of, in_ran, control_ran};
 
 use call_answer::Ran;
 use control_block::{ControlBlock, GuestRelease};
 use held::EndpointKind;
 use in_block::InBlock;
+use in_calls::Row;
 use in_td::InMode;
 use lent_calls::Lent;
 use row_walk::TdResult;
-use trb::{EndpointId, InTrbProcessingStatus, SlotId, TransferTrb};
+use trb::{EndpointId, InTrbProcessingStatus, SlotId};
 
 // Guest memory at the start: one region of this base and length.
 pub const FIRST_BASE: u64 = 0x8000;
@@ -32,10 +34,19 @@ pub struct Session {
     pub high_length: usize,
     pub log_length: usize,
     pub collect_length: usize,
-    pub row: [TransferTrb; trb::MAX_ROW],
-    pub row_count: usize,
-    pub results: [TdResult; trb::MAX_ROW],
-    pub result_count: usize,
+    pub row: Row,
+}
+
+// A script's buffers, of which its calls are lent the first bytes, and the data of its device. The log is no longer than that of a row: the text of an answer
+// has room for its records.
+#[derive(Drop)]
+pub struct LentBuffers<'a> {
+    pub log: &'a mut [u8],
+    pub collect: &'a mut [u8],
+    pub data: &'a [u8],
+    pub low: &'a mut [u8],
+    pub high: &'a mut [u8],
+    pub ghost log_len_bound: { length log.now ≤ min_row_log },
 }
 
 // A script's session before its first line.
@@ -57,10 +68,12 @@ pub fn new_session() -> Session
         high_length: 0,
         log_length: call_script::MAX_LENT_LOG,
         collect_length: trb::MAX_COLLECTED,
-        row: [blank; trb::MAX_ROW],
-        row_count: 0,
-        results: [nothing; trb::MAX_ROW],
-        result_count: 0,
+        row: Row {
+            trbs: [blank; trb::MAX_ROW],
+            count: 0,
+            results: [nothing; trb::MAX_ROW],
+            tds: 0,
+        },
     }
 }
 
@@ -106,8 +119,8 @@ pub fn without_row(session: Session) -> Session
     ensures { result ≡ without_row session }
 {
     let mut next = session;
-    next.row_count = 0;
-    next.result_count = 0;
+    next.row.count = 0;
+    next.row.tds = 0;
     next
 }
 

@@ -84,14 +84,14 @@ module _ (x : Session) (log collect low high : List ℕ) {l : Lent} {t t' : Text
       lent run) e
 
   pub answers-row : {ran : Ran InBlock} {y : Session} (bytes : List ℕ) (n : ℕ)
-      → RunsLent (row_call x.in_block x.row x.row_count x.results x.result_count (take n bytes) (take l.log log) (lent_memory l low high))
+      → RunsLent (row_call x.in_block x.row (take n bytes) (take l.log log) (lent_memory l low high))
       l t ran t' log log' low low' high high' → y ≡ without_row x → r ≡ in_ran y ran
       → Answers (row_answer bytes (state_of x log collect low high) n) t r t' (state_of r.left log' collect low' high')
   unfolding row_answer
   answers-row {ran = ran} bytes n run emptied e =
       called-in (state_of x log collect low high) (without_row x)
       (subst
-      (λ (z : Lent). RunsLent (row_call x.in_block x.row x.row_count x.results x.result_count (take n bytes) (take z.log log) (lent_memory z low high))
+      (λ (z : Lent). RunsLent (row_call x.in_block x.row (take n bytes) (take z.log log) (lent_memory z low high))
       z t ran t' log log' low low' high high')
       lent run)
       (subst (λ (z : Session). r ≡ in_ran z ran) emptied e)

@@ -14,6 +14,7 @@ use Rattle.call_script.specs.declared.Call.TheVariants.{Window, Buffers, CreateI
 use Rattle.in_calls.specs.Calls.{in_call, row_call, create_call}
 use Rattle.control_calls.specs.Calls.{control_call, collect_behind, create_call as create_control_call}
 use Rattle.lent_calls.specs.Lent.{lent_memory, behind_lent}
+use Rattle.session.specs.declared.LentBuffers.{LentBuffers}
 use Rattle.session.specs.Sessions.{Quiet, bad_quiet, good_quiet, with_in_block, with_control_block, with_lengths, without_row, lent_of}
 use Rattle.held.specs.declared.EndpointKind.{EndpointKind}
 use Rattle.held.specs.declared.EndpointKind.TheVariants.{In, Control}
@@ -31,6 +32,10 @@ pub record State : Type 0 where
 
 abbrev pub state_of : Session → List ℕ → List ℕ → List ℕ → List ℕ → State
 state_of s log collect low high = record { session = s; log = log; collect = collect; low = low; high = high }
+
+-- a session, and what lies in the buffers of its script
+abbrev pub state_in : Session → LentBuffers → State
+state_in s b = state_of s b.log.now b.collect.now b.low.now b.high.now
 
 -- the state behind a call, what it prints, how many records it logged, whether its line is good
 pub record Answer : Type 0 where
@@ -74,7 +79,7 @@ in_answer bytes s c =
 unfoldable pub row_answer : List ℕ → State → ℕ → Answer
 row_answer bytes s n =
     let x = s.session in
-    let o = row_call x.in_block x.row x.row_count x.results x.result_count (take n bytes) (lent_log s) (memory_of_state s) in
+    let o = row_call x.in_block x.row (take n bytes) (lent_log s) (memory_of_state s) in
     saying o.said (called_state s (with_in_block (without_row x) o.said.block) o s.collect)
 
 -- on a control endpoint

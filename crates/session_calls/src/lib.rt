@@ -1,11 +1,11 @@
 // Each call of a script, made on what the script has come to, with its answer.
 #![tactic(auto)]
 
-ghost use Rattle.std.specs.Prelude.{◌≡◌, List, ℕ, ◌≤◌, length};
-ghost use Rattle.trb.specs.Limits.{min_row_log};
+ghost use Rattle.std.specs.Prelude.{List, ℕ};
 ghost use Rattle.text.specs.Wrote.{HasRoom};
 ghost use Rattle.state_text.specs.Widths.{max_answer};
-ghost use Rattle.session_calls.specs.Answers.{state_of, in_answer, control_answer, row_answer, endpoint_answer, endpoint_row_answer, in_creation, control_creation, answer_of, Answers};
+ghost use Rattle.session_calls.specs.Buffers.{SameBuffers};
+ghost use Rattle.session_calls.specs.Answers.{state_of, state_in, in_answer, control_answer, row_answer, endpoint_answer, endpoint_row_answer, in_creation, control_creation, answer_of, Answers};
 
 use call_answer::Ran;
 use call_script::Call;
@@ -13,33 +13,30 @@ use control_block::GuestRelease;
 use held::EndpointKind;
 use in_td::InMode;
 use row_walk::TdResult;
-use session::Session;
+use session::{LentBuffers, Session};
 use text::Text;
 use trb::{EndpointId, SlotId};
 
-// A call on an IN endpoint. It does not touch the collect buffer.
+// A call on an IN endpoint. The collect buffer stays as it was.
 fn run_in(
     text: &mut Text<'_>,
     session: Session,
     call: Call,
-    log: &mut [u8],
-    data: &[u8],
-    low: &mut [u8],
-    high: &mut [u8],
+    buffers: &mut LentBuffers<'_>,
 ) -> Ran<Session>
-    requires has_room { HasRoom max_answer text.old }
-    requires log_len_bound { length log.old ≤ min_row_log }
-    ensures { (collect : List ℕ) → Answers (in_answer «data».now (state_of session log.old collect low.old high.old) call) text.old result text.new (state_of result.left log.new collect low.new high.new) }
+    requires { HasRoom max_answer text.old }
+    ensures answer { Answers (in_answer buffers.old.«data».now (state_in session buffers.old) call) text.old result text.new (state_in result.left buffers.new) }
+    ensures same { SameBuffers buffers.old buffers.new }
 {
     let ran = lent_calls::run_in(
         text,
         session::lent_of(session),
         session.in_block,
         call,
-        log,
-        data,
-        low,
-        high,
+        buffers.log,
+        buffers.data,
+        buffers.low,
+        buffers.high,
     );
     session::after_in(session, ran)
 }
@@ -49,28 +46,22 @@ fn run_row(
     text: &mut Text<'_>,
     session: Session,
     bytes: usize,
-    log: &mut [u8],
-    data: &[u8],
-    low: &mut [u8],
-    high: &mut [u8],
+    buffers: &mut LentBuffers<'_>,
 ) -> Ran<Session>
-    requires has_room { HasRoom max_answer text.old }
-    requires log_len_bound { length log.old ≤ min_row_log }
-    ensures { (collect : List ℕ) → Answers (row_answer «data».now (state_of session log.old collect low.old high.old) bytes) text.old result text.new (state_of result.left log.new collect low.new high.new) }
+    requires { HasRoom max_answer text.old }
+    ensures answer { Answers (row_answer buffers.old.«data».now (state_in session buffers.old) bytes) text.old result text.new (state_in result.left buffers.new) }
+    ensures same { SameBuffers buffers.old buffers.new }
 {
     let ran = lent_calls::run_row(
         text,
         session::lent_of(session),
         session.in_block,
         session.row,
-        session.row_count,
-        session.results,
-        session.result_count,
         bytes,
-        log,
-        data,
-        low,
-        high,
+        buffers.log,
+        buffers.data,
+        buffers.low,
+        buffers.high,
     );
     session::after_in(session::without_row(session), ran)
 }
@@ -80,26 +71,22 @@ fn run_control(
     text: &mut Text<'_>,
     session: Session,
     call: Call,
-    log: &mut [u8],
-    collect: &mut [u8],
-    data: &[u8],
-    low: &mut [u8],
-    high: &mut [u8],
+    buffers: &mut LentBuffers<'_>,
 ) -> Ran<Session>
-    requires has_room { HasRoom max_answer text.old }
-    requires log_len_bound { length log.old ≤ min_row_log }
-    ensures { Answers (control_answer «data».now (state_of session log.old collect.old low.old high.old) call) text.old result text.new (state_of result.left log.new collect.new low.new high.new) }
+    requires { HasRoom max_answer text.old }
+    ensures answer { Answers (control_answer buffers.old.«data».now (state_in session buffers.old) call) text.old result text.new (state_in result.left buffers.new) }
+    ensures same { SameBuffers buffers.old buffers.new }
 {
     let ran = lent_calls::run_control(
         text,
         session::lent_of(session),
         session.control_block,
         call,
-        log,
-        collect,
-        data,
-        low,
-        high,
+        buffers.log,
+        buffers.collect,
+        buffers.data,
+        buffers.low,
+        buffers.high,
     );
     session::after_control(session, ran)
 }
@@ -109,22 +96,18 @@ fn run_on_endpoint(
     text: &mut Text<'_>,
     session: Session,
     call: Call,
-    log: &mut [u8],
-    collect: &mut [u8],
-    data: &[u8],
-    low: &mut [u8],
-    high: &mut [u8],
+    buffers: &mut LentBuffers<'_>,
 ) -> Ran<Session>
-    requires has_room { HasRoom max_answer text.old }
-    requires log_len_bound { length log.old ≤ min_row_log }
-    ensures { Answers (endpoint_answer session.endpoint «data».now (state_of session log.old collect.old low.old high.old) call) text.old result text.new (state_of result.left log.new collect.new low.new high.new) }
+    requires { HasRoom max_answer text.old }
+    ensures answer { Answers (endpoint_answer session.endpoint buffers.old.«data».now (state_in session buffers.old) call) text.old result text.new (state_in result.left buffers.new) }
+    ensures same { SameBuffers buffers.old buffers.new }
 {
     let Some(endpoint) = session.endpoint else {
         return call_answer::bad(session);
     };
     match endpoint {
-        EndpointKind::In => run_in(text, session, call, log, data, low, high),
-        EndpointKind::Control => run_control(text, session, call, log, collect, data, low, high),
+        EndpointKind::In => run_in(text, session, call, buffers),
+        EndpointKind::Control => run_control(text, session, call, buffers),
     }
 }
 
@@ -133,20 +116,17 @@ fn run_row_on_endpoint(
     text: &mut Text<'_>,
     session: Session,
     bytes: usize,
-    log: &mut [u8],
-    data: &[u8],
-    low: &mut [u8],
-    high: &mut [u8],
+    buffers: &mut LentBuffers<'_>,
 ) -> Ran<Session>
-    requires has_room { HasRoom max_answer text.old }
-    requires log_len_bound { length log.old ≤ min_row_log }
-    ensures { (collect : List ℕ) → Answers (endpoint_row_answer session.endpoint «data».now (state_of session log.old collect low.old high.old) bytes) text.old result text.new (state_of result.left log.new collect low.new high.new) }
+    requires { HasRoom max_answer text.old }
+    ensures answer { Answers (endpoint_row_answer session.endpoint buffers.old.«data».now (state_in session buffers.old) bytes) text.old result text.new (state_in result.left buffers.new) }
+    ensures same { SameBuffers buffers.old buffers.new }
 {
     let Some(endpoint) = session.endpoint else {
         return call_answer::bad(session);
     };
     match endpoint {
-        EndpointKind::In => run_row(text, session, bytes, log, data, low, high),
+        EndpointKind::In => run_row(text, session, bytes, buffers),
         EndpointKind::Control => call_answer::bad(session),
     }
 }
@@ -191,15 +171,11 @@ pub fn run_call(
     text: &mut Text<'_>,
     session: Session,
     call: Call,
-    log: &mut [u8],
-    collect: &mut [u8],
-    data: &[u8],
-    low: &mut [u8],
-    high: &mut [u8],
+    buffers: &mut LentBuffers<'_>,
 ) -> Ran<Session>
-    requires has_room { HasRoom max_answer text.old }
-    requires log_len_bound { length log.old ≤ min_row_log }
-    ensures { Answers (answer_of «data».now (state_of session log.old collect.old low.old high.old) call) text.old result text.new (state_of result.left log.new collect.new low.new high.new) }
+    requires { HasRoom max_answer text.old }
+    ensures answer { Answers (answer_of buffers.old.«data».now (state_in session buffers.old) call) text.old result text.new (state_in result.left buffers.new) }
+    ensures same { SameBuffers buffers.old buffers.new }
 {
     match call {
         Call::Window(low_base, low_length, high_base, high_length) => session_lines::move_window(
@@ -208,8 +184,8 @@ pub fn run_call(
             low_length,
             high_base,
             high_length,
-            low,
-            high,
+            buffers.low,
+            buffers.high,
         ),
         Call::Buffers(log_length, collect_length) => session_lines::lend_buffers(
             session,
@@ -223,23 +199,18 @@ pub fn run_call(
             slot_id,
             mode,
         ),
-        Call::CreateControl(endpoint_id, slot_id, release) => create_control(
-            text,
-            session,
-            endpoint_id,
-            slot_id,
-            release,
-            collect,
-        ),
+        Call::CreateControl(endpoint_id, slot_id, release) => {
+            // A slice that a lent struct holds, passed on to be read, is a variable first: else only its length would be known afterwards.
+            let collect = &mut *buffers.collect;
+            create_control(text, session, endpoint_id, slot_id, release, collect)
+        }
         Call::AppendTrb(t) => session_lines::append_trb(session, t),
         Call::AppendResult(status, length) => {
             session_lines::append_result(session, TdResult { status, length })
         }
-        Call::CompleteRow(length) => run_row_on_endpoint(
-            text, session, length, log, data, low, high,
-        ),
+        Call::CompleteRow(length) => run_row_on_endpoint(text, session, length, buffers),
         Call::Time(_, _) => call_answer::silent(session),
         Call::Captured(_, _, _) => call_answer::silent(session),
-        _ => run_on_endpoint(text, session, call, log, collect, data, low, high),
+        _ => run_on_endpoint(text, session, call, buffers),
     }
 }

@@ -8,6 +8,7 @@ use Rattle.lent_calls.specs.Lent.{behind_lent}
 use Rattle.session.specs.Sessions.{Quiet, bad_quiet, good_quiet, quiet_ran, is_in_endpoint, with_regions, with_row}
 use Rattle.held.specs.declared.EndpointKind.{EndpointKind}
 use Rattle.call_answer.specs.declared.Ran.{Ran}
+use Rattle.in_calls.specs.declared.Row.{Row}
 use Rattle.session.specs.declared.Session.{Session}
 
 -- ---- `w`: guest memory is filled anew
@@ -42,15 +43,14 @@ abbrev pub may_append : Option EndpointKind → ℕ → Bool
 may_append e n = leb n max_row && is_in_endpoint e
 
 -- what stands behind the places is counted, not kept
-abbrev pub with_trb : Session → TransferTrb → Session
-with_trb s t = with_row s (cond (leb max_row s.row_count) s.row (set s.row s.row_count t)) (s.row_count + 1) s.results s.result_count
+abbrev pub with_trb : Row → TransferTrb → Row
+with_trb w t = record w { trbs = cond (leb max_row w.count) w.trbs (set w.trbs w.count t); count = w.count + 1 }
 
-abbrev pub with_result : Session → TdResult → Session
-with_result s given =
-    with_row s s.row s.row_count (cond (leb max_row s.result_count) s.results (set s.results s.result_count given)) (s.result_count + 1)
+abbrev pub with_result : Row → TdResult → Row
+with_result w given = record w { results = cond (leb max_row w.tds) w.results (set w.results w.tds given); tds = w.tds + 1 }
 
 unfoldable pub append_trb : Session → TransferTrb → Quiet
-append_trb s t = cond (may_append s.endpoint s.row_count) (good_quiet (with_trb s t)) (bad_quiet s)
+append_trb s t = cond (may_append s.endpoint s.row.count) (good_quiet (with_row s (with_trb s.row t))) (bad_quiet s)
 
 unfoldable pub append_result : Session → TdResult → Quiet
-append_result s given = cond (may_append s.endpoint s.result_count) (good_quiet (with_result s given)) (bad_quiet s)
+append_result s given = cond (may_append s.endpoint s.row.tds) (good_quiet (with_row s (with_result s.row given))) (bad_quiet s)

@@ -7,6 +7,7 @@ ghost use Rattle.session.specs.Sessions.{with_lengths, quiet_ran, good_quiet};
 ghost use Rattle.session_lines.specs.Lines.{FillsRegion, MovesWindow, with_trb, append_trb, with_result, append_result};
 
 use call_answer::Ran;
+use in_calls::Row;
 use row_walk::TdResult;
 use session::Session;
 use trb::TransferTrb;
@@ -61,15 +62,15 @@ pub fn lend_buffers(session: Session, log_length: usize, collect_length: usize) 
 // ---- The row that is being written down
 
 // The TRB goes to its end.
-fn with_trb(session: Session, t: TransferTrb) -> Session
-    requires { session.row_count ≤ max_row }
-    ensures { result ≡ with_trb session t }
+fn with_trb(row: Row, t: TransferTrb) -> Row
+    requires { row.count ≤ max_row }
+    ensures { result ≡ with_trb row t }
 {
-    let place = session.row_count;
-    let mut next = session;
-    next.row_count = place + 1;
+    let place = row.count;
+    let mut next = row;
+    next.count = place + 1;
     if place < trb::MAX_ROW {
-        next.row[place] = t;
+        next.trbs[place] = t;
     }
     next
 }
@@ -79,20 +80,21 @@ fn with_trb(session: Session, t: TransferTrb) -> Session
 pub fn append_trb(session: Session, t: TransferTrb) -> Ran<Session>
     ensures { result ≡ quiet_ran (append_trb session t) }
 {
-    if trb::MAX_ROW < session.row_count || !session::is_in(session.endpoint) {
+    if trb::MAX_ROW < session.row.count || !session::is_in(session.endpoint) {
         return call_answer::bad(session);
     }
-    call_answer::silent(with_trb(session, t))
+    let row = with_trb(session.row, t);
+    call_answer::silent(Session { row, ..session })
 }
 
 // Its next TD is given this.
-fn with_result(session: Session, given: TdResult) -> Session
-    requires { session.result_count ≤ max_row }
-    ensures { result ≡ with_result session given }
+fn with_result(row: Row, given: TdResult) -> Row
+    requires { row.tds ≤ max_row }
+    ensures { result ≡ with_result row given }
 {
-    let place = session.result_count;
-    let mut next = session;
-    next.result_count = place + 1;
+    let place = row.tds;
+    let mut next = row;
+    next.tds = place + 1;
     if place < trb::MAX_ROW {
         next.results[place] = given;
     }
@@ -104,8 +106,9 @@ fn with_result(session: Session, given: TdResult) -> Session
 pub fn append_result(session: Session, given: TdResult) -> Ran<Session>
     ensures { result ≡ quiet_ran (append_result session given) }
 {
-    if trb::MAX_ROW < session.result_count || !session::is_in(session.endpoint) {
+    if trb::MAX_ROW < session.row.tds || !session::is_in(session.endpoint) {
         return call_answer::bad(session);
     }
-    call_answer::silent(with_result(session, given))
+    let row = with_result(session.row, given);
+    call_answer::silent(Session { row, ..session })
 }

@@ -11,7 +11,7 @@ use lib.ListN.{length, take, set, length-append}
 use lib.Seq.{take-suc-set, length-take-le, append_snoc}
 use Rattle.text.specs.declared.Text.{Text}
 use Rattle.text.specs.Wrote.{HasRoom, Wrote}
-use Rattle.text.proofs.WroteLaws.{wrote-none, wrote-append, wrote-within, wrote-exact}
+use Rattle.text.proofs.WroteLaws.{wrote-none, wrote-append, wrote-within}
 use Rattle.log_text.specs.Lines.{line_feed}
 use Rattle.shapes.specs.Letters.{Letter, Word, byte_of, D, E, N, T, d, e, n, s, t}
 use Rattle.shapes.specs.Lists.{max_shape, after, request_made, final_event_data, status_stage, more_data, data_stage, shapes, shapes_up_to}
@@ -100,9 +100,6 @@ lines-one p = append-nil (p ++ (line_feed ∷ []))
 
 pub length-line : (w : List ℕ) (size : ℕ) → size ≤ length w → length (lines (take size w) ([] ∷ [])) ≡ size + 1
 length-line w size h = ap length (lines-one (take size w)) ∙ length-append (take size w) (line_feed ∷ []) ∙ ap (λ (i : ℕ). i + 1) (length-take-le size w h)
-
-pub laid-line : (w : List ℕ) (size : ℕ) {l m : Text} → Wrote (size + 1) l (take size w ++ (line_feed ∷ [])) m → Laid (lines (take size w) ([] ∷ [])) l m
-laid-line w size f = laid-cast (lines-one (take size w)) (record { same = f.same; size = f.size; wrote = λ _. wrote-exact f })
 
 -- ---- MoreData
 

@@ -23,7 +23,7 @@ fn data_end(text: &mut Text<'_>, word: [u8; shape_lines::MAX_SHAPE], chosen: usi
     shape_lines::status_stage(text, y, chosen + 1, left);
 }
 
-// A chained Event Data TRB, and then in MoreData.
+// A chained Event Data TRB, and then in MoreData. A rule of the project gives the form: it and `normal` call each other.
 #[cycle(event_data_normal)]
 fn event_data(text: &mut Text<'_>, word: [u8; shape_lines::MAX_SHAPE], chosen: usize, left: usize)
     requires { chosen + left < max_shape }

@@ -58,6 +58,7 @@ pub fn put_in_line(text: &mut Text<'_>, state: TdBasedNormalSubmissionState, hel
     text.put_char(b'\n');
 }
 
+#[tactic(auto, unfolding(crate::specs::Lines::phase_word))]
 fn put_phase(text: &mut Text<'_>, phase: ControlTransferState)
     requires { HasRoom 7 text.old }
     ensures { Wrote 7 text.old (phase_word phase) text.new }

@@ -11,35 +11,19 @@ use answer_numbers::Answered;
 use text::Text;
 use trb::Refusal;
 
-// A refused call made nothing.
-fn refused(refusal: Refusal) -> Answered
-    ensures { result ≡ record { number = refusal_number refusal; count = 0 } }
-{
-    Answered {
-        number: u8::from(refusal) as u32,
-        count: 0,
-    }
-}
-
 // Question 10: is the log a multiple of 32 bytes with every kind 1, 2 or 3? Answers 10, or 0.
+#[tactic(auto, unfolding(trb::specs::Questions::first_no))]
 pub fn check(log: &[u8]) -> u32
     ensures { result ≡ first_no (check_questions log.now) }
 {
-    if log_check::well_formed(log) {
-        0
-    } else {
-        u8::from(Refusal::MalformedLog) as u32
-    }
+    trb::number_of(trb::ask(log_check::well_formed(log), Refusal::MalformedLog)) as u32
 }
 
 // Compacts a log in its own buffer, and counts the records kept.
 pub fn compact(log: &mut [u8]) -> Answered
     ensures { Compacts log.old result log.new }
 {
-    match log_compact::compact(log) {
-        Ok(count) => Answered { number: 0, count },
-        Err(refusal) => refused(refusal),
-    }
+    answer_numbers::counted(log_compact::compact(log))
 }
 
 // Characters that the line of a record takes at most.
@@ -54,18 +38,15 @@ pub fn print(log: &[u8], text: &mut [u8]) -> Answered
     ensures { Prints log.now text.old result text.new }
 {
     if text.len() / log_text::MAX_LINE < log.len() / trb::RECORD_LENGTH {
-        return refused(Refusal::BufferTooShort);
+        return answer_numbers::counted(Err(Refusal::BufferTooShort));
     }
     if !log_check::well_formed(log) {
-        return refused(Refusal::MalformedLog);
+        return answer_numbers::counted(Err(Refusal::MalformedLog));
     }
     let mut text = Text {
         bytes: text,
         end: 0,
     };
     log_text::put_lines(&mut text, log);
-    Answered {
-        number: 0,
-        count: text.end,
-    }
+    answer_numbers::counted(Ok(text.end))
 }

@@ -8,8 +8,8 @@ use in_endpoint::Completed;
 use in_td::InMode;
 use std::io;
 use trb::{
-    CompletionAnswer, EndpointId, InTrbProcessingStatus, NormalTrb, SlotId,
-    TdBasedNormalSubmissionState, TransferTrb, TransferTrbVariant,
+    EndpointId, InTrbProcessingStatus, NormalTrb, SlotId, TdBasedNormalSubmissionState,
+    TransferTrb, TransferTrbVariant,
 };
 
 const LOW: u64 = 0x8000;

@@ -5,7 +5,6 @@ ghost use Rattle.std.specs.Prelude.{◌≡◌, ◌+◌, length};
 ghost use Rattle.trb.specs.Limits.{max_printed_log, record_length};
 
 use std::io;
-use trb::Answer;
 
 // Records of kind 1, every byte 1: one more than the longest log that is printed has.
 fn ones() -> [u8; trb::MAX_PRINTED_LOG + trb::RECORD_LENGTH]

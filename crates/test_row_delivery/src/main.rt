@@ -1,5 +1,6 @@
-// Completes rows of TDs and carries them out in one call, on guest memory in two regions of 8 bytes, all dots at first, with the joined device bytes a, b, c and so on. A line has
-// a case's name, the answer with the number of records and of TDs finished well, and the bytes of both regions afterwards.
+// Completes rows of TDs and carries them out in one call, on guest memory in two regions of 8 bytes, all dots at first, with the joined
+// device bytes a, b, c and so on. A line has a case's name, the answer with the number of records and of TDs finished well, and the bytes
+// of both regions afterwards.
 #![tactic(auto)]
 
 use guest_memory::GuestMemory;
@@ -9,8 +10,8 @@ use in_td::InMode;
 use row_walk::TdResult;
 use std::io;
 use trb::{
-    CompletionAnswer, EndpointId, InTrbProcessingStatus, NoOpTrb, NormalTrb, SlotId,
-    TdBasedNormalSubmissionState, TransferTrb, TransferTrbVariant,
+    EndpointId, InTrbProcessingStatus, NoOpTrb, NormalTrb, SlotId, TdBasedNormalSubmissionState,
+    TransferTrb, TransferTrbVariant,
 };
 
 const LOW: u64 = 0x8000;

@@ -266,7 +266,8 @@ pub struct UsbRequest {
     pub length: u32,
 }
 
-// ---- Results of a completion: the Rust's `Option<(u64, bool)>` is a case with and one without address and cycle bit.
+// ---- Results of a completion. A rule of the project gives the form: a case with and one without address and cycle bit, in place of the
+// Rust's `Option<(u64, bool)>`.
 
 #[derive(Clone, Copy, Debug, PartialEq, Eq)]
 pub enum TrbProcessingResult {

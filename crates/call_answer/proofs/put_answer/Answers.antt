@@ -8,7 +8,7 @@ pub returns-in-Ok : goal.returns-in-Ok
 unfolding answer_text
 returns-in-Ok c =
     rw c.in-Ok.is
-    (wrote-append (rw c.count.ensures at c.put_accepted.ensures) c.put_first_records.ensures)
+    (wrote-append (rw c.count.ensures at c.put_accepted.ensures) (rw c.first_records.ensures at c.put_records.ensures))
 
 pub returns-in-Err : goal.returns-in-Err
 unfolding answer_text

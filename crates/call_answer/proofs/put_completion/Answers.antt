@@ -11,9 +11,9 @@ returns-in-Ok-clause-answer c =
     rw c.in-Ok.is
     (record {
       text = wrote-append
-          (wrote-append (rw c.count.ensures at c.put_completed.ensures) c.put_first_records.ensures)
-          c.put_carry_out.ensures.answer.text;
-      after = c.put_carry_out.ensures.answer.after;
+          (wrote-append (rw c.count.ensures at c.put_completed.ensures) (rw c.first_records-shown.ensures at c.put_records.ensures))
+          (rw c.first_records-shown.ensures at c.put_carry_out.ensures.answer.text);
+      after = rw c.first_records-shown.ensures at c.put_carry_out.ensures.answer.after;
     })
 
 pub returns-in-Err-clause-answer : goal.returns-in-Err-clause-answer

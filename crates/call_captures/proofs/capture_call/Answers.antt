@@ -7,4 +7,4 @@ pub returns-in_default : goal.returns-in_default
 returns-in_default c =
     let a = c.args in
     let d = c.in_default in
-    rw (call_captures-other a.setting a.before a.after a.log.now a.records a.collect.now a.«data».now a.call d.not-Submit d.not-CompleteWithResult d.not-CompleteWithout d.not-CompleteRow) (laid-none c.requires)
+    rw (call_captures-other a.capture.now.setting a.before a.after a.log.now a.records a.collect.now a.«data».now a.call d.not-Submit d.not-CompleteWithResult d.not-CompleteWithout d.not-CompleteRow) (laid-none c.requires)

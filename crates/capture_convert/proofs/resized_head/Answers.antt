@@ -7,11 +7,8 @@ use Rattle.capture_file.specs.Reading.{original_at, delivered_at}
 use Rattle.capture_convert.proofs.ConvertingLaws.{sized}
 use Rattle.capture_convert.proofs.resized_head.Goals as goal
 
-pub le32-requires : goal.le32-requires
-le32-requires c = omega (arith, (sized c.requires).long)
-
-pub le32-requires-2 : goal.le32-requires-2
-le32-requires-2 c = omega (arith, (sized c.requires).long)
+pub time_at-requires : goal.time_at-requires
+time_at-requires c = omega (arith, (sized c.requires).long)
 
 pub le32-original-requires : goal.le32-original-requires
 le32-original-requires c = omega (arith, (sized c.requires).long)
@@ -41,4 +38,4 @@ pub returns : goal.returns
 unfolding original_at delivered_at
 returns c =
     c.record_head.ensures
-    ∙ (λ i. head (c.le32.ensures i) (c.le32-2.ensures i) (48 + c.args.to + c.le32-delivered.ensures i) (c.le32-original.ensures i + c.args.to - c.args.from))
+    ∙ (λ i. head (c.time_at.ensures i).seconds (c.time_at.ensures i).microseconds (48 + c.args.to + c.le32-delivered.ensures i) (c.le32-original.ensures i + c.args.to - c.args.from))

@@ -24,5 +24,5 @@ pub returns : goal.returns
 returns c =
     let here = behind (goal.at.returns c).In_ok-rest in
     let passes : made_record c.in_ok-rest.rest.now ≡ true = sym c.is_record.ensures.answer ∙ c.if-not-is_record.false in
-    rw (c.header_in.ensures, c.le32-2.ensures, c.le32.ensures, c.le32-payload_length.ensures, here)
+    rw (c.header_in.ensures, c.time_at.ensures, c.le32-payload_length.ensures, here)
     (read_found c.args.input.now c.args.at (rw here at passes))

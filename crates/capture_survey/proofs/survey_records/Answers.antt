@@ -1,6 +1,7 @@
 -- `capture_survey::survey_records` meets its contract. The loop's invariant: what was found so far, with what the records left give, is what all of them give. A
 -- record that is not whole ends the pass. Assumes nothing.
-use Rattle.std.proofs.Common.{◌∙◌, Bool, ◌&&◌, sym, ap, arith}
+use Rattle.std.proofs.Common.{◌∙◌, Bool, ◌&&◌, not, sym, ap, arith}
+use Rattle.capture_file.specs.declared.CaptureTime.{CaptureTime}
 use Rattle.capture_file.proofs.ReadingLaws.{part-from}
 use Rattle.capture_file.proofs.SurveyLaws.{survey-broken, survey-step, survey-ends}
 use Rattle.capture_survey.proofs.survey_records.Goals as goal
@@ -15,9 +16,9 @@ loop-rest-preserved c =
     (survey-step c.loop-rest.invariant (grind arith) (sym c.whole_record.ensures.answer ∙ c.if-not-whole_record.false)
     c.record_size.ensures
     (ap (λ (b : Bool). c.loop-rest.convertible && b) c.is_convertible-convertible.ensures)
-    (ap (λ (b : Bool). c.loop-rest.ordered && b) c.follows-ordered.ensures)
-    c.le32-seconds.ensures
-    c.le32-microseconds.ensures)
+    (ap (λ (b : Bool). c.loop-rest.ordered && not b) (rw c.time_at-time.ensures at c.is_before.ensures))
+    (ap (λ (t : CaptureTime). t.seconds) c.time_at-time.ensures)
+    (ap (λ (t : CaptureTime). t.microseconds) c.time_at-time.ensures))
 
 pub returns : goal.returns
 returns c = survey-ends c.loop-rest.invariant (grind arith)

@@ -17,7 +17,7 @@ unfolding record_bytes head
 returns c =
     let d = c.args.output.now in
     let n = 48 + length c.args.payload.now in
-    let front = head c.args.seconds c.args.microseconds n n in
+    let front = head c.args.time.seconds c.args.time.microseconds n n in
     let link = header_bytes c.args.header in
     let sized : length (front ++ link) ≡ 64 = rw (length-append, length-header_bytes) in
     let one : c.copy_into.new.dst ≡ patch d 0 front = c.copy_into.ensures ∙ ap (patch d 0) c.record_head-front.ensures in

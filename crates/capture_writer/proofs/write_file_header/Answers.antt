@@ -6,12 +6,12 @@ use Rattle.capture_record.proofs.CallLaws.{length-writer_head}
 use Rattle.capture_writer.proofs.WritingLaws.{writes, writes-not, short-head, whole-head}
 use Rattle.capture_writer.proofs.write_file_header.Goals as goal
 
-pub returns-then-output-lt24 : goal.returns-then-output-lt24
-returns-then-output-lt24 c =
+pub returns-then-output-lt-FILE_HEADER_LENGTH : goal.returns-then-output-lt-FILE_HEADER_LENGTH
+returns-then-output-lt-FILE_HEADER_LENGTH c =
     let d = c.args.output.now in
-    writes-not _ writer_head d 14 refl (short-head (length d) c.if-output-lt24.true)
+    writes-not _ writer_head d 14 refl (short-head (length d) c.if-output-lt-FILE_HEADER_LENGTH.true)
 
 pub returns : goal.returns
 returns c =
     let d = c.args.output.now in
-    rw (c.copy_into.ensures, c.file_head-cells.ensures) (writes _ writer_head d 24 (sym length-writer_head) (whole-head (length d) c.if-output-lt24.false))
+    rw (c.copy_into.ensures, c.file_head-cells.ensures) (writes _ writer_head d 24 (sym length-writer_head) (whole-head (length d) c.if-output-lt-FILE_HEADER_LENGTH.false))

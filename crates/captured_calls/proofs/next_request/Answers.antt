@@ -1,16 +1,25 @@
--- The invariant: no request lies between `from` and the record looked at.
-use Rattle.std.proofs.Common.{◌∙◌, sym}
-use borrow.Author.Tests.{eqb-true}
-use Rattle.captured_calls.proofs.RowLaws.{request-here, request-later, request-nowhere}
+-- `captured_calls::next_request` meets its contract: no record in front of the one that `find` found is a request. Assumes nothing.
+use Rattle.std.proofs.Common.{◌≡◌, ◌<◌, ◌≤◌, ℕ, List, true, false, eqb, rules, tests}
+use Rattle.std.specs.Option.{MatchOption}
+use Rattle.std.proofs.lemmas.Iterator.{first_from_Range, serves_from_Range}
+use Rattle.call_log.specs.Records.{request_kind, record_at}
+use Rattle.captured_calls.proofs.RowLaws.{Other, request-found, request-below}
+use Rattle.captured_calls.proofs.next_request.Goals.{After-find}
 use Rattle.captured_calls.proofs.next_request.Goals as goal
 
-pub returns-then-is_request-clause-rest : goal.returns-then-is_request-clause-rest
-returns-then-is_request-clause-rest c =
-    c.loop-index.invariant ∙ request-here _ _ c.args.log.now c.loop-index-test.true (eqb-true _ _ (sym c.is_request.ensures ∙ c.if-is_request.true))
+pub find-requires-clause-callable : goal.find-requires-clause-callable
+find-requires-clause-callable c = serves_from_Range (λ x q k. search (rules, tests)) (λ x low high. search rules)
 
-pub loop-index-preserved : goal.loop-index-preserved
-loop-index-preserved c =
-    c.loop-index.invariant ∙ request-later _ _ c.args.log.now c.loop-index-test.true (sym c.is_request.ensures ∙ c.if-is_request.false)
+module _ (c : After-find) where
+  abbrev log : List ℕ
+  log = c.args.log.now
+
+  first : MatchOption c.find.result ((k : ℕ) → c.args.from ≤ k → k < c.args.records → Other c.args.records log k) (λ j. (c.args.from ≤ j) × (j < c.args.records) × (eqb (record_at log j).kind request_kind ≡ true) × ((k : ℕ) → c.args.from ≤ k → k < j → Other c.args.records log k))
+  first =
+      first_from_Range _ _ _ _ (λ i. eqb (record_at log i).kind request_kind ≡ true) (λ i. eqb (record_at log i).kind request_kind ≡ false) c.find.ensures.ran (λ x q k. search (rules, tests)) (λ x q k. search (rules, tests))
 
 pub returns-clause-rest : goal.returns-clause-rest
-returns-clause-rest c = c.loop-index.invariant ∙ request-nowhere _ _ c.args.log.now c.loop-index-test.false
+returns-clause-rest c = request-found c.args.records c.args.log.now c.args.from _ (first c)
+
+pub returns-clause-below : goal.returns-clause-below
+returns-clause-below c = request-below c.args.records c.args.log.now c.args.from _ (first c)

@@ -12,7 +12,7 @@ pub returns-in-Some : goal.returns-in-Some
 returns-in-Some c =
     let size : c.unwrap_or.result ≡ (in_numbers c.write_record-written.result).length =
     c.unwrap_or.ensures ∙ sym (length-in_numbers c.write_record-written.result) in
-    rw (c.in-Some.is, size) (laid-one c.args.capture.now c.requires _ _ _ c.write_record-written.ensures refl refl refl)
+    rw (c.in-Some.is, size) (laid-one c.args.capture.now c.requires _ _ _ c.write_record-written.ensures refl refl refl refl)
 
 pub returns-in_default : goal.returns-in_default
 returns-in_default c = rw c.in_default.is (laid-none c.requires)

@@ -1,28 +1,32 @@
--- `captured_calls::put_requests` meets its contract. The invariant: the requests from record number i on are left of the requests of all records.
+-- `captured_calls::put_requests` meets its contract. The invariant: the requests of what is left of the log are left of the requests of all records.
 -- Assumes nothing.
-use mathlib.Core.Path.{ap, ◌∙◌}
-use native.Mathlib.Nat.{sub-zero}
-use native.Mathlib.Omega.{arith}
-use Rattle.captured_calls.specs.Submitted.{request_event}
+use Rattle.std.proofs.Common.{◌∙◌, refl, ap}
+use Rattle.capture_calls.specs.Captures.{writer_call}
+use Rattle.captured_calls.specs.Submitted.{captured_of, request_event}
 use Rattle.captured_calls.proofs.WrittenLaws.{remaining-all, remaining-less, remaining-none}
 use Rattle.captured_calls.proofs.SubmittedLaws.{requests-next, requests-none}
 use Rattle.captured_calls.proofs.put_requests.Goals as goal
 
-pub loop-i-init : goal.loop-i-init
-loop-i-init c = (c.min-end.ensures, (omega arith, rw sub-zero (remaining-all _ c.requires)))
+pub loop-record-init : goal.loop-record-init
+loop-record-init c =
+    rw (
+      c.into_iter-record-iterator.ensures.into_iter_gives,
+      c.take-record-items.ensures.source,
+      c.take-record-items.ensures.count,
+      c.chunks_exact.ensures.size,
+      c.chunks_exact.ensures.rest,
+    ) (refl, remaining-all _ c.requires)
 
-pub loop-i-preserved : goal.loop-i-preserved
-loop-i-preserved c =
-    let l = c.loop-i in
-    let said = c.request_event-event.ensures ∙ ap (request_event c.args.requester) c.read_record.ensures in (
-      l.invariant.0,
-      (
-        omega (arith, c.loop-i-test.true),
-        remaining-less (requests-next _ _ _ _ _ c.args.log.now c.loop-i-test.true _ said) l.invariant.1.1 c.put.ensures,
-      ),
-    )
+pub loop-record-preserved : goal.loop-record-preserved
+loop-record-preserved c =
+    let l = c.loop-record in
+    let taken = c.in-Some.ensures.steps in
+    let cut = taken.0 in
+    let said = c.request_event-event.ensures ∙ ap (request_event c.args.requester) c.read_record.ensures in
+    let turn = requests-next _ _ _ _ _ _ _ _ _ cut.1.0 (cut.1.1 ∙ l.invariant.0) taken.1 said in
+    (cut.0 ∙ l.invariant.0, remaining-less (λ s. writer_call (captured_of s) c.request_event-event.result c.args.payload.now) turn l.invariant.1 c.put.ensures)
 
 pub returns : goal.returns
 returns c =
-    let l = c.loop-i in
-    rw (← l.invariant.0) (remaining-none (requests-none _ _ _ _ _ c.args.log.now c.loop-i-test.false) l.invariant.1.1)
+    let l = c.loop-record in
+    remaining-none (requests-none _ _ _ _ _ (λ any. rw l.invariant.0 at (c.in-None.ensures.steps any).1.0)) l.invariant.1

@@ -12,4 +12,4 @@ returns-in_default-clause-laid c = rw (c.if-not-has_normal.false, c.in_default.e
 
 pub returns-in_default-clause-left : goal.returns-in_default-clause-left
 returns-in_default-clause-left c =
-    rw (c.if-not-has_normal.false, c.in_default.ensures.rest) (request-nowhere c.args.records c.args.records c.args.log.now (omega arith))
+    rw (c.if-not-has_normal.false, c.in_default.ensures.rest) (request-nowhere c.args.records c.args.log.now c.args.records (omega arith))

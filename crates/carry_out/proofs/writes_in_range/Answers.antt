@@ -1,38 +1,18 @@
--- `carry_out::writes_in_range` meets its contract. The loop's invariant: the writes from record number `index` on lie in range exactly where all of the
--- log's do. Assumes nothing.
-use Prim.Native.Nat.{◌-◌, ◌/◌}
-use mathlib.Core.Path.{◌≡◌}
-use native.Mathlib.Nat.{sub-zero}
-use lib.ListN.{length}
+-- `carry_out::writes_in_range` meets its contract: what is asked of each record is the definition's question. Assumes nothing.
+use mathlib.Core.Path.{◌∙◌, ap}
 use borrow.Author.Rules.{rules}
-use Rattle.trb.specs.Limits.{record_length}
-use Rattle.call_log.proofs.LogLaws.{records_in-next}
+use borrow.Author.Tests.{tests}
+use Rattle.std.proofs.lemmas.Iterator.{YieldsList-from_slice}
+use Rattle.std.proofs.lemmas.Iterator.Search.{all_from_yields_List}
+use Rattle.call_log.specs.Records.{decode}
+use Rattle.carry_out.specs.Writes.{write_in_range, writes_in_range}
+use Rattle.carry_out.proofs.WriteLaws.{writes_in_range-cells}
 use Rattle.carry_out.proofs.writes_in_range.Goals as goal
-
-pub loop-index-init : goal.loop-index-init
-loop-index-init c = rw sub-zero
-
-pub returns-then-not-write_in_range : goal.returns-then-not-write_in_range
-returns-then-not-write_in_range c =
-    simp (
-      ← c.loop-index.invariant,
-      records_in-next _ c.loop-index.index c.args.log.now c.loop-index-test.true,
-      ← c.read_record.ensures,
-      ← c.write_in_range.ensures,
-      c.if-not-write_in_range.true,
-    )
-
-pub loop-index-preserved : goal.loop-index-preserved
-loop-index-preserved c =
-    rw (
-      ← c.loop-index.invariant,
-      records_in-next _ c.loop-index.index c.args.log.now c.loop-index-test.true,
-      ← c.read_record.ensures,
-      ← c.write_in_range.ensures,
-      c.if-not-write_in_range.false,
-    )
 
 pub returns : goal.returns
 returns c =
-    let none : length c.args.log.now / record_length - c.loop-index.index ≡ 0 = search rules in
-    simp (← c.loop-index.invariant, none)
+    let n = c.args.available in
+    let regions = c.args.regions in
+    all_from_yields_List (λ l. write_in_range n regions (decode l)) _ _ _ c.all.ensures.ran (YieldsList-from_slice c.records.result.now (cc)) (λ x b q k. search (rules, tests))
+    ∙ writes_in_range-cells n regions c.records.result.now
+    ∙ ap (writes_in_range n regions) c.records.ensures.each

@@ -1,15 +1,6 @@
 -- `control_calls::submit` meets its contract: the lent part of the collect buffer is what the endpoint makes of it; then answer and state line. Assumes nothing.
-use mathlib.Core.Path.{sym}
-use native.Mathlib.Omega.{arith}
-use lib.Seq.{length-take-le}
 use Rattle.control_calls.proofs.CallLaws.{runs-submitted, take-least, collected-behind}
 use Rattle.control_calls.proofs.submit.Goals as goal
-
-pub slice_bounds-submit_trb-end : goal.slice_bounds-submit_trb-end
-slice_bounds-submit_trb-end c = rw c.min-end.ensures (omega arith)
-
-pub slice_bounds-submit_trb-end-2 : goal.slice_bounds-submit_trb-end-2
-slice_bounds-submit_trb-end-2 c = rw c.min-end.ensures (sym (length-take-le _ _ (omega arith)))
 
 pub returns : goal.returns
 returns c =

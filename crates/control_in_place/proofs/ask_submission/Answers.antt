@@ -11,7 +11,7 @@ returns c =
     let a = c.args in
     let n = a.numbers in
     let facts = c.facts-facts.ensures in
-    let outcome = c.outcome_of-outcome.ensures n.value n.transfer_length ∙ (λ j. trb_outcome (facts j).phase (trb_of n).variant) in
+    let outcome = c.outcome_of-outcome.ensures ∙ (λ j. trb_outcome (facts j).phase (trb_of n).variant) in
     record {
       outcome = outcome;
       number = c.ask_submission-answer.ensures (trb_of n) c.requires.1 ∙ (λ j. first_no (submission_questions a.log_length a.collect_length (facts j) (outcome j) (trb_of n) a.regions));

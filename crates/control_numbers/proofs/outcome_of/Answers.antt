@@ -6,6 +6,7 @@ use Rattle.control_numbers.proofs.outcome_of.Goals as goal
 
 pub returns : goal.returns
 returns c =
-    λ value len.
     let s = c.args in
-    c.outcome_of.ensures ∙ (λ j. outcome_of s.phase (c.kind_of.ensures s.flags value len j) (c.bit.ensures j)) ∙ outcome-by s.kind s.flags value len s.phase
+    let n = s.numbers in
+    c.outcome_of.ensures ∙ (λ j. outcome_of s.phase (c.kind_of.ensures n.flags n.value n.transfer_length j) (c.bit-chain.ensures j))
+    ∙ outcome-by n.kind n.flags n.value n.transfer_length s.phase

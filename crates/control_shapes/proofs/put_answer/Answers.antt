@@ -6,8 +6,5 @@ use Rattle.control_shapes.proofs.put_answer.Goals as goal
 pub returns-in-0 : goal.returns-in-0
 returns-in-0 c = laws.refused-answered c.args.input.now c.asked.result c.asked.ensures c.in-0.is c.put_refused.ensures
 
-pub shapes_up_to-requires : goal.shapes_up_to-requires
-shapes_up_to-requires c = record { longest_le_max_shape = laws.most c.args.input.now c.asked.result c.asked.ensures; has_room = c.requires }
-
 pub returns-in_default : goal.returns-in_default
 returns-in_default c = laws.shapes-answered c.args.input.now c.asked.result c.asked.ensures (λ z. omega (arith, z)) c.shapes_up_to.ensures

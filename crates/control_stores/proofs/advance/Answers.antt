@@ -18,7 +18,7 @@ returns-then-begins c =
     let a = c.args in
     let m = a.numbers in
     headed-as a.block.now c.begun-begun.result (transfer_after a.outcome (trb_of m).variant m.addr a.transfer) _ _ a.held _
-    (c.begun-begun.ensures m.flags ∙ (λ j. begun (c.phase_after-phase.ensures j) (setup_stage_of m.flags m.value) m.addr)
+    (c.begun-begun.ensures ∙ (λ j. begun (c.phase_after-phase.ensures j) (setup_stage_of m.flags m.value) m.addr)
     ∙ begun-by m.kind m.flags m.value m.transfer_length m.addr a.transfer a.outcome (sym c.begins.ensures ∙ c.if-begins.true))
     c.state_after-state.ensures c.put_head.ensures
 

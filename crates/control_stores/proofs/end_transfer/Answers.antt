@@ -1,18 +1,13 @@
 -- `control_stores::end_transfer` meets its contract: as many places are held as stay, and of the rest of the head the phase and the state change. Assumes nothing.
 use Prim.Native.Nat.{ℕ, ◌-◌}
 use mathlib.Core.Path.{ap, ◌∙◌}
-use native.Mathlib.Omega.{arith}
 use Rattle.trb.specs.declared.ControlSubmissionState.TheVariants.{NoTrbSubmitted}
 use Rattle.control_block.specs.Blocks.{transfer_of}
 use Rattle.control_block.specs.Endings.{places_freed, phase_behind}
-use Rattle.control_block.proofs.BlockLaws.{freed-held}
 use Rattle.control_bytes.specs.Layout.{block_of}
 use Rattle.control_bytes.specs.Stores.{turned, counting}
 use Rattle.control_stores.proofs.StoreLaws.{progress-stored, ended}
 use Rattle.control_stores.proofs.end_transfer.Goals as goal
-
-pub overflow_sub-held : goal.overflow_sub-held
-overflow_sub-held c = omega (arith, c.places_freed-freed.ensures, freed-held c.args.ending c.held-held.result)
 
 pub returns : goal.returns
 returns c =

@@ -1,6 +1,6 @@
 -- `control_submission::submit_trb` meets its contract: the loop keeps to the walk over the TRBs that are dropped, with the places behind it blank; the TRB is then held, if it is taken.
 -- Assumes nothing.
-use Rattle.std.proofs.Common.{◌≡◌, ℕ, ◌+◌, ◌*◌, ◌-◌, ◌<◌, ◌≤◌, Bool, true, List, length, set, sym, ap, ◌∙◌, subst, arith, rules, Ok}
+use Rattle.std.proofs.Common.{◌≡◌, ℕ, ◌+◌, ◌*◌, ◌-◌, ◌<◌, ◌≤◌, Bool, true, List, length, take, length-take, set, sym, ap, ◌∙◌, subst, arith, rules, Ok}
 use Rattle.trb.specs.Answers.{number_of}
 use Rattle.trb.specs.Limits.{max_held, record_length}
 use Rattle.trb.specs.Questions.{first_no}
@@ -12,17 +12,20 @@ use Rattle.guest_memory.specs.declared.Regions.{Regions}
 use Rattle.guest_memory.specs.Places.{regions_of}
 use Rattle.guest_memory.specs.Lent.{seen}
 use Rattle.td_part.specs.declared.TdProgress.{TdProgress}
+use Rattle.td_part.specs.Parts.{at_start}
+use Rattle.walks.specs.Walk.{walk}
 use Rattle.phase_table.specs.declared.Outcome.{Outcome}
 use Rattle.phase_table.specs.Outcomes.{holds, restarts}
 use Rattle.control_block.specs.declared.ControlBlock.{ControlBlock}
 use Rattle.control_block.specs.Facts.{facts_of}
-use Rattle.control_chain.specs.Dropped.{report_dropped}
-use Rattle.control_chain.proofs.DroppedLaws.{kept-dropped}
+use Rattle.control_block.specs.declared.Ending.TheVariants.{ReportBadTrb}
+use Rattle.control_chain.specs.Chain.{never}
+use Rattle.control_chain.specs.Endings.{next_trb}
 use Rattle.control_transfer.specs.Transfers.{requests_of}
 use Rattle.control_questions.specs.Submission.{submission_questions}
 use Rattle.control_questions.proofs.SubmissionLaws.{Passed, passed}
 use Rattle.control_endpoint.specs.Submission.{places_dropped, records_of, questions_of}
-use Rattle.control_endpoint.proofs.FreeingLaws.{Freeing, freeing-none, freeing-room, freeing-turn, freeing-places, freeing-counts, freeing-then}
+use Rattle.control_endpoint.proofs.FreeingLaws.{ended-counts, ended-then}
 use Rattle.control_endpoint.proofs.SubmissionLaws.{submits-refused, submits-accepted, submitted-by, leaves-stored, leaves_kept, place-free, dropped-held, info_of, walk-records_of, length-dropped}
 use Rattle.control_submission.proofs.submit_trb.Goals.{After-ask_submission-answer, After-places_dropped-dropped, then-is_held, else-is_held}
 use Rattle.control_submission.proofs.submit_trb.Goals as goal
@@ -54,7 +57,7 @@ pass k told =
 -- ---- The places that are dropped
 
 dropped-by : (f : After-places_dropped-dropped) → f.places_dropped-dropped.result ≡ places_dropped (restarts f.trb_outcome-outcome.result) f.args.block.held
-dropped-by f = f.places_dropped-dropped.ensures ∙ ap (λ (r : Bool). places_dropped r f.args.block.held) f.is_restart.ensures
+dropped-by f = f.places_dropped-dropped.ensures ∙ ap (λ (r : Bool). places_dropped r f.args.block.held) f.is_restart-restarts.ensures
 
 -- the first d TRBs are dropped
 module _ (b : ControlBlock) (t : TransferTrb) (l₀ collect : List ℕ) (o : Outcome) (d : ℕ) (p : Passed (length l₀) (length collect) (facts_of b) o t) (drops : d ≡ places_dropped (restarts o) b.held) where
@@ -71,97 +74,40 @@ module _ (b : ControlBlock) (t : TransferTrb) (l₀ collect : List ℕ) (o : Out
   free : holds o ≡ true → b.held - d < max_held
   free hold = rw drops (place-free o b.held p.room hold)
 
-  module _ (places : length b.trbs ≡ max_held) where
-    dropped-there : d ≤ length b.trbs
-    dropped-there = omega (arith, dropped-places, places)
+  module _ (l : List ℕ) (w : TdProgress) (m : Meets (walk (next_trb (ReportBadTrb 0) (info_of b)) never at_start (take d b.trbs)) 0 l₀ w l) where
+    -- one record for each TRB dropped at most
+    total : record_length * (w.records + 1) ≤ length l₀
+    total = omega (arith, ended-counts (ReportBadTrb 0) (info_of b) (take d b.trbs) l₀ l w m, length-dropped b o d drops, p.held, p.log-long)
 
-    module _ (l : List ℕ) (w : TdProgress) (us : List TransferTrb) (j : ℕ) (f : Freeing (info_of b) (report_dropped (info_of b)) (kept-dropped (info_of b)) d b.trbs l₀ l w us j) (over : d ≤ j) where
-      -- one record for each TRB dropped at most
-      total : record_length * (w.records + 1) ≤ length l₀
-      total =
-          let counts = freeing-counts (info_of b) (report_dropped (info_of b)) (kept-dropped (info_of b)) d b.trbs l₀ dropped-there l w us j f over in
-          omega (arith, counts, length-dropped b o d drops, p.held, p.log-long)
-
-      -- what was logged
-      logged : (k : ℕ) (l' : List ℕ) → Meets (counted w.records (requests_of o b.request b.endpoint_id b.slot_id)) w.records l k l' → Put l₀ 0 (records_of o b) l' × (k ≡ length (records_of o b))
-      logged k l' m =
-          let room : record_length * w.records ≤ length l₀ = omega (arith, total) in
-          subst (λ (rs : List Record). Put l₀ 0 rs l' × (k ≡ length rs)) (walk-records_of b o d drops)
-          (freeing-then (info_of b) (report_dropped (info_of b)) (kept-dropped (info_of b)) d b.trbs l₀ dropped-there l w us j f over (requests_of o b.request b.endpoint_id b.slot_id) k l' room m)
-
-      blank : us ≡ cleared (places_dropped (restarts o) b.held) b.trbs
-      blank =
-          freeing-places (info_of b) (report_dropped (info_of b)) (kept-dropped (info_of b)) d b.trbs l₀ dropped-there l w us j f over
-          ∙ ap (λ (n : ℕ). cleared n b.trbs) drops
+    -- what was logged
+    logged : (k : ℕ) (l' : List ℕ) → Meets (counted w.records (requests_of o b.request b.endpoint_id b.slot_id)) w.records l k l' → Put l₀ 0 (records_of o b) l' × (k ≡ length (records_of o b))
+    logged k l' n =
+        let room : record_length * w.records ≤ length l₀ = omega (arith, total) in
+        subst (λ (rs : List Record). Put l₀ 0 rs l' × (k ≡ length rs)) (walk-records_of b o d drops)
+        (ended-then (ReportBadTrb 0) (info_of b) (take d b.trbs) l₀ l w m (requests_of o b.request b.endpoint_id b.slot_id) k l' room n)
 
 -- ---- The goals
 
-pub loop-j-init : goal.loop-j-init
-loop-j-init c =
-    let b = c.args.block in
-    rw c.at_start_of_td-progress.ensures (freeing-none (info_of b) (report_dropped (info_of b)) (kept-dropped (info_of b)) c.places_dropped-dropped.result b.trbs c.args.log.now)
-
-pub offset_bounds-trbs-j : goal.offset_bounds-trbs-j
-offset_bounds-trbs-j c =
+pub shared_ref_as_front-ended : goal.shared_ref_as_front-ended
+shared_ref_as_front-ended c =
     let s = c.args in
-    let few = dropped-places s.block s.t s.log.now s.collect.now c.trb_outcome-outcome.result c.places_dropped-dropped.result (pass (goal.at.offset_bounds-trbs-j c).After-ask_submission-answer c.in-Ok.is) (dropped-by (goal.at.offset_bounds-trbs-j c).After-places_dropped-dropped) in
-    search rules
+    let g = goal.at.shared_ref_as_front-ended c in
+    omega (arith, dropped-places s.block s.t s.log.now s.collect.now c.trb_outcome-outcome.result c.places_dropped-dropped.result (pass g.After-ask_submission-answer c.in-Ok.is) (dropped-by g.After-places_dropped-dropped))
 
-pub bounds-trbs-j : goal.bounds-trbs-j
-bounds-trbs-j c =
+pub end_held-progress-requires : goal.end_held-progress-requires
+end_held-progress-requires c =
     let s = c.args in
-    let few = dropped-places s.block s.t s.log.now s.collect.now c.trb_outcome-outcome.result c.places_dropped-dropped.result (pass (goal.at.bounds-trbs-j c).After-ask_submission-answer c.in-Ok.is) (dropped-by (goal.at.bounds-trbs-j c).After-places_dropped-dropped) in
-    search rules
-
-pub report_dropped-progress-requires : goal.report_dropped-progress-requires
-report_dropped-progress-requires c =
-    let s = c.args in
-    let p = pass (goal.at.report_dropped-progress-requires c).After-ask_submission-answer c.in-Ok.is in
-    let drops = dropped-by (goal.at.report_dropped-progress-requires c).After-places_dropped-dropped in
-    let b = s.block in
-    let l = c.loop-j in
-    let places : length b.trbs ≡ max_held = omega arith in
-    let d = c.places_dropped-dropped.result in
-    (freeing-room (info_of b) (report_dropped (info_of b)) (kept-dropped (info_of b)) d b.trbs s.log.now (dropped-there b s.t s.log.now s.collect.now c.trb_outcome-outcome.result d p drops places) l.log l.progress l.trbs l.j l.invariant c.loop-j-test.true (dropped-room b s.t s.log.now s.collect.now c.trb_outcome-outcome.result d p drops)).0
-
-pub offset_bounds-trbs-j-in-loop-j : goal.offset_bounds-trbs-j-in-loop-j
-offset_bounds-trbs-j-in-loop-j c =
-    let s = c.args in
-    let p = pass (goal.at.offset_bounds-trbs-j-in-loop-j c).After-ask_submission-answer c.in-Ok.is in
-    let drops = dropped-by (goal.at.offset_bounds-trbs-j-in-loop-j c).After-places_dropped-dropped in
-    let few = dropped-places s.block s.t s.log.now s.collect.now c.trb_outcome-outcome.result c.places_dropped-dropped.result p drops in
-    search rules
-
-pub bounds-trbs-j-in-loop-j : goal.bounds-trbs-j-in-loop-j
-bounds-trbs-j-in-loop-j c =
-    let s = c.args in
-    let p = pass (goal.at.bounds-trbs-j-in-loop-j c).After-ask_submission-answer c.in-Ok.is in
-    let drops = dropped-by (goal.at.bounds-trbs-j-in-loop-j c).After-places_dropped-dropped in
-    let few = dropped-places s.block s.t s.log.now s.collect.now c.trb_outcome-outcome.result c.places_dropped-dropped.result p drops in
-    search rules
-
-pub loop-j-preserved : goal.loop-j-preserved
-loop-j-preserved c =
-    let s = c.args in
-    let p = pass (goal.at.loop-j-preserved c).After-ask_submission-answer c.in-Ok.is in
-    let drops = dropped-by (goal.at.loop-j-preserved c).After-places_dropped-dropped in
-    let b = s.block in
-    let l = c.loop-j in
-    let r = c.report_dropped-progress in
-    let places : length b.trbs ≡ max_held = omega arith in
-    let d = c.places_dropped-dropped.result in
-    rw c.blank-blank.ensures
-    (freeing-turn (info_of b) (report_dropped (info_of b)) (kept-dropped (info_of b)) d b.trbs s.log.now (dropped-there b s.t s.log.now s.collect.now c.trb_outcome-outcome.result d p drops places) l.log l.progress l.trbs l.j l.invariant c.loop-j-test.true (dropped-room b s.t s.log.now s.collect.now c.trb_outcome-outcome.result d p drops) r.new.log r.result r.ensures)
+    let g = goal.at.end_held-progress-requires c in
+    let room = dropped-room s.block s.t s.log.now s.collect.now c.trb_outcome-outcome.result c.places_dropped-dropped.result (pass g.After-ask_submission-answer c.in-Ok.is) (dropped-by g.After-places_dropped-dropped) in
+    omega (arith, room, length-take c.places_dropped-dropped.result s.block.trbs)
 
 pub log_request-records-requires : goal.log_request-records-requires
 log_request-records-requires c =
     let s = c.args in
-    let b = s.block in
-    let l = c.loop-j in
-    let places : length b.trbs ≡ max_held = omega arith in
-    let room = total b s.t s.log.now s.collect.now c.trb_outcome-outcome.result c.places_dropped-dropped.result (pass (goal.at.log_request-records-requires c).After-ask_submission-answer c.in-Ok.is) (dropped-by (goal.at.log_request-records-requires c).After-places_dropped-dropped)
-    places l.log l.progress l.trbs l.j l.invariant c.loop-j-test.false in
-    omega (arith, room, l.auto.log)
+    let g = goal.at.log_request-records-requires c in
+    let e = c.end_held-progress in
+    let room = total s.block s.t s.log.now s.collect.now c.trb_outcome-outcome.result c.places_dropped-dropped.result (pass g.After-ask_submission-answer c.in-Ok.is) (dropped-by g.After-places_dropped-dropped) e.new.log e.result e.ensures in
+    omega (arith, room, e.auto.log)
 
 pub collect_trb-requires : goal.collect_trb-requires
 collect_trb-requires c = let p = pass (goal.at.collect_trb-requires c).After-ask_submission-answer c.in-Ok.is in (p.collect-long, p.size)
@@ -169,25 +115,21 @@ collect_trb-requires c = let p = pass (goal.at.collect_trb-requires c).After-ask
 pub offset_bounds-trbs-held : goal.offset_bounds-trbs-held
 offset_bounds-trbs-held c =
     let s = c.args in
-    let p = pass (goal.at.offset_bounds-trbs-held c).After-ask_submission-answer c.in-Ok.is in
-    let drops = dropped-by (goal.at.offset_bounds-trbs-held c).After-places_dropped-dropped in
-    let place = free s.block s.t s.log.now s.collect.now c.trb_outcome-outcome.result c.places_dropped-dropped.result p drops (sym c.is_held.ensures ∙ c.if-is_held.true) in
+    let g = goal.at.offset_bounds-trbs-held c in
+    let place = free s.block s.t s.log.now s.collect.now c.trb_outcome-outcome.result c.places_dropped-dropped.result (pass g.After-ask_submission-answer c.in-Ok.is) (dropped-by g.After-places_dropped-dropped) (sym c.is_held.ensures ∙ c.if-is_held.true) in
     search rules
 
 pub bounds-trbs-held : goal.bounds-trbs-held
 bounds-trbs-held c =
     let s = c.args in
-    let p = pass (goal.at.bounds-trbs-held c).After-ask_submission-answer c.in-Ok.is in
-    let drops = dropped-by (goal.at.bounds-trbs-held c).After-places_dropped-dropped in
-    let place = free s.block s.t s.log.now s.collect.now c.trb_outcome-outcome.result c.places_dropped-dropped.result p drops (sym c.is_held.ensures ∙ c.if-is_held.true) in
-    search rules
+    let g = goal.at.bounds-trbs-held c in
+    free s.block s.t s.log.now s.collect.now c.trb_outcome-outcome.result c.places_dropped-dropped.result (pass g.After-ask_submission-answer c.in-Ok.is) (dropped-by g.After-places_dropped-dropped) (sym c.is_held.ensures ∙ c.if-is_held.true)
 
 pub overflow_add-held : goal.overflow_add-held
 overflow_add-held c =
     let s = c.args in
-    let p = pass (goal.at.overflow_add-held c).After-ask_submission-answer c.in-Ok.is in
-    let drops = dropped-by (goal.at.overflow_add-held c).After-places_dropped-dropped in
-    let place = free s.block s.t s.log.now s.collect.now c.trb_outcome-outcome.result c.places_dropped-dropped.result p drops (sym c.is_held.ensures ∙ c.if-is_held.true) in
+    let g = goal.at.overflow_add-held c in
+    let place = free s.block s.t s.log.now s.collect.now c.trb_outcome-outcome.result c.places_dropped-dropped.result (pass g.After-ask_submission-answer c.in-Ok.is) (dropped-by g.After-places_dropped-dropped) (sym c.is_held.ensures ∙ c.if-is_held.true) in
     search rules
 
 pub transfer_after-transfer-requires : goal.transfer_after-transfer-requires
@@ -201,21 +143,21 @@ returns-in-Err c =
 pub returns-after-is_held : goal.returns-after-is_held
 returns-after-is_held c =
     let s = c.args in
-    let p = pass (goal.at.returns-after-is_held c).After-ask_submission-answer c.in-Ok.is in
-    let drops = dropped-by (goal.at.returns-after-is_held c).After-places_dropped-dropped in
     let k = goal.at.returns-after-is_held c in
+    let p = pass k.After-ask_submission-answer c.in-Ok.is in
+    let drops = dropped-by k.After-places_dropped-dropped in
     let b = s.block in
     let o = c.trb_outcome-outcome.result in
     let d = c.places_dropped-dropped.result in
-    let l = c.loop-j in
+    let e = c.end_held-progress in
+    let us = c.clear.new.trbs in
     let told = c.in-Ok.is in
-    let room : length b.trbs ≡ max_held = omega arith in
-    let empty = blank b s.t s.log.now s.collect.now o d p drops room l.log l.progress l.trbs l.j l.invariant c.loop-j-test.false in
-    let written = logged b s.t s.log.now s.collect.now o d p drops room l.log l.progress l.trbs l.j l.invariant c.loop-j-test.false c.log_request-records.result c.log_request-records.new.log c.log_request-records.ensures in
+    let empty = c.clear.ensures ∙ ap (λ (n : ℕ). cleared n b.trbs) drops in
+    let written = logged b s.t s.log.now s.collect.now o d p drops e.new.log e.result e.ensures c.log_request-records.result c.log_request-records.new.log c.log_request-records.ensures in
     submits-accepted b s.t (seen s.memory.now) s.log.now s.collect.now o c.trb_outcome-outcome.ensures (sym (numbered k.After-ask_submission-answer) ∙ ap number_of told) _ _ _
     (submitted-by b s.t o c.ask_submission-answer.result c.log_request-records.result c.transfer_after-transfer.result c.state_after-state.result c.if-is_held.held c.if-is_held.trbs told written.1 c.transfer_after-transfer.ensures c.state_after-state.ensures
     (elim c.if-is_held.branch [
-      | then-is_held w ↦ leaves-stored b s.t o c.if-is_held.held l.trbs c.if-is_held.trbs (sym c.is_held.ensures ∙ w.if-is_held.true) empty (w.held-is ∙ ap (λ (n : ℕ). b.held - n + 1) drops) (w.trbs-is ∙ ap (λ (n : ℕ). set l.trbs (b.held - n) s.t) drops)
-      | else-is_held w ↦ leaves_kept b s.t o c.if-is_held.held l.trbs c.if-is_held.trbs (sym c.is_held.ensures ∙ w.if-is_held.false) empty (w.held-is ∙ ap (λ (n : ℕ). b.held - n) drops) w.trbs-is
+      | then-is_held w ↦ leaves-stored b s.t o c.if-is_held.held us c.if-is_held.trbs (sym c.is_held.ensures ∙ w.if-is_held.true) empty (w.held-is ∙ ap (λ (n : ℕ). b.held - n + 1) drops) (w.trbs-is ∙ ap (λ (n : ℕ). set us (b.held - n) s.t) drops)
+      | else-is_held w ↦ leaves_kept b s.t o c.if-is_held.held us c.if-is_held.trbs (sym c.is_held.ensures ∙ w.if-is_held.false) empty (w.held-is ∙ ap (λ (n : ℕ). b.held - n) drops) w.trbs-is
     ]))
     written.0 c.collect_trb.ensures

@@ -8,6 +8,3 @@ pub copy_into-requires : goal.copy_into-requires
 copy_into-requires c =
     let m = seen c.args.memory.now in
     omega (arith, c.requires, ap (λ (l : List ℕ). length l) c.get_slice-part.ensures, length-bytes_at m c.args.pointer c.args.count)
-
-pub returns : goal.returns
-returns c = rw (← c.get_slice-part.ensures) c.copy_into.ensures

@@ -7,4 +7,4 @@ use Rattle.in_calls.proofs.complete_row.Goals as goal
 pub returns-clause-answer : goal.returns-clause-answer
 returns-clause-answer c =
     let met = rw (ap regions_of c.view.ensures) at c.complete_tds-completed.ensures.met in
-    runs-row _ _ _ _ _ _ _ met c.put_row.ensures.answer c.answered.ensures
+    runs-row _ _ c.args.row _ met c.put_row.ensures.answer c.answered.ensures

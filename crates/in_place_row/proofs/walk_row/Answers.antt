@@ -25,7 +25,7 @@ use Rattle.row_walk.proofs.RowLaws.{le_trans_lt, within-as, room_as, walked_as, 
 use Rattle.held_bytes.specs.Places.{place_length, places_of}
 use Rattle.row_bytes.specs.Layout.{trbs_in, results_in}
 use Rattle.row_bytes.proofs.CellLaws.{length-trbs_in}
-use Rattle.in_place_row.proofs.LookLaws.{found_at}
+use Rattle.row_walk.proofs.TdsLaws.{found_at}
 use Rattle.in_place_row.proofs.KeptLaws.{places-from}
 use Rattle.in_place_row.proofs.walk_row.Goals.{After-log_request-records, After-look_at_td-end, After-unprocessed_from-from, In-loop-i}
 use Rattle.in_place_row.proofs.walk_row.Goals as goal

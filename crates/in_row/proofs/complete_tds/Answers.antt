@@ -19,6 +19,7 @@ use Rattle.held.specs.Places.{past_end}
 use Rattle.held.proofs.TestedLaws.{places-held}
 use Rattle.in_block.specs.Facts.{facts_of}
 use Rattle.in_block.specs.declared.BlockFacts.{BlockFacts}
+use Rattle.row_walk.specs.Rows.{Walkable}
 use Rattle.row_questions.specs.Questions.{row_questions}
 use Rattle.row_questions.specs.Tests.{untested, tested_row, asked_as}
 use Rattle.row_questions.specs.declared.RowTest.{RowTest}
@@ -82,20 +83,56 @@ returns-then-is_err c =
 
 -- ---- The walk
 
+-- behind every yes
+module _ (c : After-ask_row-asked) (accepts : is_accepted c.ask_row-asked.result ≡ true) where
+  few-trbs : c.args.count ≤ max_row
+  few-trbs =
+      let s = c.args in
+      (known-row s.block s.count (take s.count s.row) s.tds (take s.tds s.results) (length s.data.now) (regions_of (seen s.memory.now)) s.log.now c.ask_row-asked.result (number c) accepts).few
+
+  walkable : (c.args.tds ≤ max_row) × Walkable (take c.args.count c.args.row) (take c.args.tds c.args.results) (length c.args.log.now)
+  walkable =
+      let s = c.args in
+      let n = length s.data.now in
+      let l = length s.log.now in
+      let ts = take s.count s.row in
+      let rs = take s.tds s.results in
+      let regions = regions_of (seen s.memory.now) in
+      let results-long : length s.results ≡ max_row = omega arith in
+      let short : length ts ≤ s.count = omega (arith, length-take s.count s.row) in
+      let known = known-row s.block s.count ts s.tds rs n regions s.log.now c.ask_row-asked.result (number c) accepts in
+      let few = row-few l regions (facts_of s.block) s.count ts s.tds rs n known short in
+      (few, row-walkable l regions (facts_of s.block) s.count ts s.tds rs n known short (length-take-le s.tds s.results (omega (arith, few, results-long))))
+
+pub slice_bounds-row-end-2 : goal.slice_bounds-row-end-2
+slice_bounds-row-end-2 c =
+    let accepts = accepted-if _ (sym c.is_err.ensures.value ∙ c.if-is_err.false) in
+    omega (arith, few-trbs (goal.at.slice_bounds-row-end-2 c).After-ask_row-asked accepts)
+
+pub slice_bounds-walk_row-end : goal.slice_bounds-walk_row-end
+slice_bounds-walk_row-end c =
+    let accepts = accepted-if _ (sym c.is_err.ensures.value ∙ c.if-is_err.false) in
+    let long : length c.args.row ≡ max_row = omega arith in
+    omega (arith, few-trbs (goal.at.slice_bounds-walk_row-end c).After-ask_row-asked accepts, length-take c.args.count c.args.row, long)
+
+pub slice_bounds-results-end : goal.slice_bounds-results-end
+slice_bounds-results-end c =
+    let accepts = accepted-if _ (sym c.is_err.ensures.value ∙ c.if-is_err.false) in
+    omega (arith, (walkable (goal.at.slice_bounds-results-end c).After-ask_row-asked accepts).0)
+
+pub slice_bounds-walk_row-end-2 : goal.slice_bounds-walk_row-end-2
+slice_bounds-walk_row-end-2 c =
+    let accepts = accepted-if _ (sym c.is_err.ensures.value ∙ c.if-is_err.false) in
+    let long : length c.args.results ≡ max_row = omega arith in
+    omega (arith, (walkable (goal.at.slice_bounds-walk_row-end-2 c).After-ask_row-asked accepts).0, length-take c.args.tds c.args.results, long)
+
 pub walk_row-walked-requires : goal.walk_row-walked-requires
 walk_row-walked-requires c =
     let s = c.args in
-    let n = length s.data.now in
-    let l = length s.log.now in
-    let ts = take s.count s.row in
-    let rs = take s.tds s.results in
-    let regions = regions_of (seen s.memory.now) in
-    let results-long : length s.results ≡ max_row = omega arith in
-    let short : length ts ≤ s.count = omega (arith, length-take s.count s.row) in
-    let accepts : is_accepted c.ask_row-asked.result ≡ true = accepted-if _ (sym c.is_err.ensures.value ∙ c.if-is_err.false) in
-    let known = known-row s.block s.count ts s.tds rs n regions s.log.now c.ask_row-asked.result (number (goal.at.walk_row-walked-requires c).After-ask_row-asked) accepts in
-    let few = row-few l regions (facts_of s.block) s.count ts s.tds rs n known short in
-    (known.few, (few, row-walkable l regions (facts_of s.block) s.count ts s.tds rs n known short (length-take-le s.tds s.results (omega (arith, few, results-long)))))
+    let g = (goal.at.walk_row-walked-requires c).After-ask_row-asked in
+    let accepts = accepted-if _ (sym c.is_err.ensures.value ∙ c.if-is_err.false) in
+    let w = walkable g accepts in
+    (omega (arith, few-trbs g accepts, length-take s.count s.row), (omega (arith, w.0, length-take s.tds s.results), w.1))
 
 pub returns : goal.returns
 returns c =

@@ -1,47 +1,27 @@
--- `log_check::well_formed` meets its contract. The loop's invariant: the kinds from record number `index` on are all known exactly where all of the log's are.
--- Assumes nothing.
-use Prim.Native.Nat.{◌-◌, ◌/◌}
-use mathlib.Core.Path.{◌≡◌}
-use native.Mathlib.Nat.{sub-zero}
-use lib.ListN.{length}
+-- `log_check::well_formed` meets its contract: what is asked of each record's first byte is the definition's question. Assumes nothing.
+use Prim.Native.Nat.{◌/◌}
+use mathlib.Core.Path.{◌≡◌, ◌∙◌, ap}
 use borrow.Author.Rules.{rules}
-use borrow.Author.Tests.{eq-eqb, ne_eqb}
+use borrow.Author.Tests.{tests, eq-eqb, ne_eqb}
+use lib.ListN.{length, get_or}
+use Rattle.std.proofs.lemmas.Iterator.{YieldsList-from_slice}
+use Rattle.std.proofs.lemmas.Iterator.Search.{all_from_yields_List}
 use Rattle.trb.specs.Limits.{record_length}
-use Rattle.log_check.specs.WellFormed.{well_formed}
-use Rattle.log_check.proofs.WellFormedLaws.{kinds_known-next}
+use Rattle.call_log.specs.Logs.{records_in}
+use Rattle.log_check.specs.WellFormed.{kind_known, kinds_known, well_formed}
+use Rattle.log_check.proofs.WellFormedLaws.{kinds_known-cells}
 use Rattle.log_check.proofs.well_formed.Goals as goal
 
-pub returns-then-log-ne0 : goal.returns-then-log-ne0
+pub returns-then-log-eq0 : goal.returns-then-log-eq0
 unfolding well_formed
-returns-then-log-ne0 c = simp (ne_eqb _ _ c.if-log-ne0.true)
-
-pub loop-index-init : goal.loop-index-init
-loop-index-init c = rw sub-zero
-
-pub returns-then-not-kind_known : goal.returns-then-not-kind_known
-unfolding well_formed
-returns-then-not-kind_known c =
+returns-then-log-eq0 c =
     let l = c.args.log.now in
-    simp (
-      eq-eqb _ _ c.if-log-ne0.false,
-      ← c.loop-index.invariant,
-      kinds_known-next _ c.loop-index.index l c.loop-index-test.true,
-      ← c.kind_known.ensures,
-      c.if-not-kind_known.true,
-    )
+    let known : c.all.result ≡ kinds_known (records_in (length l / record_length) l) =
+    all_from_yields_List (λ cells. kind_known (get_or cells 0 0)) _ _ _ c.all.ensures.ran (YieldsList-from_slice c.records.result.now (cc)) (λ x b q k. search (rules, tests))
+    ∙ kinds_known-cells c.records.result.now
+    ∙ ap kinds_known c.records.ensures.each in
+    rw (eq-eqb _ _ c.if-log-eq0.true, known)
 
-pub loop-index-preserved : goal.loop-index-preserved
-loop-index-preserved c =
-    let l = c.args.log.now in
-    rw (
-      ← c.loop-index.invariant,
-      kinds_known-next _ c.loop-index.index l c.loop-index-test.true,
-      ← c.kind_known.ensures,
-      c.if-not-kind_known.false,
-    )
-
-pub returns : goal.returns
+pub returns-else-log-eq0 : goal.returns-else-log-eq0
 unfolding well_formed
-returns c =
-    let none : length c.args.log.now / record_length - c.loop-index.index ≡ 0 = search rules in
-    simp (eq-eqb _ _ c.if-log-ne0.false, ← c.loop-index.invariant, none)
+returns-else-log-eq0 c = simp (ne_eqb _ _ c.if-log-eq0.false)

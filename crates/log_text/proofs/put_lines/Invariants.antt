@@ -1,11 +1,11 @@
-use Prim.Native.Nat.{◌+◌, ◌-◌, ◌*◌, ◌≤◌}
+use Prim.Native.Nat.{◌+◌, ◌*◌, ◌≤◌}
 use lib.ListN.{drop}
-use Rattle.trb.specs.Limits.{record_length}
+use Rattle.std.specs.List.{flat_map}
 use Rattle.text.proofs.WroteLaws.{Remaining}
 use Rattle.log_text.specs.Widths.{max_line}
-use Rattle.log_text.specs.Lines.{lines_in}
+use Rattle.log_text.specs.Lines.{line_of}
 use Rattle.log_text.proofs.put_lines.Given as goal
 
-abbrev pub invariant-loop-index : goal.invariant-loop-index
-invariant-loop-index l = (l.text.end ≤ l.initial.text.end + l.index * max_line)
-    × Remaining l.initial.text (lines_in l.records l.log) l.text (lines_in (l.records - l.index) (drop (record_length * l.index) l.log))
+abbrev pub invariant-loop-cells : goal.invariant-loop-cells
+invariant-loop-cells l = (l.text.end ≤ l.initial.text.end + l.cells-index * max_line)
+    × Remaining l.initial.text (flat_map line_of l.cells-items) l.text (flat_map line_of (drop l.cells-index l.cells-items))

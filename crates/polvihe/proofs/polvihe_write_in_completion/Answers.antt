@@ -2,4 +2,4 @@
 use Rattle.polvihe.proofs.polvihe_write_in_completion.Goals as goal
 
 pub returns : goal.returns
-returns c = rw (c.in_pipe.ensures, c.in_status.ensures) at c.write_event.ensures
+returns c = rw (c.in_pipe.ensures, c.status_of.ensures) at c.write_event.ensures

@@ -7,13 +7,8 @@ use Rattle.raw_text.proofs.put_decoded.Goals as goal
 pub returns : goal.returns
 unfolding trb_line
 returns c =
-    wrote-within (lit≤ tt)
+    rw (← c.numbers_of-numbers.ensures.0)
+    (wrote-within (lit≤ tt)
     (wrote-append
-    (wrote-append
-    (wrote-append
-    (wrote-append
-    (rw c.kind_of.ensures at c.put_hex.ensures)
-    (rw c.flags_of.ensures at c.put_hex_behind.ensures))
-    (rw c.a_of.ensures at c.put_hex_behind-2.ensures))
-    (rw c.transfer_length-length.ensures at c.put_hex_behind-3.ensures))
-    c.put_char.ensures)
+    (wrote-append (wrote-append (wrote-append c.put_hex.ensures c.put_hex_behind.ensures) c.put_hex_behind-2.ensures) c.put_hex_behind-3.ensures)
+    c.put_char.ensures))

@@ -2,16 +2,16 @@
 use Rattle.std.proofs.Common.{sym, ◌∙◌}
 use Rattle.session.specs.Sessions.{bad_quiet}
 use Rattle.session.proofs.OptionLaws.{on-none}
-use Rattle.session_calls.specs.Answers.{state_of}
+use Rattle.session_calls.specs.Answers.{state_in}
 use Rattle.session_calls.proofs.AnswerLaws.{answers-quiet}
 use Rattle.script_run.proofs.LineLaws.{takes-line}
 use Rattle.script_run.proofs.take_line.Goals as goal
 
-pub returns-in_default : goal.returns-in_default
-returns-in_default c =
+pub returns-in_default-clause-taken : goal.returns-in_default-clause-taken
+returns-in_default-clause-taken c =
     let a = c.args in
-    let s = state_of a.session a.log.now a.collect.now a.low.now a.high.now in
-    takes-line c.requires.has_room (sym (on-none _ c.in_default.not-Some) ∙ c.read_line.ensures) (answers-quiet s c.requires.has_room (bad_quiet a.session) c.bad.ensures)
+    takes-line c.requires (sym (on-none _ c.in_default.not-Some) ∙ c.read_line.ensures)
+    (answers-quiet (state_in a.session a.buffers.now) c.requires (bad_quiet a.session) c.bad.ensures)
 
-pub returns : goal.returns
-returns c = takes-line c.requires.has_room (sym c.in-Some.is ∙ c.read_line.ensures) c.run_call.ensures
+pub returns-clause-taken : goal.returns-clause-taken
+returns-clause-taken c = takes-line c.requires (sym c.in-Some.is ∙ c.read_line.ensures) c.run_call.ensures.answer

@@ -1,69 +1,68 @@
 -- `session_calls::run_call` meets its contract: each call is made by its function, and any other on the endpoint. Assumes nothing.
 use Rattle.session.specs.Sessions.{good_quiet, with_lengths}
 use Rattle.session_lines.specs.Lines.{append_trb, append_result}
-use Rattle.session_calls.specs.Answers.{state_of, answer_of}
+use Rattle.session_calls.specs.Answers.{state_in, answer_of}
 use Rattle.session_calls.proofs.AnswerLaws.{answers-quiet, answers-window}
 use Rattle.session_calls.proofs.OtherCalls.{OnEndpoint, answer_of-other}
 use Rattle.session_calls.proofs.run_call.Goals as goal
 
-pub returns-in-Window : goal.returns-in-Window
+pub returns-in-Window-clause-answer : goal.returns-in-Window-clause-answer
 unfolding answer_of
-returns-in-Window c =
+returns-in-Window-clause-answer c =
     let a = c.args in
-    rw c.in-Window.is (answers-window (state_of a.session a.log.now a.collect.now a.low.now a.high.now) c.requires.has_room c.move_window.ensures)
+    rw c.in-Window.is (answers-window (state_in a.session a.buffers.now) c.requires c.move_window.ensures)
 
-pub returns-in-CreateIn : goal.returns-in-CreateIn
+pub returns-in-CreateIn-clause-answer : goal.returns-in-CreateIn-clause-answer
 unfolding answer_of
-returns-in-CreateIn c =
+returns-in-CreateIn-clause-answer c =
+    let b = c.args.buffers.now in
+    rw c.in-CreateIn.is (c.create_in.ensures b.log.now b.collect.now b.low.now b.high.now)
+
+pub returns-in-CreateControl-clause-answer : goal.returns-in-CreateControl-clause-answer
+unfolding answer_of
+returns-in-CreateControl-clause-answer c =
+    let b = c.args.buffers.now in
+    rw c.in-CreateControl.is (c.create_control.ensures b.log.now b.low.now b.high.now)
+
+pub returns-in-CompleteRow-clause-answer : goal.returns-in-CompleteRow-clause-answer
+unfolding answer_of
+returns-in-CompleteRow-clause-answer c = rw c.in-CompleteRow.is c.run_row_on_endpoint.ensures.answer
+
+pub returns-in-Time-clause-answer : goal.returns-in-Time-clause-answer
+unfolding answer_of
+returns-in-Time-clause-answer c =
     let a = c.args in
-    rw c.in-CreateIn.is (c.create_in.ensures a.log.now a.collect.now a.low.now a.high.now)
+    rw c.in-Time.is (answers-quiet (state_in a.session a.buffers.now) c.requires (good_quiet a.session) c.silent.ensures)
 
-pub returns-in-CreateControl : goal.returns-in-CreateControl
+pub returns-in-Captured-clause-answer : goal.returns-in-Captured-clause-answer
 unfolding answer_of
-returns-in-CreateControl c =
+returns-in-Captured-clause-answer c =
     let a = c.args in
-    rw c.in-CreateControl.is (c.create_control.ensures a.log.now a.low.now a.high.now)
+    rw c.in-Captured.is (answers-quiet (state_in a.session a.buffers.now) c.requires (good_quiet a.session) c.silent-in-Captured.ensures)
 
-pub returns-in-CompleteRow : goal.returns-in-CompleteRow
+pub returns-in-Buffers-clause-answer : goal.returns-in-Buffers-clause-answer
 unfolding answer_of
-returns-in-CompleteRow c = rw c.in-CompleteRow.is (c.run_row_on_endpoint.ensures c.args.collect.now)
-
-pub returns-in-Time : goal.returns-in-Time
-unfolding answer_of
-returns-in-Time c =
-    let a = c.args in
-    rw c.in-Time.is (answers-quiet (state_of a.session a.log.now a.collect.now a.low.now a.high.now) c.requires.has_room (good_quiet a.session) c.silent.ensures)
-
-pub returns-in-Captured : goal.returns-in-Captured
-unfolding answer_of
-returns-in-Captured c =
-    let a = c.args in
-    rw c.in-Captured.is (answers-quiet (state_of a.session a.log.now a.collect.now a.low.now a.high.now) c.requires.has_room (good_quiet a.session) c.silent-in-Captured.ensures)
-
-pub returns-in-Buffers : goal.returns-in-Buffers
-unfolding answer_of
-returns-in-Buffers c =
+returns-in-Buffers-clause-answer c =
     let a = c.args in
     let k = c.in-Buffers in
-    rw k.is (answers-quiet (state_of a.session a.log.now a.collect.now a.low.now a.high.now) c.requires.has_room (good_quiet (with_lengths a.session k.log_length k.collect_length)) c.lend_buffers.ensures)
+    rw k.is (answers-quiet (state_in a.session a.buffers.now) c.requires (good_quiet (with_lengths a.session k.log_length k.collect_length)) c.lend_buffers.ensures)
 
-pub returns-in-AppendTrb : goal.returns-in-AppendTrb
+pub returns-in-AppendTrb-clause-answer : goal.returns-in-AppendTrb-clause-answer
 unfolding answer_of
-returns-in-AppendTrb c =
+returns-in-AppendTrb-clause-answer c =
     let a = c.args in
-    rw c.in-AppendTrb.is (answers-quiet (state_of a.session a.log.now a.collect.now a.low.now a.high.now) c.requires.has_room (append_trb a.session c.in-AppendTrb.t) c.append_trb.ensures)
+    rw c.in-AppendTrb.is (answers-quiet (state_in a.session a.buffers.now) c.requires (append_trb a.session c.in-AppendTrb.t) c.append_trb.ensures)
 
-pub returns-in-AppendResult : goal.returns-in-AppendResult
+pub returns-in-AppendResult-clause-answer : goal.returns-in-AppendResult-clause-answer
 unfolding answer_of
-returns-in-AppendResult c =
+returns-in-AppendResult-clause-answer c =
     let a = c.args in
     let k = c.in-AppendResult in
-    rw k.is (answers-quiet (state_of a.session a.log.now a.collect.now a.low.now a.high.now) c.requires.has_room (append_result a.session (record { status = k.status; length = k.length })) c.append_result.ensures)
+    rw k.is (answers-quiet (state_in a.session a.buffers.now) c.requires (append_result a.session (record { status = k.status; length = k.length })) c.append_result.ensures)
 
-pub returns-in_default : goal.returns-in_default
-returns-in_default c =
+pub returns-in_default-clause-answer : goal.returns-in_default-clause-answer
+returns-in_default-clause-answer c =
     let a = c.args in
-    let s = state_of a.session a.log.now a.collect.now a.low.now a.high.now in
     let d = c.in_default in
     let on_endpoint : OnEndpoint a.call =
     record {
@@ -77,4 +76,4 @@ returns-in_default c =
       time = d.not-Time;
       captured = d.not-Captured;
     } in
-    rw (answer_of-other a.«data».now s a.call on_endpoint) c.run_on_endpoint.ensures
+    rw (answer_of-other a.buffers.now.«data».now (state_in a.session a.buffers.now) a.call on_endpoint) c.run_on_endpoint.ensures.answer

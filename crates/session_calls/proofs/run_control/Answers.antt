@@ -2,7 +2,8 @@
 use Rattle.session_calls.proofs.AnswerLaws.{answers-control}
 use Rattle.session_calls.proofs.run_control.Goals as goal
 
-pub returns : goal.returns
-returns c =
+pub returns-clause-answer : goal.returns-clause-answer
+returns-clause-answer c =
     let a = c.args in
-    answers-control a.session a.log.now a.collect.now a.low.now a.high.now c.lent_of.ensures a.«data».now a.call c.run_control-ran.ensures c.after_control.ensures
+    let b = a.buffers.now in
+    answers-control a.session b.log.now b.collect.now b.low.now b.high.now c.lent_of.ensures b.«data».now a.call c.run_control-ran.ensures c.after_control.ensures

@@ -2,7 +2,8 @@
 use Rattle.session_calls.proofs.AnswerLaws.{answers-in}
 use Rattle.session_calls.proofs.run_in.Goals as goal
 
-pub returns : goal.returns
-returns c collect =
+pub returns-clause-answer : goal.returns-clause-answer
+returns-clause-answer c =
     let a = c.args in
-    answers-in a.session a.log.now collect a.low.now a.high.now c.lent_of.ensures a.«data».now a.call c.run_in-ran.ensures c.after_in.ensures
+    let b = a.buffers.now in
+    answers-in a.session b.log.now b.collect.now b.low.now b.high.now c.lent_of.ensures b.«data».now a.call c.run_in-ran.ensures c.after_in.ensures

@@ -2,8 +2,9 @@
 use Rattle.session_calls.proofs.AnswerLaws.{answers-row}
 use Rattle.session_calls.proofs.run_row.Goals as goal
 
-pub returns : goal.returns
-returns c collect =
+pub returns-clause-answer : goal.returns-clause-answer
+returns-clause-answer c =
     let a = c.args in
-    answers-row a.session a.log.now collect a.low.now a.high.now c.lent_of.ensures a.«data».now a.bytes c.run_row-ran.ensures c.without_row.ensures
+    let b = a.buffers.now in
+    answers-row a.session b.log.now b.collect.now b.low.now b.high.now c.lent_of.ensures b.«data».now a.bytes c.run_row-ran.ensures c.without_row.ensures
     c.after_in.ensures

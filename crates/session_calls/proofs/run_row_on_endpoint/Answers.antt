@@ -2,26 +2,25 @@
 use Rattle.std.proofs.Common.{Some, ap, ◌∙◌}
 use Rattle.session.specs.Sessions.{bad_quiet}
 use Rattle.session.proofs.OptionLaws.{on-none}
-use Rattle.session_calls.specs.Answers.{state_of}
+use Rattle.session_calls.specs.Answers.{state_in}
 use Rattle.session_calls.proofs.AnswerLaws.{answers-quiet, row-nowhere, row_in, row-control}
 use Rattle.session_calls.proofs.run_row_on_endpoint.Goals as goal
 
-pub returns-in_default : goal.returns-in_default
-returns-in_default c collect =
+pub returns-in_default-clause-answer : goal.returns-in_default-clause-answer
+returns-in_default-clause-answer c =
     let a = c.args in
-    let s = state_of a.session a.log.now collect a.low.now a.high.now in
-    rw (row-nowhere a.«data».now s a.bytes (on-none _ c.in_default.not-Some))
-    (answers-quiet s c.requires.has_room (bad_quiet a.session) c.bad.ensures)
+    let s = state_in a.session a.buffers.now in
+    rw (row-nowhere a.buffers.now.«data».now s a.bytes (on-none _ c.in_default.not-Some))
+    (answers-quiet s c.requires (bad_quiet a.session) c.bad.ensures)
 
-pub returns-in-In : goal.returns-in-In
-returns-in-In c collect =
+pub returns-in-In-clause-answer : goal.returns-in-In-clause-answer
+returns-in-In-clause-answer c =
     let a = c.args in
-    let s = state_of a.session a.log.now collect a.low.now a.high.now in
-    rw (row_in a.«data».now s a.bytes (c.in-Some.is ∙ ap Some c.in-In.is)) (c.run_row.ensures collect)
+    rw (row_in a.buffers.now.«data».now (state_in a.session a.buffers.now) a.bytes (c.in-Some.is ∙ ap Some c.in-In.is)) c.run_row.ensures.answer
 
-pub returns-in-Control : goal.returns-in-Control
-returns-in-Control c collect =
+pub returns-in-Control-clause-answer : goal.returns-in-Control-clause-answer
+returns-in-Control-clause-answer c =
     let a = c.args in
-    let s = state_of a.session a.log.now collect a.low.now a.high.now in
-    rw (row-control a.«data».now s a.bytes (c.in-Some.is ∙ ap Some c.in-Control.is))
-    (answers-quiet s c.requires.has_room (bad_quiet a.session) c.bad-in-Control.ensures)
+    let s = state_in a.session a.buffers.now in
+    rw (row-control a.buffers.now.«data».now s a.bytes (c.in-Some.is ∙ ap Some c.in-Control.is))
+    (answers-quiet s c.requires (bad_quiet a.session) c.bad-in-Control.ensures)

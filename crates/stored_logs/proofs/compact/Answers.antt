@@ -2,8 +2,5 @@
 use Rattle.stored_logs.proofs.StoredLaws.{compacts}
 use Rattle.stored_logs.proofs.compact.Goals as goal
 
-pub returns-in-Ok : goal.returns-in-Ok
-returns-in-Ok c = rw c.in-Ok.is at (compacts _ _ _ c.compact.ensures)
-
-pub returns-in-Err : goal.returns-in-Err
-returns-in-Err c = rw c.refused.ensures (rw c.in-Err.is at (compacts _ _ _ c.compact.ensures))
+pub returns : goal.returns
+returns c = rw c.counted.ensures (compacts _ _ _ c.compact.ensures)

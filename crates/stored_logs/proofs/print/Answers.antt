@@ -49,15 +49,15 @@ accepted c =
 pub returns-then-text-log : goal.returns-then-text-log
 returns-then-text-log c =
     let no = short (goal.at.returns-then-text-log c).Then-text-log in
-    rw c.refused.ensures (record { number = sym no; count = simp no; after = simp no })
+    rw c.counted.ensures (record { number = sym no; count = simp no; after = simp no })
 
 pub returns-then-not-well_formed : goal.returns-then-not-well_formed
 returns-then-not-well_formed c =
     let no = malformed (goal.at.returns-then-not-well_formed c).Then-not-well_formed in
-    rw c.refused-then-not-well_formed.ensures (record { number = sym no; count = simp no; after = simp no })
+    rw c.counted-then-not-well_formed.ensures (record { number = sym no; count = simp no; after = simp no })
 
 pub returns : goal.returns
 unfolding lines_of
 returns c =
     let yes = accepted (goal.at.returns c).Else-not-well_formed in
-    record { number = sym yes; count = simp (yes, c.put_lines.ensures.end, zero-add); after = simp yes (search rules) }
+    rw c.counted-2.ensures (record { number = sym yes; count = simp (yes, c.put_lines.ensures.end, zero-add); after = simp yes (search rules) })

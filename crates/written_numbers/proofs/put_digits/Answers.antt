@@ -3,24 +3,15 @@
 use mathlib.Core.Path.{◌≡◌}
 use mathlib.Core.List.{[]}
 use native.Mathlib.Omega.{arith}
-use lib.ListN.{drop, length-map, length-drop, drop_of_length-le}
+use lib.ListN.{drop, length-map, drop_of_length-le}
 use Rattle.numerals.specs.Digits.{digit_char}
 use Rattle.numerals.proofs.ListLaws.{drop-next}
 use Rattle.numerals.proofs.DigitLaws.{get_or-AllBelow}
-use Rattle.text.proofs.WroteLaws.{remaining-all, remaining-less, remaining-none}
+use Rattle.text.proofs.WroteLaws.{remaining-less, remaining-none}
 use Rattle.written_numbers.proofs.put_digits.Goals as goal
-
-pub loop-digit-init : goal.loop-digit-init
-loop-digit-init c = (remaining-all _ _ (omega (arith, length-map c.args.digits.now digit_char, c.requires.has_room)))
 
 pub digit_char-requires : goal.digit_char-requires
 digit_char-requires c = get_or-AllBelow c.args.digits.now _ c.requires.all_below (omega arith)
-
-pub put_char-requires : goal.put_char-requires
-put_char-requires c =
-    let i = c.loop-digit.digit-index in
-    let ds = c.args.digits.now in
-    omega (arith, c.loop-digit.invariant.end, c.loop-digit.invariant.size, c.loop-digit.invariant.room, length-map (drop i ds) digit_char, length-drop i ds)
 
 pub loop-digit-preserved : goal.loop-digit-preserved
 loop-digit-preserved c =

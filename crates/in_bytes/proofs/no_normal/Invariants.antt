@@ -1,8 +1,0 @@
-use mathlib.Core.Path.{◌≡◌}
-use lib.ListN.{take, drop}
-use Rattle.in_td.specs.Td.{normals}
-use Rattle.in_bytes.specs.Layout.{places}
-use Rattle.in_bytes.proofs.no_normal.Given as goal
-
-abbrev pub invariant-loop-i : goal.invariant-loop-i
-invariant-loop-i l = normals (drop l.i (take l.held (places l.block))) ≡ normals (take l.held (places l.block))

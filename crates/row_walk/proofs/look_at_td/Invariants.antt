@@ -1,0 +1,10 @@
+use Prim.Native.Nat.{◌-◌}
+use lib.ListN.{length}
+use Rattle.row_walk.proofs.TdsLaws.{Looked}
+use Rattle.row_walk.proofs.look_at_td.Given as goal
+
+abbrev pub invariant-loop-more : goal.invariant-loop-more
+invariant-loop-more l = Looked l.row l.first l.asked l.end l.more
+
+abbrev pub decreases-loop-more : goal.decreases-loop-more
+decreases-loop-more l = length l.row - l.end
