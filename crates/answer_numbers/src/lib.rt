@@ -1,4 +1,5 @@
-// What the exported calls answer: the cases of an answer as plain numbers, in structs that C has too. And the status that a number stands for.
+// What the exported calls answer: the cases of an answer as plain numbers, in structs that C has too. And the status that a number stands
+// for.
 #![tactic(auto)]
 
 ghost use Rattle.std.specs.Prelude.{◌≡◌};
@@ -8,7 +9,8 @@ use trb::{
     Answer, CompletionAnswer, CompletionCode, InTrbProcessingStatus, Refusal, TrbProcessingResult,
 };
 
-// A number with the values beside it, since C reads it. What a call answers: the number of the question that said no, or 0, and how many records or bytes it made.
+// A number with the values beside it, since C reads it. What a call answers: the number of the question that said no, or 0, and how many
+// records or bytes it made.
 #[repr(C)]
 #[derive(Clone, Copy)]
 pub struct Answered {

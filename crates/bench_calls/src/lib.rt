@@ -22,8 +22,8 @@ fn memory_in(window: &[u8]) -> GuestView<'_> {
 
 // ---- By value
 
-// `repeats` TDs of `trbs` Normals, whose buffers lie end to end from the window's start: each TRB is submitted and its completion asked for, the last one's with the device's result;
-// where the TD is not to complete, it is cancelled in the place of its last completion.
+// `repeats` TDs of `trbs` Normals, whose buffers lie end to end from the window's start: each TRB is submitted and its completion asked
+// for, the last one's with the device's result; where the TD is not to complete, it is cancelled in the place of its last completion.
 #[unsafe(no_mangle)]
 pub extern "C" fn bench_calls_in_by_value(
     log: &mut [u8],

@@ -40,16 +40,6 @@ pub fn sum_of_completion(answer: CompletionAnswer, records: usize) -> u64 {
 
 // ---- The work
 
-// The device result of this number.
-fn status_of(number: u8) -> InTrbProcessingStatus {
-    match number {
-        0 => InTrbProcessingStatus::Success,
-        1 => InTrbProcessingStatus::Stall,
-        2 => InTrbProcessingStatus::TransactionError,
-        _ => InTrbProcessingStatus::Disconnect,
-    }
-}
-
 // Number `i` of a TD of Normals: interrupt-on-short on all of them, on the last interrupt-on-completion in the place of the
 // chain bit.
 pub fn normal_at(i: u32, data_pointer: u64, transfer_length: u32, chain: bool) -> TransferTrb {
@@ -69,5 +59,5 @@ pub fn normal_at(i: u32, data_pointer: u64, transfer_length: u32, chain: bool) -
 
 // What the device gives, if this TRB has ended the TD.
 pub fn result_at(ends: bool, status: u8) -> Option<InTrbProcessingStatus> {
-    ends.then_some(status_of(status))
+    ends.then_some(answer_numbers::status_of(status))
 }

@@ -1,9 +1,9 @@
-// Lent buffers: bytes laid over a buffer, little-endian numbers read from one, and the bytes of a number.
+// Lent buffers: bytes laid over a buffer, and little-endian numbers read from one.
 #![tactic(auto)]
 
 ghost use Rattle.std.specs.Prelude.{◌≡◌, ◌+◌, ◌≤◌, length};
 ghost use Rattle.buffers.specs.Patch.{patch};
-ghost use Rattle.buffers.specs.LittleEndian.{le_field, le_bytes};
+ghost use Rattle.buffers.specs.LittleEndian.{le_field};
 
 // Lays the bytes of `src` over `dst` from index `at` on.
 #[tactic(auto, unfolding(crate::specs::Patch::patch))]
@@ -48,11 +48,4 @@ pub fn le64(src: &[u8], at: usize) -> u64
         src[at + 6],
         src[at + 7],
     ])
-}
-
-// The eight bytes of a number.
-pub fn le64_bytes(x: u64) -> [u8; 8]
-    ensures { result ≡ le_bytes 8 x }
-{
-    x.to_le_bytes()
 }

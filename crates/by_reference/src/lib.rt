@@ -1,8 +1,8 @@
-// Submission, completion and cancel of the two endpoints, with the block lent and updated where it is.
+// Submission, completion and cancel of the two endpoints, with the block lent and updated where it is: the layers of `lent_laws` over the
+// functions by value.
 #![tactic(auto)]
 
 ghost use Rattle.std.specs.Prelude.{◌≡◌, length};
-ghost use Rattle.call_log.specs.Calls.{Meets};
 ghost use Rattle.guest_memory.specs.Places.{regions_of};
 ghost use Rattle.guest_memory.specs.Lent.{seen};
 ghost use Rattle.in_endpoint.specs.Creation.{cancelled};
@@ -35,12 +35,7 @@ pub fn in_submit_trb(
 ) -> SubmissionOutcome
     ensures { SubmitsIn block.old t (regions_of (seen memory.now)) log.old (in_submitted result block.new) log.new }
 {
-    let r = in_submission::submit_trb(log, *block, t, memory);
-    *block = r.block;
-    Logged {
-        answer: r.answer,
-        records: r.records,
-    }
+    lent_laws::submission_layer(log, block, t, memory, in_submission::submit_trb)
 }
 
 // `in_completion::next_completion`, likewise.
@@ -52,19 +47,14 @@ pub fn in_next_completion(
 ) -> CompletionOutcome
     ensures { CompletesIn block.old res (length «data».now) log.old (in_completed result block.new) log.new }
 {
-    let r = in_completion::next_completion(log, *block, res, data);
-    *block = r.block;
-    Logged {
-        answer: r.answer,
-        records: r.records,
-    }
+    lent_laws::completion_layer(log, block, res, data, in_completion::next_completion)
 }
 
 // `in_endpoint::cancel`, likewise.
 pub fn in_cancel(block: &mut InBlock)
     ensures { block.new ≡ cancelled block.old }
 {
-    *block = in_endpoint::cancel(*block);
+    lent_laws::cancel_layer(block, in_endpoint::cancel);
 }
 
 // ---- Control endpoint
@@ -79,12 +69,14 @@ pub fn control_submit_trb(
 ) -> SubmissionOutcome
     ensures { SubmitsControl block.old t (seen memory.now) log.old collect.old (control_submitted result block.new) log.new collect.new }
 {
-    let r = control_submission::submit_trb(log, collect, *block, t, memory);
-    *block = r.block;
-    Logged {
-        answer: r.answer,
-        records: r.records,
-    }
+    lent_laws::collecting_layer(
+        log,
+        collect,
+        block,
+        t,
+        memory,
+        control_submission::submit_trb,
+    )
 }
 
 // `control_completion::next_completion`, likewise.
@@ -96,17 +88,12 @@ pub fn control_next_completion(
 ) -> CompletionOutcome
     ensures { CompletesControl block.old res (length «data».now) log.old (control_completed result block.new) log.new }
 {
-    let r = control_completion::next_completion(log, *block, res, data);
-    *block = r.block;
-    Logged {
-        answer: r.answer,
-        records: r.records,
-    }
+    lent_laws::completion_layer(log, block, res, data, control_completion::next_completion)
 }
 
 // `control_endpoint::cancel`, likewise.
 pub fn control_cancel(block: &mut ControlBlock)
     ensures { block.new ≡ block.old }
 {
-    *block = control_endpoint::cancel(*block);
+    lent_laws::cancel_layer(block, control_endpoint::cancel);
 }

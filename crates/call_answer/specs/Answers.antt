@@ -35,10 +35,10 @@ unfoldable pub completion_memory : CompletionAnswer → ℕ → List ℕ → Lis
 completion_memory (Ok r) n log bytes m = memory_after (carried_out n log bytes m) (take (record_length * n) log) bytes m
 completion_memory (Err q) n log bytes m = m
 
--- of carrying out a log, with carry-out's line written behind the text t
-pub record CarriedOut (log bytes : List ℕ) (m : Memory) (t t' : Text) (m' : Memory) : Type 0 where
-  pub text : Wrote max_carried_out t (carried_out_line (number_of (answer_of log (length bytes) (regions_of m)))) t'
-  pub after : m' ≡ memory_after (answer_of log (length bytes) (regions_of m)) log bytes m
+-- of carrying out the first n records of a log, with their lines and carry-out's line written behind the text t
+pub record CarriedOut (n : ℕ) (log bytes : List ℕ) (m : Memory) (t t' : Text) (m' : Memory) : Type 0 where
+  pub text : Wrote (max_record_lines + max_carried_out) t (record_lines n log ++ carried_out_line (number_of (carried_out n log bytes m))) t'
+  pub after : m' ≡ memory_after (carried_out n log bytes m) (take (record_length * n) log) bytes m
 
 -- of a completion's answer that was written behind the text t: the text became t', guest memory became m'
 pub record Answered (a : CompletionAnswer) (n : ℕ) (log bytes : List ℕ) (m : Memory) (t t' : Text) (m' : Memory) : Type 0 where

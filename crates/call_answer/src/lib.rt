@@ -14,8 +14,8 @@ use guest_memory::GuestMemory;
 use text::Text;
 use trb::{Answer, CompletionAnswer};
 
-// Writes a line for each record of a log. That a log is no longer than a row's, so that its lines fit, stands here and in each contract above: it is the caller's
-// slice, and a type around it would have to be made for each call.
+// Writes a line for each record of a log. That a log is no longer than a row's, so that its lines fit, stands here and in each contract
+// above: it is the caller's slice, and a type around it would have to be made for each call.
 fn put_records(text: &mut Text<'_>, log: &[u8])
     requires has_room { HasRoom max_record_lines text.old }
     requires log_len_bound { length log.now ≤ min_row_log }
@@ -24,7 +24,8 @@ fn put_records(text: &mut Text<'_>, log: &[u8])
     log_text::put_lines(text, log);
 }
 
-// Of creation, submission and cancel. How many records there are is printed too, of a log that is a whole buffer: so both are passed, here and below.
+// Of creation, submission and cancel. How many records there are is printed too, of a log that is a whole buffer: so both are passed, here
+// and below.
 pub fn put_answer(text: &mut Text<'_>, answer: Answer, records: usize, log: &[u8])
     requires has_room { HasRoom (max_first + max_record_lines) text.old }
     requires log_len_bound { length log.now ≤ min_row_log }
@@ -39,13 +40,22 @@ pub fn put_answer(text: &mut Text<'_>, answer: Answer, records: usize, log: &[u8
     }
 }
 
-// Carries out a log and writes carry-out's answer.
-fn put_carry_out(text: &mut Text<'_>, log: &[u8], data: &[u8], memory: &mut GuestMemory<'_>)
-    requires { HasRoom max_carried_out text.old }
-    ensures answer { CarriedOut log.now «data».now (lent memory.old) text.old text.new (lent memory.new) }
+// Writes the lines of the first records of a log, carries these out and writes carry-out's answer.
+fn put_carried_out(
+    text: &mut Text<'_>,
+    records: usize,
+    log: &[u8],
+    data: &[u8],
+    memory: &mut GuestMemory<'_>,
+)
+    requires has_room { HasRoom (max_record_lines + max_carried_out) text.old }
+    requires log_len_bound { length log.now ≤ min_row_log }
+    ensures answer { CarriedOut records log.now «data».now (lent memory.old) text.old text.new (lent memory.new) }
     ensures same { SameRegions memory.old memory.new }
 {
-    let answer = carry_out::carry_out(log, data, memory);
+    let shown = call_text::first_records(log, records);
+    put_records(text, shown);
+    let answer = carry_out::carry_out(shown, data, memory);
     call_text::put_carried_out(text, trb::number_of(answer));
 }
 
@@ -66,9 +76,7 @@ pub fn put_completion(
     match answer {
         Ok(result) => {
             call_text::put_completed(text, call_text::count(records), result);
-            let shown = call_text::first_records(log, records);
-            put_records(text, shown);
-            put_carry_out(text, shown, data, memory);
+            put_carried_out(text, records, log, data, memory);
         }
         Err(refusal) => call_text::put_refused(text, u8::from(refusal)),
     }
@@ -97,9 +105,7 @@ pub fn put_row(
                 result,
                 call_text::count(finished),
             );
-            let shown = call_text::first_records(log, records);
-            put_records(text, shown);
-            put_carry_out(text, shown, data, memory);
+            put_carried_out(text, records, log, data, memory);
         }
         Err(refusal) => call_text::put_refused(text, u8::from(refusal)),
     }

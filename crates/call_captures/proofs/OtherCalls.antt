@@ -4,7 +4,7 @@ use mathlib.Core.Path.{◌≡◌, refl}
 use mathlib.Core.List.{List, []}
 use Rattle.trb.specs.declared.TransferTrb.{TransferTrb}
 use Rattle.call_script.specs.declared.DeviceStatus.{DeviceStatus}
-use Rattle.call_script.specs.declared.InTransferType.{InTransferType}
+use Rattle.capture_record.specs.declared.InTransferType.{InTransferType}
 use Rattle.call_script.specs.declared.Call.{Call}
 use Rattle.call_script.specs.declared.Call.TheVariants.{Window, Buffers, CreateIn, CreateControl, Submit, CompleteWithResult, CompleteWithout, Cancel, Hold, MakeUpIn, MakeUpControl, AppendTrb, AppendResult, CompleteRow, Time, Captured}
 use Rattle.session.specs.declared.Session.{Session}
@@ -16,7 +16,7 @@ module _ (s : Setting) (before after : Session) (log : List ℕ) (records : ℕ)
   pub call_captures-other : (c : Call) → ((t : TransferTrb) → c ≡ Submit t → ⊥) → ((status : DeviceStatus) (n : ℕ) → c ≡ CompleteWithResult status n → ⊥) → ((n : ℕ) → c ≡ CompleteWithout n → ⊥) → ((n : ℕ) → c ≡ CompleteRow n → ⊥)
       → call_captures s before after c log records collect bytes ≡ []
   unfolding call_captures
-  call_captures-other (Window low n high k) submits given without completes-row = refl
+  call_captures-other (Window window) submits given without completes-row = refl
   call_captures-other (Buffers l n) submits given without completes-row = refl
   call_captures-other (CreateIn e i mode) submits given without completes-row = refl
   call_captures-other (CreateControl e i release) submits given without completes-row = refl
@@ -36,7 +36,7 @@ module _ (s : Setting) (before after : Session) (log : List ℕ) (records : ℕ)
 module _ (s : Setting) where
   pub setting_after-other : (c : Call) → ((seconds microseconds : ℕ) → c ≡ Time seconds microseconds → ⊥) → ((bus address : ℕ) (transfer_type : InTransferType) → c ≡ Captured bus address transfer_type → ⊥) → setting_after s c ≡ s
   unfolding setting_after
-  setting_after-other (Window low n high k) times captures = refl
+  setting_after-other (Window window) times captures = refl
   setting_after-other (Buffers l n) times captures = refl
   setting_after-other (CreateIn e i mode) times captures = refl
   setting_after-other (CreateControl e i release) times captures = refl

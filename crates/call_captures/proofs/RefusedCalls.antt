@@ -68,7 +68,7 @@ module _ (s : Setting) (before after : Session) (in-same : after.in_block ≡ be
   result-kept : (e : Option EndpointKind) (status : DeviceStatus) (bytes : List ℕ) → result_captures e s before after status bytes ≡ []
   result-kept None status bytes = refl
   result-kept (Some In) status bytes = rw in-same (in_kept _ bytes _ _ (input-calls.result_of status) before.in_block.state)
-  result-kept (Some Control) status bytes = rw control-same (control-kept _ bytes _ _ _ (control-calls.result_of status) before.control_block.state)
+  result-kept (Some Control) status bytes = rw control-same (control-kept _ bytes _ _ _ (Some (control-calls.result_of status)) before.control_block.state)
 
   no-result-kept : (e : Option EndpointKind) → no_result_captures e s before after ≡ []
   no-result-kept None = refl
@@ -77,7 +77,7 @@ module _ (s : Setting) (before after : Session) (in-same : after.in_block ≡ be
 
   pub call_captures-kept : (c : Call) (log collect bytes : List ℕ) → call_captures s before after c log 0 collect bytes ≡ []
   unfolding call_captures requests_in
-  call_captures-kept (Window a n b k) log collect bytes = refl
+  call_captures-kept (Window window) log collect bytes = refl
   call_captures-kept (Buffers l n) log collect bytes = refl
   call_captures-kept (CreateIn e i mode) log collect bytes = refl
   call_captures-kept (CreateControl e i release) log collect bytes = refl

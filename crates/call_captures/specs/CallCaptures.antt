@@ -31,7 +31,7 @@ submission_captures None s before after log records collect = []
 submission_captures (Some In) s before after log records collect =
     in_submission_capture (captured_of s) (pipe_of s before.in_block.endpoint_id) (logged_records records log)
 submission_captures (Some Control) s before after log records collect =
-    request_captures (captured_of s) control_request_event (take after.control_block.collected collect) (logged_records records log)
+    request_captures (captured_of s) control_request_event (take after.control_block.transfer.collected collect) (logged_records records log)
 
 -- ---- A completion
 
@@ -46,7 +46,7 @@ in_completion_captures s b after r bytes =
 abbrev pub control_completion_captures : Setting → ControlBlock → ControlBlock → Option ControlRequestProcessingResult → List ℕ → List CaptureCall
 control_completion_captures s b after r bytes =
     cond (control.submission_due after.state)
-    (writer_call (captured_of s) (control_completion_event b.state b.direction b.request (count_of b.collected) r) bytes) []
+    (writer_call (captured_of s) (control_completion_event b.state b.transfer.direction b.transfer.request (count_of b.transfer.collected) r) bytes) []
 
 -- with a device result
 abbrev pub result_captures : Option EndpointKind → Setting → Session → Session → DeviceStatus → List ℕ → List CaptureCall
@@ -54,7 +54,7 @@ result_captures None s before after status bytes = []
 result_captures (Some In) s before after status bytes =
     in_completion_captures s before.in_block after.in_block (input-calls.result_of status) bytes
 result_captures (Some Control) s before after status bytes =
-    control_completion_captures s before.control_block after.control_block (control-calls.result_of status) bytes
+    control_completion_captures s before.control_block after.control_block (Some (control-calls.result_of status)) bytes
 
 -- without one: a TRB error on control; 000 writes none on IN
 abbrev pub no_result_captures : Option EndpointKind → Setting → Session → Session → List CaptureCall
@@ -75,7 +75,7 @@ row_call_captures s before log records bytes =
 
 -- submission, completion and row give records, of the device's data those bytes that the call gave; no other call asks the device for anything
 unfoldable pub call_captures : Setting → Session → Session → Call → List ℕ → ℕ → List ℕ → List ℕ → List CaptureCall
-call_captures s before after (Window low_base low_length high_base high_length) log records collect bytes = []
+call_captures s before after (Window window) log records collect bytes = []
 call_captures s before after (Buffers l n) log records collect bytes = []
 call_captures s before after (CreateIn e i mode) log records collect bytes = []
 call_captures s before after (CreateControl e i release) log records collect bytes = []

@@ -1,22 +1,19 @@
 -- What captures say of a script's calls. Assumes nothing.
-use Rattle.std.specs.Prelude.{Bool, true, false}
 use Rattle.call_script.specs.declared.Call.{Call}
 use Rattle.call_script.specs.declared.Call.TheVariants.{Window, Buffers, CreateIn, CreateControl, Submit, CompleteWithResult, CompleteWithout, Cancel, Hold, MakeUpIn, MakeUpControl, AppendTrb, AppendResult, CompleteRow, Time, Captured}
-use Rattle.call_script.specs.declared.InTransferType.{InTransferType}
-use Rattle.call_script.specs.declared.InTransferType.TheVariants.{Bulk, Interrupt}
+use Rattle.capture_record.specs.declared.InTransferType.TheVariants.{Bulk}
 use Rattle.captured_calls.specs.declared.Setting.{Setting}
-
-abbrev pub is_interrupt : InTransferType → Bool
-is_interrupt Bulk = false
-is_interrupt Interrupt = true
 
 -- docs/CALLS.md: bus 1, device 1, bulk and time 0, until a script says otherwise
 abbrev pub first_setting : Setting
-first_setting = record { time = record { seconds = 0; microseconds = 0 }; device = record { bus_number = 1; device_address = 1 }; interrupt = false }
+first_setting = record {
+  stamp = record { device = record { bus_number = 1; device_address = 1 }; time = record { seconds = 0; microseconds = 0 } };
+  transfer_type = Bulk;
+}
 
 -- 02, R-2: times, bus, device address and the transfer type on IN are the caller's: `t` and `m` set them for the calls behind, no other line does
 unfoldable pub setting_after : Setting → Call → Setting
-setting_after s (Window low_base low_length high_base high_length) = s
+setting_after s (Window window) = s
 setting_after s (Buffers log collect) = s
 setting_after s (CreateIn e i mode) = s
 setting_after s (CreateControl e i release) = s
@@ -31,9 +28,8 @@ setting_after s (AppendTrb t) = s
 setting_after s (AppendResult status n) = s
 setting_after s (CompleteRow n) = s
 setting_after s (Time seconds microseconds) =
-    record { time = record { seconds = seconds; microseconds = microseconds }; device = s.device; interrupt = s.interrupt }
+    record { stamp = record { device = s.stamp.device; time = record { seconds = seconds; microseconds = microseconds } }; transfer_type = s.transfer_type }
 setting_after s (Captured bus address transfer_type) = record {
-  time = s.time;
-  device = record { bus_number = bus; device_address = address };
-  interrupt = is_interrupt transfer_type;
+  stamp = record { device = record { bus_number = bus; device_address = address }; time = s.stamp.time };
+  transfer_type = transfer_type;
 }

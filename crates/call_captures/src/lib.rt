@@ -1,70 +1,65 @@
-// Which records a call of a script gives to a capture: of the block before the call, of the records that it logged and of the bytes that it was given.
+// Which records a call of a script gives to a capture: of the block before the call, of the records that it logged and of the bytes that it
+// was given.
 #![tactic(auto)]
 
-ghost use Rattle.std.specs.Prelude.{◌≡◌, cond, []};
-ghost use Rattle.call_text.specs.Lines.{count_of};
-ghost use Rattle.capture_calls.specs.Events.{in_completion_event, control_completion_event};
-ghost use Rattle.capture_calls.specs.Captures.{writer_call, first_address};
-ghost use Rattle.captured_calls.specs.Written.{Fits, Laid, Lays};
-ghost use Rattle.captured_calls.specs.Submitted.{captured_of, pipe_of};
-ghost use Rattle.call_captures.specs.Settings.{is_interrupt, first_setting, setting_after};
-ghost use Rattle.call_captures.specs.CallCaptures.{submission_captures, result_captures, no_result_captures, row_call_captures, call_captures};
+ghost use Rattle.std.specs.Prelude.{◌≡◌};
+ghost use Rattle.captured_calls.specs.Written.{Laid, Lays};
+ghost use Rattle.call_captures.specs.Settings.{first_setting, setting_after};
+ghost use Rattle.call_captures.specs.CallCaptures.{in_completion_captures, control_completion_captures, submission_captures, result_captures, no_result_captures, row_call_captures, call_captures};
 
-use call_script::{Call, DeviceStatus, InTransferType};
+use call_script::{Call, DeviceStatus};
 use capture_file::CaptureTime;
-use capture_record::UsbDevice;
+use capture_record::{InTransferType, Stamp, UsbDevice};
 use captured_calls::{Capture, Setting};
 use held::EndpointKind;
 use session::Session;
-use trb::{
-    ControlRequestProcessingResult, ControlSubmissionState, EndpointId, InTrbProcessingStatus,
-    TdBasedNormalSubmissionState, TransferTrb, UsbRequest,
-};
+use trb::{ControlRequestProcessingResult, InTrbProcessingStatus};
 
 // ---- What captures say
 
-// Until a script says otherwise.
+// What captures say until a script says otherwise.
 pub fn first_setting() -> Setting
     ensures { result ≡ first_setting }
 {
     Setting {
-        time: CaptureTime {
-            seconds: 0,
-            microseconds: 0,
+        stamp: Stamp {
+            device: UsbDevice {
+                bus_number: 1,
+                device_address: 1,
+            },
+            time: CaptureTime {
+                seconds: 0,
+                microseconds: 0,
+            },
         },
-        device: UsbDevice {
-            bus_number: 1,
-            device_address: 1,
-        },
-        interrupt: false,
+        transfer_type: InTransferType::Bulk,
     }
 }
 
-fn is_interrupt(transfer_type: InTransferType) -> bool
-    ensures { result ≡ is_interrupt transfer_type }
-{
-    matches!(transfer_type, InTransferType::Interrupt)
-}
-
-// Behind a call.
+// What they say behind a call.
 pub fn setting_after(setting: Setting, call: Call) -> Setting
     ensures { result ≡ setting_after setting call }
 {
     match call {
         Call::Time(seconds, microseconds) => Setting {
-            time: CaptureTime {
-                seconds,
-                microseconds,
+            stamp: Stamp {
+                time: CaptureTime {
+                    seconds,
+                    microseconds,
+                },
+                ..setting.stamp
             },
             ..setting
         },
         Call::Captured(bus_number, device_address, transfer_type) => Setting {
-            device: UsbDevice {
-                bus_number,
-                device_address,
+            stamp: Stamp {
+                device: UsbDevice {
+                    bus_number,
+                    device_address,
+                },
+                ..setting.stamp
             },
-            interrupt: is_interrupt(transfer_type),
-            ..setting
+            transfer_type,
         },
         _ => setting,
     }
@@ -72,222 +67,164 @@ pub fn setting_after(setting: Setting, call: Call) -> Setting
 
 // ---- The records of a call
 
+// A call that was made: the sessions before and behind it; the log, and how many records it has of the call; the bytes that are collected;
+// the device's data.
+#[derive(Clone, Copy)]
+pub struct MadeCall<'a> {
+    pub before: Session,
+    pub after: Session,
+    pub call: Call,
+    pub log: &'a [u8],
+    pub records: usize,
+    pub collect: &'a [u8],
+    pub data: &'a [u8],
+}
+
 // A submission on this endpoint.
-fn put_submission(
-    capture: &mut Capture<'_>,
-    before: Session,
-    after: Session,
-    log: &[u8],
-    records: usize,
-    collect: &[u8],
-)
-    requires { Fits capture.old }
-    ensures { Laid (submission_captures after.endpoint capture.old.setting before after log.now records collect.now) capture.old capture.new }
+fn put_submission(capture: &mut Capture<'_>, made: &MadeCall<'_>)
+    ensures { Laid (submission_captures made.now.after.endpoint capture.old.setting made.now.before made.now.after made.now.log.now made.now.records made.now.collect.now) capture.old capture.new }
 {
-    let Some(endpoint) = after.endpoint else {
-        return;
-    };
-    match endpoint {
-        EndpointKind::In => captured_calls::put_in_submission(
+    match made.after.endpoint {
+        Some(EndpointKind::In) => captured_calls::put_in_submission(
             capture,
-            before.in_block.endpoint_id,
-            log,
-            records,
+            made.before.in_block.endpoint_id,
+            made.log,
+            made.records,
         ),
-        EndpointKind::Control => {
-            let collected = after.control_block.collected.min(collect.len());
-            captured_calls::put_control_submission(capture, log, records, &collect[..collected])
+        Some(EndpointKind::Control) => {
+            let collected = made
+                .after
+                .control_block
+                .transfer
+                .collected
+                .min(made.collect.len());
+            captured_calls::put_control_submission(
+                capture,
+                made.log,
+                made.records,
+                &made.collect[..collected],
+            )
         }
+        None => {}
     }
 }
 
-// The address in a block's first place.
-fn first_address(trbs: [TransferTrb; trb::MAX_HELD]) -> u64
-    ensures { result ≡ first_address trbs }
-{
-    trbs[0].addr
-}
-
-// A completion of an IN block, `due` whether a submission is due behind it: it was accepted.
+// A completion of an IN block, if it was accepted: then a submission is due behind it.
 fn put_in_completion(
     capture: &mut Capture<'_>,
-    endpoint_id: EndpointId,
-    state: TdBasedNormalSubmissionState,
-    first: u64,
-    due: bool,
+    made: &MadeCall<'_>,
     res: Option<InTrbProcessingStatus>,
     data: &[u8],
 )
-    requires { Fits capture.old }
-    ensures { Laid (cond due (writer_call (captured_of capture.old.setting) (in_completion_event (pipe_of capture.old.setting endpoint_id) state first res) «data».now) []) capture.old capture.new }
+    ensures { Laid (in_completion_captures capture.old.setting made.now.before.in_block made.now.after.in_block res «data».now) capture.old capture.new }
 {
-    if !due {
+    if !in_block::submission_due(made.after.in_block.state) {
         return;
     }
-    captured_calls::put_in_completion(capture, endpoint_id, state, first, res, data);
+    captured_calls::put_in_completion(
+        capture,
+        made.before.in_block.endpoint_id,
+        made.before.in_block.state,
+        made.before.in_block.trbs[0].addr,
+        res,
+        data,
+    );
 }
 
 // The same of a control block.
 fn put_control_completion(
     capture: &mut Capture<'_>,
-    state: ControlSubmissionState,
-    direction: bool,
-    request: UsbRequest,
-    collected: usize,
-    due: bool,
+    made: &MadeCall<'_>,
     res: Option<ControlRequestProcessingResult>,
     data: &[u8],
 )
-    requires { Fits capture.old }
-    ensures { Laid (cond due (writer_call (captured_of capture.old.setting) (control_completion_event state direction request (count_of collected) res) «data».now) []) capture.old capture.new }
+    ensures { Laid (control_completion_captures capture.old.setting made.now.before.control_block made.now.after.control_block res «data».now) capture.old capture.new }
 {
-    if !due {
+    if !control_block::submission_due(made.after.control_block.state) {
         return;
     }
-    let count = call_text::count(collected);
-    captured_calls::put_control_completion(capture, state, direction, request, count, res, data);
-}
-
-// A completion with a device result and these data.
-fn put_result(
-    capture: &mut Capture<'_>,
-    before: Session,
-    after: Session,
-    status: DeviceStatus,
-    data: &[u8],
-)
-    requires { Fits capture.old }
-    ensures { Laid (result_captures after.endpoint capture.old.setting before after status «data».now) capture.old capture.new }
-{
-    let Some(endpoint) = after.endpoint else {
-        return;
-    };
-    match endpoint {
-        EndpointKind::In => put_in_completion(
-            capture,
-            before.in_block.endpoint_id,
-            before.in_block.state,
-            first_address(before.in_block.trbs),
-            in_block::submission_due(after.in_block.state),
-            in_calls::result_of(status),
-            data,
-        ),
-        EndpointKind::Control => {
-            let block = before.control_block;
-            put_control_completion(
-                capture,
-                block.state,
-                block.direction,
-                block.request,
-                block.collected,
-                control_block::submission_due(after.control_block.state),
-                control_calls::result_of(status),
-                data,
-            )
-        }
-    }
-}
-
-// A completion without a device result has a record where it reports a TRB on control.
-fn put_no_result(capture: &mut Capture<'_>, before: Session, after: Session)
-    requires { Fits capture.old }
-    ensures { Laid (no_result_captures after.endpoint capture.old.setting before after) capture.old capture.new }
-{
-    let Some(endpoint) = after.endpoint else {
-        return;
-    };
-    match endpoint {
-        EndpointKind::In => {}
-        EndpointKind::Control => {
-            let block = before.control_block;
-            put_control_completion(
-                capture,
-                block.state,
-                block.direction,
-                block.request,
-                block.collected,
-                control_block::submission_due(after.control_block.state),
-                None,
-                &[],
-            )
-        }
-    }
-}
-
-// A row, as it was written down before the call.
-fn put_row(capture: &mut Capture<'_>, before: Session, log: &[u8], records: usize, data: &[u8])
-    requires { Fits capture.old }
-    ensures { Laid (row_call_captures capture.old.setting before log.now records «data».now) capture.old capture.new }
-{
-    captured_calls::put_row(
+    captured_calls::put_control_completion(
         capture,
-        before.in_block.endpoint_id,
-        &before.row.trbs[..before.row.count.min(trb::MAX_ROW)],
-        &before.row.results,
-        log,
-        records,
+        made.before.control_block.state,
+        made.before.control_block.transfer.direction,
+        made.before.control_block.transfer.request,
+        call_text::count(made.before.control_block.transfer.collected),
+        res,
         data,
     );
 }
 
-// Any call, from the sessions before and behind it.
-#[tactic(auto, unfolding(crate::specs::CallCaptures::call_captures))]
-fn capture_call(
-    capture: &mut Capture<'_>,
-    before: Session,
-    after: Session,
-    call: Call,
-    log: &[u8],
-    records: usize,
-    collect: &[u8],
-    data: &[u8],
-)
-    requires { Fits capture.old }
-    ensures { Laid (call_captures capture.old.setting before after call log.now records collect.now «data».now) capture.old capture.new }
+// A completion with a device result and these data.
+fn put_result(capture: &mut Capture<'_>, made: &MadeCall<'_>, status: DeviceStatus, data: &[u8])
+    ensures { Laid (result_captures made.now.after.endpoint capture.old.setting made.now.before made.now.after status «data».now) capture.old capture.new }
 {
-    match call {
-        Call::Submit(_) => put_submission(capture, before, after, log, records, collect),
-        Call::CompleteWithResult(status, bytes) => {
-            let given = bytes.min(data.len());
-            put_result(capture, before, after, status, &data[..given])
+    match made.after.endpoint {
+        Some(EndpointKind::In) => {
+            put_in_completion(capture, made, in_calls::result_of(status), data)
         }
-        Call::CompleteWithout(_) => put_no_result(capture, before, after),
+        Some(EndpointKind::Control) => {
+            let result = Some(control_calls::result_of(status));
+            put_control_completion(capture, made, result, data)
+        }
+        None => {}
+    }
+}
+
+// A completion without a device result has a record where it reports a TRB on control.
+fn put_no_result(capture: &mut Capture<'_>, made: &MadeCall<'_>)
+    ensures { Laid (no_result_captures made.now.after.endpoint capture.old.setting made.now.before made.now.after) capture.old capture.new }
+{
+    match made.after.endpoint {
+        Some(EndpointKind::In) => {}
+        Some(EndpointKind::Control) => put_control_completion(capture, made, None, &[]),
+        None => {}
+    }
+}
+
+// A row, as it was written down before the call.
+fn put_row(capture: &mut Capture<'_>, made: &MadeCall<'_>, data: &[u8])
+    ensures { Laid (row_call_captures capture.old.setting made.now.before made.now.log.now made.now.records «data».now) capture.old capture.new }
+{
+    captured_calls::put_row(
+        capture,
+        made.before.in_block.endpoint_id,
+        &made.before.row.trbs[..made.before.row.count.min(trb::MAX_ROW)],
+        &made.before.row.results,
+        made.log,
+        made.records,
+        data,
+    );
+}
+
+// Any call.
+#[tactic(auto, unfolding(crate::specs::CallCaptures::call_captures))]
+fn capture_call(capture: &mut Capture<'_>, made: &MadeCall<'_>)
+    ensures { Laid (call_captures capture.old.setting made.now.before made.now.after made.now.call made.now.log.now made.now.records made.now.collect.now made.now.«data».now) capture.old capture.new }
+{
+    match made.call {
+        Call::Submit(_) => put_submission(capture, made),
+        Call::CompleteWithResult(status, bytes) => {
+            let given = bytes.min(made.data.len());
+            put_result(capture, made, status, &made.data[..given])
+        }
+        Call::CompleteWithout(_) => put_no_result(capture, made),
         Call::CompleteRow(bytes) => {
-            let joined = bytes.min(data.len());
-            put_row(capture, before, log, records, &data[..joined])
+            let joined = bytes.min(made.data.len());
+            put_row(capture, made, &made.data[..joined])
         }
         _ => {}
     }
 }
 
-// A call, from the sessions before and behind it: its records lie at the buffer's start. Returns the index behind them.
-pub fn put_call(
-    output: &mut [u8],
-    setting: Setting,
-    before: Session,
-    after: Session,
-    call: Call,
-    log: &[u8],
-    records: usize,
-    collect: &[u8],
-    data: &[u8],
-) -> usize
-    ensures { Lays (call_captures setting before after call log.now records collect.now «data».now) output.old result output.new }
+// A call: its records lie at the buffer's start. Returns the index behind them.
+pub fn put_call(output: &mut [u8], setting: Setting, made: &MadeCall<'_>) -> usize
+    ensures { Lays (call_captures setting made.now.before made.now.after made.now.call made.now.log.now made.now.records made.now.collect.now made.now.«data».now) output.old result output.new }
 {
     let mut capture = Capture {
         bytes: output,
         end: 0,
         setting,
     };
-    capture_call(
-        &mut capture,
-        before,
-        after,
-        call,
-        log,
-        records,
-        collect,
-        data,
-    );
+    capture_call(&mut capture, made);
     capture.end
 }

@@ -1,5 +1,5 @@
-// The log: records of 32 bytes, little-endian, one for each effect, in the order of effect. Where a record is meant by its number, the contract asks that the log
-// has it: a fact of the log and the number, which no type of one of them has.
+// The log: records of 32 bytes, little-endian, one for each effect, in the order of effect. Where a record is meant by its number, the
+// contract asks that the log has it: a fact of the log and the number, which no type of one of them has.
 #![tactic(auto)]
 
 ghost use Rattle.std.specs.Prelude.{◌≡◌, [], ◌∷◌, ◌+◌, ◌*◌, ◌/◌, ◌≤◌, map, length};
@@ -18,8 +18,8 @@ pub const KIND_EVENT: u8 = 2;
 
 pub const KIND_REQUEST: u8 = 3;
 
-// What a record's bytes say: numbers and no enums, since any byte may stand there and is read as it is. Bytes 5 to 7, 30 and 31 are zero in every record that is
-// made here.
+// What a record's bytes say: numbers and no enums, since any byte may stand there and is read as it is. Bytes 5 to 7, 30 and 31 are zero in
+// every record that is made here.
 #[derive(Clone, Copy)]
 pub struct Record {
     pub kind: u8,

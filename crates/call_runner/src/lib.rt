@@ -1,12 +1,11 @@
 // Runs a call script: reads its lines and writes the answers.
 #![tactic(auto)]
 
-ghost use Rattle.std.specs.Prelude.{◌≡◌, ◌*◌, ◌≤◌, length, IfOk};
-ghost use Rattle.call_script.specs.Limits.{max_window, max_lent_log, max_lent_collect, max_script_data};
+ghost use Rattle.std.specs.Prelude.{◌≡◌, ◌≤◌, length, IfOk};
 ghost use Rattle.session_calls.specs.Buffers.{SameBuffers};
 ghost use Rattle.session_calls.specs.Answers.{state_in};
 ghost use Rattle.state_text.specs.Widths.{max_answer};
-ghost use Rattle.call_runner.specs.Turns.{started, ahead_of, ReadsOn, Turns, RunsInput};
+ghost use Rattle.call_runner.specs.Turns.{started, ReadsOn, Turns, RunsInput};
 
 use script_lines::{Input, Refilled};
 use session::{LentBuffers, Session};
@@ -28,16 +27,16 @@ struct Progress {
 fn started() -> Progress
     ensures { result ≡ started }
 {
-    let new = session::new_session();
     Progress {
-        session: new,
+        session: session::new_session(),
         lines: 0,
         good: true,
         more: true,
     }
 }
 
-// What stands ahead of a run behind the lines that it took: one line more where one is unfinished; whether the run is good, and whether there may be more.
+// What stands ahead of a run behind the lines that it took: one line more where one is unfinished; whether the run is good, and whether
+// there may be more.
 #[derive(Clone, Copy)]
 struct Ahead {
     lines: usize,
@@ -45,29 +44,35 @@ struct Ahead {
     more: bool,
 }
 
-fn ahead_of(refilled: Refilled) -> Ahead
-    ensures { result ≡ ahead_of refilled }
-{
-    match refilled {
-        Refilled::Piece => Ahead {
-            lines: 0,
-            good: true,
-            more: true,
-        },
-        Refilled::End => Ahead {
-            lines: 0,
-            good: true,
-            more: false,
-        },
-        Refilled::Unfinished => Ahead {
-            lines: 1,
-            good: false,
-            more: false,
-        },
+impl From<Refilled> for Ahead {
+    ghost use Rattle.std.specs.Prelude.{◌≡◌};
+    ghost use Rattle.call_runner.specs.Turns.{ahead_of};
+
+    ghost from_gives = { λ refilled ahead. ahead ≡ ahead_of refilled };
+
+    fn from(refilled: Refilled) -> Ahead {
+        match refilled {
+            Refilled::Piece => Ahead {
+                lines: 0,
+                good: true,
+                more: true,
+            },
+            Refilled::End => Ahead {
+                lines: 0,
+                good: true,
+                more: false,
+            },
+            Refilled::Unfinished => Ahead {
+                lines: 1,
+                good: false,
+                more: false,
+            },
+        }
     }
 }
 
-// Reads a further piece behind the bytes that were not taken, unless the run is not good any more, or there was no room for the text of all whole lines.
+// Reads a further piece behind the bytes that were not taken, unless the run is not good any more, or there was no room for the text of all
+// whole lines.
 fn read_on<R: Read>(
     reader: &mut R,
     input: &mut Input<'_>,
@@ -92,7 +97,7 @@ fn read_on<R: Read>(
         });
     }
     let refilled = script_lines::refill(reader, input)?;
-    Ok(ahead_of(refilled))
+    Ok(Ahead::from(refilled))
 }
 
 // Takes the whole lines that are read, writes their text out, and reads on.
@@ -111,17 +116,22 @@ fn take_turn<R: Read, W: Write>(
     ensures input { input.new.bytes.ghost_name ≡ input.old.bytes.ghost_name }
     ensures same { SameBuffers buffers.old buffers.new }
 {
-    let before = progress.session;
+    // The proof does not cover a field that is read while its struct is lent: so it is a variable first.
     let from = input.from;
-    let taken = script_pieces::take_lines(text, before, input.filled_bytes(), from, buffers);
+    let taken = script_pieces::take_lines(
+        text,
+        progress.session,
+        input.filled_bytes(),
+        from,
+        buffers,
+    );
     script_lines::write_text(writer, text)?;
     let room = text.end <= text.bytes.len() - state_text::MAX_ANSWER;
     input.from = taken.next;
     let ahead = read_on(reader, input, taken.good, room)?;
     let lines = script_lines::lines_behind(progress.lines, taken.lines);
-    let after = taken.session;
     Ok(Progress {
-        session: after,
+        session: taken.session,
         lines: script_lines::lines_behind(lines, ahead.lines),
         good: ahead.good,
         more: ahead.more,
@@ -156,54 +166,19 @@ fn run_input<R: Read, W: Write>(
     Ok(progress)
 }
 
-// ---- Buffers
-
 // Bytes of the text that is not yet written out: room for two answers at least.
 const TEXT: usize = 2 * state_text::MAX_ANSWER;
 
-fn text_buffer() -> [u8; TEXT]
-    ensures { length result ≡ 2 * max_answer }
-{
-    [0u8; TEXT]
-}
-
-// As much log as a script may lend.
-pub fn log_buffer() -> [u8; call_script::MAX_LENT_LOG]
-    ensures { length result ≡ max_lent_log }
-{
-    [0u8; call_script::MAX_LENT_LOG]
-}
-
-// As much collect buffer as a script may lend.
-pub fn collect_buffer() -> [u8; call_script::MAX_LENT_COLLECT]
-    ensures { length result ≡ max_lent_collect }
-{
-    [0u8; call_script::MAX_LENT_COLLECT]
-}
-
-// Either region may have all of guest memory.
-pub fn region_buffer() -> [u8; call_script::MAX_WINDOW]
-    ensures { length result ≡ max_window }
-{
-    [0u8; call_script::MAX_WINDOW]
-}
-
-// The device's data, of which a call is given the first bytes.
-pub fn data_buffer() -> [u8; call_script::MAX_SCRIPT_DATA]
-    ensures { length result ≡ max_script_data }
-{
-    [0u8; call_script::MAX_SCRIPT_DATA]
-}
-
 // Runs the call script that the reader gives and writes the answers. What it reads and writes is all that it does.
 pub fn run<R: Read, W: Write>(reader: &mut R, writer: &mut W) -> io::Result<()> {
-    let mut input = script_lines::input_buffer();
-    let mut text = text_buffer();
-    let mut log = log_buffer();
-    let mut collect = collect_buffer();
-    let mut low = region_buffer();
-    let mut high = region_buffer();
-    let mut data = data_buffer();
+    let mut input = input_bytes::zeros::<{ script_lines::PIECE }>();
+    let mut text = input_bytes::zeros::<TEXT>();
+    // As much of each as a script may lend: either region may have all of guest memory.
+    let mut log = input_bytes::zeros::<{ call_script::MAX_LENT_LOG }>();
+    let mut collect = input_bytes::zeros::<{ call_script::MAX_LENT_COLLECT }>();
+    let mut low = input_bytes::zeros::<{ call_script::MAX_WINDOW }>();
+    let mut high = input_bytes::zeros::<{ call_script::MAX_WINDOW }>();
+    let mut data = input_bytes::zeros::<{ call_script::MAX_SCRIPT_DATA }>();
     script_bytes::fill_device(&mut data);
     script_bytes::fill_guest(&mut low, session::FIRST_BASE);
     let mut buffers = LentBuffers {

@@ -1,6 +1,6 @@
 -- The calls of a script, a row for each letter: how many fields it has, what each is at most, and the call. A line that has no such form is bad. The
 -- fields are numbered from 0. Assumes nothing.
-use Rattle.std.specs.Prelude.{ℕ, ◌+◌, Bool, cond, ◌&&◌, ◌||◌, List, [], ◌∷◌, eqb, leb, Option, Some, None}
+use Rattle.std.specs.Prelude.{ℕ, ◌+◌, Bool, cond, ◌&&◌, List, [], ◌∷◌, eqb, leb, Option, Some, None}
 use Rattle.trb.specs.declared.ControlSubmissionState.{ControlSubmissionState}
 use Rattle.trb.specs.declared.ControlSubmissionState.TheVariants as control_state
 use Rattle.trb.specs.declared.EndpointId.{EndpointId}
@@ -11,8 +11,10 @@ use Rattle.trb.specs.declared.TdBasedNormalSubmissionState.{TdBasedNormalSubmiss
 use Rattle.trb.specs.declared.TdBasedNormalSubmissionState.TheVariants as in_state
 use Rattle.trb.specs.declared.TransferTrb.{TransferTrb}
 use Rattle.raw_trb.specs.Raw.{decode_trb}
-use Rattle.control_block.specs.Numbers.{release_of, phase_of}
-use Rattle.control_block.specs.declared.GuestRelease.TheVariants.{Release4}
+use Rattle.guest_memory.specs.Regions.{guest_regions}
+use Rattle.control_block.specs.Numbers.{phase_of}
+use Rattle.control_block.specs.declared.GuestRelease.{GuestRelease}
+use Rattle.control_block.specs.declared.GuestRelease.TheVariants.{Release4, Release5}
 use Rattle.in_td.specs.declared.InMode.{InMode}
 use Rattle.in_td.specs.declared.InMode.TheVariants.{AsPorted, Strict}
 use Rattle.script_fields.specs.Fields.{max_numbers, fields_of, field, within_limits, raw_fields_of}
@@ -25,15 +27,20 @@ use Rattle.call_script.specs.declared.Call.{Call}
 use Rattle.call_script.specs.declared.Call.TheVariants.{Window, Buffers, CreateIn, CreateControl, Submit, CompleteWithResult, CompleteWithout, Cancel, Hold, MakeUpIn, MakeUpControl, AppendTrb, AppendResult, CompleteRow, Time, Captured}
 use Rattle.call_script.specs.declared.DeviceStatus.{DeviceStatus}
 use Rattle.call_script.specs.declared.DeviceStatus.TheVariants as status
-use Rattle.call_script.specs.declared.InTransferType.{InTransferType}
-use Rattle.call_script.specs.declared.InTransferType.TheVariants.{Interrupt, Bulk}
+use Rattle.capture_record.specs.declared.InTransferType.{InTransferType}
+use Rattle.capture_record.specs.declared.InTransferType.TheVariants.{Interrupt, Bulk}
 use Rattle.call_script.specs.Limits.{max_window, max_lent_log, max_lent_collect, max_script_data, max_byte, max_bus}
 
 -- a line that is not so asks for no call
 abbrev pub call_if : Bool → Call → Option Call
 call_if so c = cond so (Some c) None
 
--- ---- Numbers that stand for a case. (A number that is none is over its field's limit.)
+-- a call with what the line says, if it says it
+abbrev pub call_with : {A : Type 0} → (A → Call) → Option A → Option Call
+call_with call (Some x) = Some (call x)
+call_with call None = None
+
+-- ---- Numbers that stand for a case. (But for TYPE and RELEASE, a number that is none is over its field's limit.)
 
 -- MODE: 0 as ported, 1 strict
 unfoldable pub mode_of : ℕ → InMode
@@ -57,24 +64,25 @@ in_state_of n =
 unfoldable pub control_state_of : ℕ → ControlSubmissionState
 control_state_of n = row_of ((1, control_state.CollectingTd) ∷ (2, control_state.AwaitingControlRequest) ∷ []) control_state.NoTrbSubmitted n
 
--- TYPE of an IN endpoint: 1 interrupt, 3 bulk
-unfoldable pub transfer_type_of : ℕ → InTransferType
-transfer_type_of n = row_of ((1, Interrupt) ∷ []) Bulk n
+-- TYPE of an IN endpoint: 1 interrupt, 3 bulk; any other is none
+unfoldable pub transfer_type_of : ℕ → Option InTransferType
+transfer_type_of n = row_of ((1, Some Interrupt) ∷ (3, Some Bulk) ∷ []) None n
 
-abbrev pub is_transfer_type : ℕ → Bool
-is_transfer_type n = eqb n 1 || eqb n 3
+-- RELEASE of a control endpoint's guest: 4 or 5; any other is none
+unfoldable pub release_of : ℕ → Option GuestRelease
+release_of n = row_of ((4, Some Release4) ∷ (5, Some Release5) ∷ []) None n
 
 -- ---- `w`: the guest window, together at most 140000 (hex)
 
 -- `w BASE LEN`: the second region is empty at 0
 unfoldable pub one_region : Fields → Option Call
-one_region f = call_if (within_limits (any_number ∷ max_window ∷ []) f) (Window (field f 0) (field f 1) 0 0)
+one_region f = call_if (within_limits (any_number ∷ max_window ∷ []) f) (Window (guest_regions (field f 0) (field f 1) 0 0))
 
 -- `w BASE LEN BASE LEN`: both regions, low and high
 unfoldable pub two_regions : Fields → Option Call
 two_regions f =
     call_if (within_limits (any_number ∷ max_window ∷ any_number ∷ max_window ∷ []) f && leb (field f 1 + field f 3) max_window)
-    (Window (field f 0) (field f 1) (field f 2) (field f 3))
+    (Window (guest_regions (field f 0) (field f 1) (field f 2) (field f 3)))
 
 unfoldable pub window_call : Fields → Option Call
 window_call f = cond (eqb f.count 2) (one_region f) (two_regions f)
@@ -111,7 +119,7 @@ four_creation f = call_if (within_limits (max_byte ∷ max_byte ∷ []) f) (Crea
 -- `c EP SLOT RELEASE`: RELEASE 4 or 5
 unfoldable pub release_creation : Fields → Option Call
 release_creation f =
-    call_if (within_limits (max_byte ∷ max_byte ∷ 5 ∷ []) f && leb 4 (field f 2)) (CreateControl (endpoint_id f) (slot_id f) (release_of (field f 2)))
+    cond (within_limits (max_byte ∷ max_byte ∷ any_number ∷ []) f) (call_with (CreateControl (endpoint_id f) (slot_id f)) (release_of (field f 2))) None
 
 unfoldable pub control_creation : Fields → Option Call
 control_creation f = cond (eqb f.count 2) (four_creation f) (release_creation f)
@@ -124,12 +132,8 @@ trb_fields f = record { kind = field f 0; addr = field f 1; flags = field f 2; a
 abbrev pub line_trb : Fields → Option TransferTrb
 line_trb f = cond (eqb f.count max_numbers) (trb_of (trb_fields f)) None
 
-abbrev pub with_trb : (TransferTrb → Call) → Option TransferTrb → Option Call
-with_trb call (Some t) = Some (call t)
-with_trb call None = None
-
 abbrev pub trb_call : (TransferTrb → Call) → Fields → Option Call
-trb_call call f = with_trb call (line_trb f)
+trb_call call f = call_with call (line_trb f)
 
 -- `s`: submit
 unfoldable pub submit_call : Fields → Option Call
@@ -191,8 +195,7 @@ time_call f = call_if (within_limits (any_word ∷ any_word ∷ []) f) (Time (fi
 -- `m BUS DEVICE TYPE`: TYPE 1 or 3
 unfoldable pub capture_call : Fields → Option Call
 capture_call f =
-    call_if (within_limits (max_bus ∷ max_byte ∷ 3 ∷ []) f && is_transfer_type (field f 2))
-    (Captured (field f 0) (field f 1) (transfer_type_of (field f 2)))
+    cond (within_limits (max_bus ∷ max_byte ∷ any_number ∷ []) f) (call_with (Captured (field f 0) (field f 1)) (transfer_type_of (field f 2))) None
 
 -- ---- Lines
 

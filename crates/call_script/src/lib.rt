@@ -3,10 +3,12 @@
 
 ghost use Rattle.std.specs.Prelude.{◌≡◌};
 ghost use Rattle.call_script.specs.Limits.{script_limits};
-ghost use Rattle.call_script.specs.Calls.{mode_of, status_of, in_status_of, in_state_of, control_state_of, transfer_type_of, is_transfer_type, trb_fields, line_trb, one_region, two_regions, window_call, buffers_call, ported_creation, mode_creation, in_creation, four_creation, release_creation, control_creation, submit_call, hold_call, append_call, result_call, no_result_call, cancel_call, in_state_call, control_state_call, make_up_call, row_result_call, row_call, time_call, capture_call, numbered_call, raw_call, call_of};
+ghost use Rattle.call_script.specs.Calls.{mode_of, status_of, in_status_of, in_state_of, control_state_of, transfer_type_of, release_of, trb_fields, line_trb, one_region, two_regions, window_call, buffers_call, ported_creation, mode_creation, in_creation, four_creation, release_creation, control_creation, submit_call, hold_call, append_call, result_call, no_result_call, cancel_call, in_state_call, control_state_call, make_up_call, row_result_call, row_call, time_call, capture_call, numbered_call, raw_call, call_of};
 ghost use Rattle.call_script.specs.RawLines.{decode_line, encode_line, raw_line_of};
 
+pub use capture_record::InTransferType;
 use control_block::GuestRelease;
+use guest_memory::Regions;
 use in_td::InMode;
 use raw_trb::DecodedTrb;
 use script_fields::{Fields, RawFields};
@@ -58,13 +60,6 @@ const MAX_WORD: u64 = 0xffff_ffff;
 
 // ---- Calls
 
-// What an IN endpoint's transfers are, in a capture.
-#[derive(Clone, Copy)]
-pub enum InTransferType {
-    Interrupt,
-    Bulk,
-}
-
 // A device result: Success on IN is SuccessfulControlIn on control.
 #[derive(Clone, Copy)]
 pub enum DeviceStatus {
@@ -77,7 +72,7 @@ pub enum DeviceStatus {
 
 #[derive(Clone, Copy)]
 pub enum Call {
-    Window(u64, usize, u64, usize),
+    Window(Regions),
     Buffers(usize, usize),
     CreateIn(EndpointId, SlotId, InMode),
     CreateControl(EndpointId, SlotId, GuestRelease),
@@ -95,7 +90,7 @@ pub enum Call {
     Captured(u16, u8, InTransferType),
 }
 
-// ---- Numbers that stand for a case
+// ---- Numbers that stand for a case. Where a line has no limit of the number, any other one is none.
 
 #[tactic(auto, unfolding(crate::specs::Calls::mode_of, script_trb::specs::Tables::row_of))]
 fn mode_of(number: u64) -> InMode
@@ -156,19 +151,25 @@ fn control_state_of(number: u64) -> ControlSubmissionState
 }
 
 #[tactic(auto, unfolding(crate::specs::Calls::transfer_type_of, script_trb::specs::Tables::row_of))]
-fn transfer_type_of(number: u64) -> InTransferType
+fn transfer_type_of(number: u64) -> Option<InTransferType>
     ensures { result ≡ transfer_type_of number }
 {
     match number {
-        1 => InTransferType::Interrupt,
-        _ => InTransferType::Bulk,
+        1 => Some(InTransferType::Interrupt),
+        3 => Some(InTransferType::Bulk),
+        _ => None,
     }
 }
 
-fn is_transfer_type(number: u64) -> bool
-    ensures { result ≡ is_transfer_type number }
+#[tactic(auto, unfolding(crate::specs::Calls::release_of, script_trb::specs::Tables::row_of))]
+fn release_of(number: u64) -> Option<GuestRelease>
+    ensures { result ≡ release_of number }
 {
-    number == 1 || number == 3
+    match number {
+        4 => Some(GuestRelease::Release4),
+        5 => Some(GuestRelease::Release5),
+        _ => None,
+    }
 }
 
 // ---- Calls of each letter
@@ -181,7 +182,8 @@ fn one_region(fields: Fields) -> Option<Call>
     if !script_fields::within_limits(fields, &[u64::MAX, MAX_WINDOW as u64]) {
         return None;
     }
-    Some(Call::Window(fields.numbers[0], fields.numbers[1] as usize, 0, 0))
+    let window = guest_memory::guest_regions(fields.numbers[0], fields.numbers[1] as usize, 0, 0);
+    Some(Call::Window(window))
 }
 
 // `w BASE LEN BASE LEN`
@@ -200,12 +202,13 @@ fn two_regions(fields: Fields) -> Option<Call>
     if MAX_WINDOW < low_length + high_length {
         return None;
     }
-    Some(Call::Window(
+    let window = guest_memory::guest_regions(
         fields.numbers[0],
         low_length,
         fields.numbers[2],
         high_length,
-    ))
+    );
+    Some(Call::Window(window))
 }
 
 #[tactic(auto, unfolding(crate::specs::Calls::window_call))]
@@ -285,15 +288,12 @@ fn four_creation(fields: Fields) -> Option<Call>
 fn release_creation(fields: Fields) -> Option<Call>
     ensures { result ≡ release_creation fields }
 {
-    if !script_fields::within_limits(fields, &[MAX_BYTE, MAX_BYTE, 5]) {
-        return None;
-    }
-    if fields.numbers[2] < 4 {
+    if !script_fields::within_limits(fields, &[MAX_BYTE, MAX_BYTE, u64::MAX]) {
         return None;
     }
     let endpoint_id = EndpointId(fields.numbers[0] as u8);
     let slot_id = SlotId(fields.numbers[1] as u8);
-    let release = control_block::release_of(fields.numbers[2] as u8);
+    let release = release_of(fields.numbers[2])?;
     Some(Call::CreateControl(endpoint_id, slot_id, release))
 }
 
@@ -467,13 +467,10 @@ fn time(fields: Fields) -> Option<Call>
 fn captured(fields: Fields) -> Option<Call>
     ensures { result ≡ capture_call fields }
 {
-    if !script_fields::within_limits(fields, &[MAX_BUS, MAX_BYTE, 3]) {
+    if !script_fields::within_limits(fields, &[MAX_BUS, MAX_BYTE, u64::MAX]) {
         return None;
     }
-    if !is_transfer_type(fields.numbers[2]) {
-        return None;
-    }
-    let transfer_type = transfer_type_of(fields.numbers[2]);
+    let transfer_type = transfer_type_of(fields.numbers[2])?;
     Some(Call::Captured(
         fields.numbers[0] as u16,
         fields.numbers[1] as u8,

@@ -36,7 +36,7 @@ in_submission_capture c p rs = request_captures c (in_request_event p) [] rs
 
 -- the same on control: its payload is what the block has collected, of which an IN transfer's record carries nothing
 abbrev pub control_submission_capture : Captured → List Record → ControlBlock → List ℕ → List CaptureCall
-control_submission_capture c rs after collect = request_captures c control_request_event (take after.collected collect) rs
+control_submission_capture c rs after collect = request_captures c control_request_event (take after.transfer.collected collect) rs
 
 -- the identifier of an IN completion: the address of the TD's first TRB
 abbrev pub first_address : List TransferTrb → ℕ
@@ -48,4 +48,4 @@ abbrev pub in_completion_capture : Captured → InPipe → InBlock → Option In
 in_completion_capture c p b r bytes = writer_call c (in_completion_event p b.state (first_address (input.held_of b)) r) bytes
 
 abbrev pub control_completion_capture : Captured → ControlBlock → Option ControlRequestProcessingResult → List ℕ → List CaptureCall
-control_completion_capture c b r bytes = writer_call c (control_completion_event b.state b.direction b.request b.collected r) bytes
+control_completion_capture c b r bytes = writer_call c (control_completion_event b.state b.transfer.direction b.transfer.request b.transfer.collected r) bytes

@@ -53,6 +53,11 @@ pub length-file_head : (zone accuracy snap link : ℕ) → length (file_head zon
 unfolding file_head
 length-file_head zone accuracy snap link = refl
 
+-- a file without a whole header is not whole
+pub headless : (growth : ℕ) (l : List ℕ) → whole_head l ≡ false → whole_file growth l ≡ false
+unfolding whole_file
+headless growth l h = rw h
+
 -- a known link type is one of two
 pub link-cases : (link : ℕ) → known_link link ≡ true → (link ≡ link_short) ⊎ (link ≡ link_long)
 unfolding known_link

@@ -222,23 +222,3 @@ whole_records-layout_all extra most [] s = whole_records-none extra most
 whole_records-layout_all extra most (r ∷ rs) s =
     whole_records-next extra most (layout r ++ layout_all rs) (omega (arith, length-append (layout r) (layout_all rs), length-layout r))
     ∙ rw (whole_record-layout r (layout_all rs) s.0, drop-layout r (layout_all rs) s.0, whole_records-layout_all extra most rs s.1)
-
--- of whole records from index `at` on, the first and the others
-module _ {extra : ℕ} (at : ℕ) (l : List ℕ) (h : at < length l) (r : Records extra (drop at l)) where
-  passes : (whole_record extra r.most (drop at l) ≡ true) × (whole_records extra r.most (drop (at + (16 + captured_at (drop at l))) l) ≡ true)
-  passes = both (whole_record extra r.most (drop at l)) _ (sym (whole_records-step extra r.most at l h) ∙ r.whole)
-
-  pub first_passes : whole_record extra r.most (drop at l) ≡ true
-  first_passes = passes.0
-
-  pub first-whole : Whole extra r.most (drop at l)
-  first-whole = whole-tests extra r.most (drop at l) first_passes
-
-  pub others-pass : whole_records extra r.most (drop (at + (16 + captured_at (drop at l))) l) ≡ true
-  others-pass = passes.1
-
-  pub others-whole : Records extra (drop (at + (16 + captured_at (drop at l))) l)
-  others-whole = record { most = r.most; whole = others-pass }
-
-  pub ends-within : at + (16 + captured_at (drop at l)) ≤ length l
-  ends-within = omega (arith, first-whole.complete, length-drop at l)

@@ -12,15 +12,17 @@ use Rattle.capture_file.proofs.LayoutLaws.{both}
 use Rattle.capture_record.specs.declared.CaptureEvent.{CaptureEvent}
 use Rattle.capture_record.specs.declared.CaptureEvent.TheVariants.{InSubmission, InCompletion, ControlSubmission, ControlCompletionIn, ControlCompletionOut, ControlError, TrbError}
 use Rattle.capture_record.specs.declared.InPipe.{InPipe}
+use Rattle.capture_record.specs.declared.InTransferType.{InTransferType}
+use Rattle.capture_record.specs.declared.InTransferType.TheVariants.{Interrupt, Bulk}
 use Rattle.capture_record.specs.declared.TransferError.{TransferError}
 use Rattle.capture_record.specs.declared.TransferError.TheVariants as failed
 use Rattle.capture_record.specs.declared.UsbDevice.{UsbDevice}
 use Rattle.capture_record.specs.declared.UsbHeader.{UsbHeader}
 use Rattle.capture_record.specs.declared.UsbSetup.{UsbSetup}
 use Rattle.capture_record.specs.Headers.{no_setup, usb_header, HeaderFits}
-use Rattle.capture_record.specs.Events.{submission, completion, control, with_setup, transfer_type, is_in_pipe, rotated_right, endpoint_zero, in_status, error_status, trb_error_status, to_host, setup_of, carries, header_of}
+use Rattle.capture_record.specs.Events.{submission, completion, control, with_setup, type_number, transfer_type, is_in_pipe, rotated_right, endpoint_zero, in_status, error_status, trb_error_status, to_host, setup_of, carries, header_of}
 use Rattle.capture_record.specs.Calls.{RequestFits, EventFits}
-use Rattle.capture_header.specs.Made.{rotated_left, pipe_named, status_named, error_named, request_named, submission_named, completion_named, failure_named, control_named, in_named, event_named, count_named, made_again, same_setup, same_front, same_numbers, same_header}
+use Rattle.capture_header.specs.Made.{rotated_left, type_named, pipe_named, status_named, error_named, request_named, submission_named, completion_named, failure_named, control_named, in_named, event_named, count_named, made_again, same_setup, same_front, same_numbers, same_header}
 
 -- ---- Two headers with the same fields
 
@@ -84,18 +86,15 @@ same_header-equal a b h =
 -- ---- What a header names, part by part
 
 not-control : (p : InPipe) → eqb (transfer_type p) control ≡ false
-not-control p = by p.interrupt
+not-control p = by p.transfer_type
   where
-    by : (b : Bool) → eqb (cond b 1 3) control ≡ false
-    by true = refl
-    by false = refl
+    by : (t : InTransferType) → eqb (type_number t) control ≡ false
+    by Interrupt = refl
+    by Bulk = refl
 
-interrupt-back : (p : InPipe) → eqb (transfer_type p) 1 ≡ p.interrupt
-interrupt-back p = by p.interrupt
-  where
-    by : (b : Bool) → eqb (cond b 1 3) 1 ≡ b
-    by true = refl
-    by false = refl
+type-back : (t : InTransferType) → type_named (type_number t) ≡ t
+type-back Interrupt = refl
+type-back Bulk = refl
 
 rotated-back : (byte : ℕ) → byte < 256 → rotated_left (rotated_right byte) ≡ byte
 rotated-back byte h = omega arith
@@ -123,9 +122,9 @@ low_again n = omega arith
 pub made_again-header_of : (d : UsbDevice) (s m : ℕ) (e : CaptureEvent) (n : ℕ) → EventFits e → made_again s m (header_of d s m e n) ≡ header_of d s m e n
 unfolding made_again event_named count_named
 made_again-header_of d s m (InSubmission p id length) n fits =
-    rw (not-control p, interrupt-back p, rotated-back p.endpoint_id.0 fits.0)
+    rw (not-control p, type-back p.transfer_type, rotated-back p.endpoint_id.0 fits.0)
 made_again-header_of d s m (InCompletion p id status) n fits =
-    rw (not-control p, interrupt-back p, rotated-back p.endpoint_id.0 fits.0, status-back status)
+    rw (not-control p, type-back p.transfer_type, rotated-back p.endpoint_id.0 fits.0, status-back status)
 made_again-header_of d s m (ControlSubmission r) n fits = by (leb 128 r.request_type) refl
   where
     by : (b : Bool) → leb 128 r.request_type ≡ b → made_again s m (header_of d s m (ControlSubmission r) n) ≡ header_of d s m (ControlSubmission r) n

@@ -7,6 +7,8 @@ use Rattle.capture_file.specs.Records.{CaptureRecord, captured}
 use Rattle.capture_record.specs.declared.CaptureEvent.{CaptureEvent}
 use Rattle.capture_record.specs.declared.CaptureEvent.TheVariants.{InSubmission, InCompletion, ControlSubmission, ControlCompletionIn, ControlCompletionOut, ControlError, TrbError}
 use Rattle.capture_record.specs.declared.InPipe.{InPipe}
+use Rattle.capture_record.specs.declared.InTransferType.{InTransferType}
+use Rattle.capture_record.specs.declared.InTransferType.TheVariants.{Interrupt, Bulk}
 use Rattle.capture_record.specs.declared.TransferError.{TransferError}
 use Rattle.capture_record.specs.declared.TransferError.TheVariants as failed
 use Rattle.capture_record.specs.declared.UsbDevice.{UsbDevice}
@@ -21,8 +23,12 @@ use Rattle.capture_record.specs.Events.{max_microseconds, submission, completion
 abbrev pub rotated_left : ℕ → ℕ
 rotated_left byte = byte % 128 * 2 + byte / 128
 
+-- of the transfer types that are not control's
+abbrev pub type_named : ℕ → InTransferType
+type_named n = cond (eqb n 1) Interrupt Bulk
+
 abbrev pub pipe_named : UsbHeader → InPipe
-pipe_named h = record { endpoint_id = record { 0 = rotated_left h.endpoint_address }; interrupt = eqb h.transfer_type 1 }
+pipe_named h = record { endpoint_id = record { 0 = rotated_left h.endpoint_address }; transfer_type = type_named h.transfer_type }
 
 abbrev pub status_named : ℕ → InTrbProcessingStatus
 status_named n = cond (eqb n (minus 19)) device.Disconnect (cond (eqb n (minus 32)) device.Stall (cond (eqb n (minus 71)) device.TransactionError device.Success))

@@ -1,12 +1,14 @@
-// The usbmon header in a record's bytes, the event that it names, and whether the writer makes it of that event.
+// The usbmon header in a record's bytes, the event that it names, and the header that the writer makes of that event.
 #![tactic(auto)]
 
 ghost use Rattle.std.specs.Prelude.{◌≡◌, ◌≤◌, length};
 ghost use Rattle.capture_record.specs.Headers.{header_in};
-ghost use Rattle.capture_header.specs.Made.{rotated_left, status_named, error_named, request_named, submission_named, control_named, in_named, pipe_named, event_named, count_named, made_again, same_header};
+ghost use Rattle.capture_header.specs.Made.{type_named, pipe_named, status_named, error_named, request_named, submission_named, control_named, in_named, event_named, count_named, made_again};
 
 use capture_file::CaptureTime;
-use capture_record::{CaptureEvent, InPipe, TransferError, UsbDevice, UsbHeader, UsbSetup};
+use capture_record::{
+    CaptureEvent, InPipe, InTransferType, Stamp, TransferError, UsbDevice, UsbHeader, UsbSetup,
+};
 use trb::{EndpointId, InTrbProcessingStatus, UsbRequest};
 
 // What 48 bytes say.
@@ -41,18 +43,22 @@ pub fn header_in(link: &[u8]) -> UsbHeader
 
 // ---- The event that a header names
 
-fn rotated_left(byte: u8) -> u8
-    ensures { result ≡ rotated_left byte }
+fn type_named(number: u8) -> InTransferType
+    ensures { result ≡ type_named number }
 {
-    byte.rotate_left(1)
+    match number {
+        1 => InTransferType::Interrupt,
+        _ => InTransferType::Bulk,
+    }
 }
 
+// The endpoint address is the id with its low bit first.
 fn pipe_named(header: UsbHeader) -> InPipe
     ensures { result ≡ pipe_named header }
 {
     InPipe {
-        endpoint_id: EndpointId(rotated_left(header.endpoint_address)),
-        interrupt: header.transfer_type == 1,
+        endpoint_id: EndpointId(header.endpoint_address.rotate_left(1)),
+        transfer_type: type_named(header.transfer_type),
     }
 }
 
@@ -60,9 +66,9 @@ fn status_named(status: u32) -> InTrbProcessingStatus
     ensures { result ≡ status_named status }
 {
     match status {
-        4294967277 => InTrbProcessingStatus::Disconnect,
-        4294967264 => InTrbProcessingStatus::Stall,
-        4294967225 => InTrbProcessingStatus::TransactionError,
+        capture_record::DISCONNECTED => InTrbProcessingStatus::Disconnect,
+        capture_record::STALLED => InTrbProcessingStatus::Stall,
+        capture_record::TRANSACTION_FAILED => InTrbProcessingStatus::TransactionError,
         _ => InTrbProcessingStatus::Success,
     }
 }
@@ -71,8 +77,8 @@ fn error_named(status: u32) -> TransferError
     ensures { result ≡ error_named status }
 {
     match status {
-        4294967277 => TransferError::Disconnect,
-        4294967264 => TransferError::Stall,
+        capture_record::DISCONNECTED => TransferError::Disconnect,
+        capture_record::STALLED => TransferError::Stall,
         _ => TransferError::TransactionError,
     }
 }
@@ -163,14 +169,9 @@ pub fn made_again(time: CaptureTime, header: UsbHeader) -> UsbHeader
         bus_number: header.bus_number,
         device_address: header.device_address,
     };
-    event_header::header_of(device, time, event_named(header), count_named(header))
-}
-
-// ---- The test
-
-// Are all fields of two usbmon headers the same?
-pub fn same_header(a: UsbHeader, b: UsbHeader) -> bool
-    ensures { result ≡ same_header a b }
-{
-    a == b
+    event_header::header_of(
+        Stamp { device, time },
+        event_named(header),
+        count_named(header),
+    )
 }

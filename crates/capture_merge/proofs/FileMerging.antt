@@ -18,14 +18,14 @@ use Rattle.buffers.specs.LittleEndian.{le_field, AllBytes}
 use Rattle.buffers.specs.Patch.{patch}
 use Rattle.buffers.proofs.LittleEndianLaws.{AllBytes-drop}
 use Rattle.std.proofs.Common.{Result, Ok, Err}
-use Rattle.capture_file.specs.Records.{CaptureRecord, layout, layout_all, AllSound}
+use Rattle.capture_file.specs.Records.{CaptureRecord, layout_all, AllSound}
 use Rattle.capture_file.specs.Reading.{records_in, Records}
 use Rattle.capture_file.specs.Files.{CaptureFile, SoundFile, extra_of, most_of, file_head, layout_file, file_in, whole_file}
 use Rattle.capture_file.specs.Times.{ordered_from}
 use Rattle.capture_file.proofs.FileLaws.{file-headed, file-records, file_in-sound, file_in-layout_file, whole_file-layout_file, layout_file-file_in, length-file_head}
-use Rattle.capture_file.proofs.LayoutLaws.{layout_all-records_in}
 use Rattle.capture_merge.specs.Merging.{merged, larger, merged_file, merged_file_bytes, no_growth, length_questions, merge_questions, Measures, Merges, merged_bytes}
 use Rattle.capture_merge.specs.Order.{Woven, none, left, right, Ordered, FirstFirst, OneOfTwo}
+use Rattle.capture_merge.proofs.CopyLaws.{length-merged}
 use Rattle.capture_merge.proofs.Order.{merged-woven, merged-ordered, first-file-first, ordered-tested}
 
 pub records-of : (l : List ℕ) → whole_file no_growth l ≡ true → Records (extra_of (le_field 20 4 l)) (drop 24 l)
@@ -41,25 +41,12 @@ merged_file_bytes-are a b e =
     ap (λ (link : ℕ). file_head (le_field 8 4 a) (le_field 12 4 a) (larger (le_field 16 4 a) (le_field 16 4 b)) (le_field 20 4 a)
     ++ layout_all (merged (records_in (extra_of (le_field 20 4 a)) (drop 24 a)) (records_in (extra_of link) (drop 24 b)))) (sym e)
 
--- merging keeps every byte
-length-woven : {xs ys zs : List CaptureRecord} → Woven xs ys zs → length (layout_all zs) ≡ length (layout_all xs) + length (layout_all ys)
-unfolding layout_all
-length-woven none = refl
-length-woven (left {x} {xs} {ys} {zs} w) =
-    omega (arith, length-woven w, length-append (layout x) (layout_all zs), length-append (layout x) (layout_all xs))
-length-woven (right {y} {xs} {ys} {zs} w) =
-    omega (arith, length-woven w, length-append (layout y) (layout_all zs), length-append (layout y) (layout_all ys))
-
 module _ (a b : List ℕ) (e : le_field 20 4 a ≡ le_field 20 4 b) (p : whole_file no_growth a ≡ true) (q : whole_file no_growth b ≡ true)
     (bytes_a : AllBytes a) (bytes_b : AllBytes b) where
   length-merged_bytes : length (merged_bytes (extra_of (le_field 20 4 a)) (drop 24 a) (drop 24 b)) ≡ length (drop 24 a) + length (drop 24 b)
-  unfolding merged_bytes
   length-merged_bytes =
-      let second : layout_all (records_in (extra_of (le_field 20 4 a)) (drop 24 b)) ≡ drop 24 b =
-      rw e (layout_all-records_in (extra_of (le_field 20 4 b)) (most_of no_growth (le_field 20 4 b)) (drop 24 b) (AllBytes-drop 24 b bytes_b) (file-records no_growth b q)) in
-      let first = layout_all-records_in (extra_of (le_field 20 4 a)) (most_of no_growth (le_field 20 4 a)) (drop 24 a) (AllBytes-drop 24 a bytes_a) (file-records no_growth a p) in
-      length-woven (merged-woven (records_in (extra_of (le_field 20 4 a)) (drop 24 a)) (records_in (extra_of (le_field 20 4 a)) (drop 24 b)))
-      ∙ omega (arith, ap length first, ap length second)
+      let second : Records (extra_of (le_field 20 4 a)) (drop 24 b) = rw e (records-of b q) in
+      length-merged (drop 24 a) (drop 24 b) (records-of a p) second (AllBytes-drop 24 a bytes_a) (AllBytes-drop 24 b bytes_b)
 
   pub length_merged : length (merged_file_bytes a b) ≡ length a + (length b - 24)
   length_merged =

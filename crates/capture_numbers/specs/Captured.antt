@@ -2,6 +2,7 @@
 use Rattle.std.specs.Prelude.{ℕ, Bool, cond, eqb}
 use Rattle.trb.specs.declared.UsbRequest.{UsbRequest}
 use Rattle.capture_record.specs.declared.InPipe.{InPipe}
+use Rattle.capture_record.specs.declared.InTransferType.TheVariants.{Interrupt, Bulk}
 use Rattle.capture_record.specs.declared.TransferError.{TransferError}
 use Rattle.capture_record.specs.declared.TransferError.TheVariants as failed
 use Rattle.capture_record.specs.declared.UsbDevice.{UsbDevice}
@@ -20,7 +21,7 @@ abbrev pub device_of : ℕ → ℕ → UsbDevice
 device_of bus address = record { bus_number = bus; device_address = address }
 
 abbrev pub pipe_of : ℕ → Bool → InPipe
-pipe_of id interrupt = record { endpoint_id = record { 0 = id }; interrupt = interrupt }
+pipe_of id interrupt = record { endpoint_id = record { 0 = id }; transfer_type = cond interrupt Interrupt Bulk }
 
 -- as `status_of` of answer_numbers has it
 abbrev pub error_of : ℕ → TransferError

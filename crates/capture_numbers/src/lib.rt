@@ -12,9 +12,9 @@ ghost use Rattle.capture_numbers.specs.Captured.{written_by, device_of, pipe_of,
 
 use answer_numbers::Answered;
 use capture_file::CaptureTime;
-use capture_record::{CaptureEvent, InPipe, TransferError, UsbDevice};
+use capture_record::{CaptureEvent, InPipe, InTransferType, Stamp, TransferError, UsbDevice};
 use capture_writer::NotWritten;
-use trb::EndpointId;
+use trb::{EndpointId, InTrbProcessingStatus};
 
 // ---- Files
 
@@ -48,8 +48,8 @@ pub fn merge(first: &[u8], second: &[u8], output: &mut [u8]) -> u8
 
 // ---- Records
 
-// 02, R-2: the number of the reader's question, where the input is no file that the writer can make.
-const NOT_WRITTEN: u32 = 22;
+// 02, R-2: the number of the reader's one question, where the input is no file that the writer can make. The reader gives an Option.
+const NO_CAPTURE: u32 = 22;
 
 // What the writer answers. No `answer_numbers::counted`: the writer's 24 is the number of no `Refusal`.
 fn answered(written: Result<usize, NotWritten>) -> Answered
@@ -58,13 +58,13 @@ fn answered(written: Result<usize, NotWritten>) -> Answered
     match written {
         Ok(count) => Answered { number: 0, count },
         Err(refusal) => Answered {
-            number: refusal as u32,
+            number: u32::from(refusal),
             count: 0,
         },
     }
 }
 
-// The record of an event of this device at this time. Plain numbers, since C hands them over.
+// Writes the record of an event of this device at this time. Plain numbers, since C hands them over.
 pub fn write_event(
     output: &mut [u8],
     bus_number: u16,
@@ -78,27 +78,31 @@ pub fn write_event(
 {
     answered(capture_writer::write_record(
         output,
-        UsbDevice {
-            bus_number,
-            device_address,
-        },
-        CaptureTime {
-            seconds,
-            microseconds,
+        Stamp {
+            device: UsbDevice {
+                bus_number,
+                device_address,
+            },
+            time: CaptureTime {
+                seconds,
+                microseconds,
+            },
         },
         event,
         payload,
     ))
 }
 
-// Numbered as `answer_numbers::status_of` has it.
+// Numbered as a status is; 0, which is no error, counts as a transaction error.
 pub fn transfer_error(number: u8) -> TransferError
     ensures { result ≡ error_of number }
 {
-    match number {
-        1 => TransferError::Stall,
-        3 => TransferError::Disconnect,
-        _ => TransferError::TransactionError,
+    match answer_numbers::status_of(number) {
+        InTrbProcessingStatus::Stall => TransferError::Stall,
+        InTrbProcessingStatus::Disconnect => TransferError::Disconnect,
+        InTrbProcessingStatus::TransactionError | InTrbProcessingStatus::Success => {
+            TransferError::TransactionError
+        }
     }
 }
 
@@ -108,7 +112,11 @@ pub fn in_pipe(endpoint_id: u8, interrupt: bool) -> InPipe
 {
     InPipe {
         endpoint_id: EndpointId(endpoint_id),
-        interrupt,
+        transfer_type: if interrupt {
+            InTransferType::Interrupt
+        } else {
+            InTransferType::Bulk
+        },
     }
 }
 
@@ -126,7 +134,7 @@ pub fn read_capture(input: &[u8]) -> Answered
     match capture_reader::read_capture(input) {
         Some(count) => Answered { number: 0, count },
         None => Answered {
-            number: NOT_WRITTEN,
+            number: NO_CAPTURE,
             count: 0,
         },
     }
@@ -135,7 +143,7 @@ pub fn read_capture(input: &[u8]) -> Answered
 // What a record gives: 0 or 22; its times; its header's fields, a status below 0 standing as 2^32 less its amount; where in the file its
 // payload stands and how long it is; where the next record starts. A number with the values beside it, since C reads it.
 #[repr(C)]
-#[derive(Clone, Copy)]
+#[derive(Clone, Copy, Default)]
 pub struct RecordRead {
     pub number: u32,
     pub seconds: u32,
@@ -167,34 +175,13 @@ fn nothing_read() -> RecordRead
     ensures { record_by result ≡ nothing_read }
 {
     RecordRead {
-        number: NOT_WRITTEN,
-        seconds: 0,
-        microseconds: 0,
-        id: 0,
-        event_type: 0,
-        transfer_type: 0,
-        endpoint_address: 0,
-        device_address: 0,
-        bus_number: 0,
-        setup_flag: 0,
-        data_flag: 0,
-        header_seconds: 0,
-        header_microseconds: 0,
-        status: 0,
-        length: 0,
-        delivered: 0,
-        request_type: 0,
-        request: 0,
-        value: 0,
-        index: 0,
-        setup_length: 0,
-        payload_start: 0,
-        payload_length: 0,
-        next: 0,
+        number: NO_CAPTURE,
+        ..RecordRead::default()
     }
 }
 
-// Reads the record that starts at byte `at` of a capture, from 24 on. The number: 0, or 22 where none that the writer writes starts there, all else being 0.
+// Reads the record that starts at byte `at` of a capture, from 24 on. The number: 0, or 22 where none that the writer writes starts there,
+// all else being 0.
 pub fn read_record(input: &[u8], at: usize) -> RecordRead
     ensures { record_by result ≡ read_at input.now at }
 {

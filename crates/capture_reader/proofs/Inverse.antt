@@ -10,6 +10,10 @@ use lib.Dec.{eqb, leb}
 use lib.ListN.{length, take, drop, get_or, replicate, length-replicate, length-append, take-append-drop}
 use lib.Seq.{take-add, drop_at, drop-drop}
 use borrow.Author.Tests.{leb-true, eqb-true, le-leb, eq-eqb}
+use Rattle.std.proofs.Common.{nat_eq}
+use Rattle.std.specs.List.{starts_with}
+use Rattle.std.proofs.lemmas.Bool.Decides.{Decides-eqb, same_from_decides}
+use Rattle.std.proofs.lemmas.Slice.Eq.{starts_is}
 use Rattle.trb.specs.Questions.{first_no}
 use Rattle.buffers.specs.LittleEndian.{le_bytes, le_field, AllBytes}
 use Rattle.buffers.proofs.LittleEndianLaws.{le_field-lt, le_bytes-le_field, le_field-append, AllBytes-drop}
@@ -341,6 +345,15 @@ head_read l bytes h =
     let third : take 8 (drop 16 l) ≡ take 8 (drop 16 writer_head) =
     sym (le_bytes-le_field 16 8 l (omega (arith, long)) bytes) ∙ ap (le_bytes 8) (eqb-true (le_field 16 8 l) (le_field 16 8 writer_head) c.1) in
     take-add 16 8 l ∙ ap (λ (m : List ℕ). m ++ take 8 (drop 16 l)) (take-add 8 8 l) ∙ rw (first, second, third)
+
+-- the first 24 bytes, at once
+pub made_head-starts : (l : List ℕ) → AllBytes l → (r : Bool) → r ≡ starts_with nat_eq l writer_head → r ≡ made_head l
+made_head-starts l bytes r e =
+    let starts = starts_is Decides-eqb l writer_head r e in
+    let headed : ℕ → List ℕ = λ n. writer_head ++ drop n l in
+    let accepted : l ≡ headed 24 → made_head l ≡ true = λ f. rw f (head-accepted (drop 24 l)) in
+    let read : made_head l ≡ true → l ≡ headed 24 = λ h. sym (take-append-drop 24 l) ∙ ap (λ (m : List ℕ). m ++ drop 24 l) (head_read l bytes h) in
+    same_from_decides {P = l ≡ headed 24} r (made_head l) (λ t. starts.0 t ∙ ap headed length-writer_head, starts.1 (drop 24 l)) (read, accepted)
 
 module _ (l : List ℕ) (bytes : AllBytes l) where
   -- 02, R-2: what the reader accepts, calls of the writer write, byte for byte

@@ -9,6 +9,7 @@ use Rattle.capture_file.specs.Reading.{captured_at, original_at, delivered_at, f
 use Rattle.capture_record.specs.declared.CaptureEvent.{CaptureEvent}
 use Rattle.capture_record.specs.declared.CaptureEvent.TheVariants.{InSubmission, InCompletion, ControlSubmission, ControlCompletionIn, ControlCompletionOut, ControlError, TrbError}
 use Rattle.capture_record.specs.declared.InPipe.{InPipe}
+use Rattle.capture_record.specs.declared.InTransferType.TheVariants.{Bulk}
 use Rattle.capture_record.specs.declared.TransferError.TheVariants.{Stall}
 use Rattle.capture_record.specs.Headers.{header_bytes, header_in}
 use Rattle.capture_record.specs.Calls.{CaptureCall, capture}
@@ -21,7 +22,7 @@ at e payload =
     record { device = record { bus_number = 258; device_address = 5 }; seconds = 0x0A0B0C0D; microseconds = 999998; event = e; payload = payload }
 
 abbrev bulk : ℕ → InPipe
-bulk id = record { endpoint_id = record { 0 = id }; interrupt = false }
+bulk id = record { endpoint_id = record { 0 = id }; transfer_type = Bulk }
 
 abbrev request : ℕ → ℕ → ℕ → ℕ → ℕ → UsbRequest
 request type code value index length =

@@ -8,7 +8,7 @@ ghost use Rattle.capture_record.specs.Events.{snap_length};
 ghost use Rattle.capture_header.specs.Made.{made};
 ghost use Rattle.capture_reader.specs.Reading.{made_head, count_of, in_count, ReadsCapture, made_record, in_numbers, read_at};
 
-use capture_file::{CaptureTime, FILE_HEADER_LENGTH, FRONT_LENGTH, RECORD_HEADER_LENGTH};
+use capture_file::{CaptureTime, FILE_HEADER_LENGTH, FRONT_LENGTH, LinkType, RECORD_HEADER_LENGTH};
 use capture_record::UsbHeader;
 
 // What the record at a position gives: its time and header; where in the file its payload stands, and how long it is; where the
@@ -36,7 +36,7 @@ fn is_made(rest: &[u8]) -> bool
     let header = capture_header::header_in(&rest[RECORD_HEADER_LENGTH..FRONT_LENGTH]);
     time.microseconds <= capture_record::MAX_MICROSECONDS
         && original == captured
-        && capture_header::same_header(header, capture_header::made_again(time, header))
+        && header == capture_header::made_again(time, header)
 }
 
 // Do the bytes start with a record that the writer makes?
@@ -54,13 +54,12 @@ fn count_records(records: &[u8]) -> Option<usize>
 {
     let mut rest = records;
     let mut count = 0;
-    // A record says its own length: what is left is cut where it ends.
     while !rest.is_empty() {
         if !is_record(rest) {
             return None;
         }
         count += 1;
-        rest = &rest[capture_tests::record_size(rest)..];
+        rest = capture_tests::split_record(rest).1;
     }
     Some(count)
 }
@@ -68,21 +67,12 @@ fn count_records(records: &[u8]) -> Option<usize>
 // ---- Files
 
 // Do the bytes start with the writer's file header?
-#[tactic(auto, unfolding(crate::specs::Reading::made_head))]
 fn is_head(input: &[u8]) -> bool
     ensures answer { result ≡ made_head input.now }
     ensures within { OnTrue result (24 ≤ length input.now) }
 {
-    let cells = capture_file::file_head(
-        0,
-        0,
-        capture_record::SNAP_LENGTH,
-        capture_file::LINK_SHORT,
-    );
-    FILE_HEADER_LENGTH <= input.len()
-        && buffers::le64(input, 0) == buffers::le64(&cells, 0)
-        && buffers::le64(input, 8) == buffers::le64(&cells, 8)
-        && buffers::le64(input, 16) == buffers::le64(&cells, 16)
+    let cells = capture_file::file_head(0, 0, capture_record::SNAP_LENGTH, LinkType::Short);
+    input.starts_with(&cells)
 }
 
 // Counts the records of a file, or gives nothing where it is none that the writer can make.

@@ -6,6 +6,8 @@ use Rattle.trb.specs.declared.UsbRequest.{UsbRequest}
 use Rattle.capture_record.specs.declared.CaptureEvent.{CaptureEvent}
 use Rattle.capture_record.specs.declared.CaptureEvent.TheVariants.{InSubmission, InCompletion, ControlSubmission, ControlCompletionIn, ControlCompletionOut, ControlError, TrbError}
 use Rattle.capture_record.specs.declared.InPipe.{InPipe}
+use Rattle.capture_record.specs.declared.InTransferType.{InTransferType}
+use Rattle.capture_record.specs.declared.InTransferType.TheVariants.{Interrupt, Bulk}
 use Rattle.capture_record.specs.declared.TransferError.{TransferError}
 use Rattle.capture_record.specs.declared.TransferError.TheVariants as failed
 use Rattle.capture_record.specs.declared.UsbDevice.{UsbDevice}
@@ -37,8 +39,12 @@ failure = 69
 abbrev pub control : ℕ
 control = 2
 
+abbrev pub type_number : InTransferType → ℕ
+type_number Interrupt = 1
+type_number Bulk = 3
+
 abbrev pub transfer_type : InPipe → ℕ
-transfer_type p = cond p.interrupt 1 3
+transfer_type p = type_number p.transfer_type
 
 -- packet.rs, `setup_flag_value`: - without setup bytes, zero with them
 abbrev pub without_setup : ℕ

@@ -5,6 +5,7 @@
 ghost use Rattle.std.specs.Prelude.{◌≡◌};
 ghost use Rattle.capture_record.specs.Events.{odd, to_host, carries};
 
+use capture_file::CaptureTime;
 use trb::{EndpointId, InTrbProcessingStatus, UsbRequest};
 
 // The longest that a captured record may be, its header included.
@@ -12,7 +13,7 @@ pub const SNAP_LENGTH: u32 = 134217728;
 
 pub const MAX_MICROSECONDS: u32 = 999999;
 
-// Event types: S and C.
+// Event types: S and C. Bytes, as the transfer type and the flag below are: a header that is read may have any byte there.
 pub const SUBMISSION: u8 = b'S';
 
 pub const COMPLETION: u8 = b'C';
@@ -23,6 +24,13 @@ pub const CONTROL: u8 = 2;
 // The setup flag of a header with setup bytes.
 pub const WITH_SETUP: u8 = 0;
 
+// The statuses of transfers that failed: minus 19, 32 and 71, as 32 bits have them.
+pub const DISCONNECTED: u32 = 4294967277;
+
+pub const STALLED: u32 = 4294967264;
+
+pub const TRANSACTION_FAILED: u32 = 4294967225;
+
 // Whose transfers are captured.
 #[derive(Clone, Copy)]
 pub struct UsbDevice {
@@ -30,11 +38,37 @@ pub struct UsbDevice {
     pub device_address: u8,
 }
 
-// An IN endpoint, by its xHCI id: interrupt, or else bulk.
+// What stands in every record of a transfer: whose it is, and when.
+#[derive(Clone, Copy)]
+pub struct Stamp {
+    pub device: UsbDevice,
+    pub time: CaptureTime,
+}
+
+// What an IN endpoint's transfers are.
+#[derive(Clone, Copy)]
+pub enum InTransferType {
+    Interrupt = 1,
+    Bulk = 3,
+}
+
+// The number that a usbmon header has for it.
+impl From<InTransferType> for u8 {
+    ghost use Rattle.std.specs.Prelude.{◌≡◌};
+    ghost use Rattle.capture_record.specs.Events.{type_number};
+
+    ghost from_gives = { λ transfer_type number. number ≡ type_number transfer_type };
+
+    fn from(transfer_type: InTransferType) -> u8 {
+        transfer_type as u8
+    }
+}
+
+// An IN endpoint, by its xHCI id.
 #[derive(Clone, Copy)]
 pub struct InPipe {
     pub endpoint_id: EndpointId,
-    pub interrupt: bool,
+    pub transfer_type: InTransferType,
 }
 
 // How a control transfer failed.
@@ -61,7 +95,7 @@ pub enum CaptureEvent {
 }
 
 // The eight setup bytes (USB 2.0, 9.3).
-#[derive(Clone, Copy, PartialEq)]
+#[derive(Clone, Copy, Default, PartialEq)]
 pub struct UsbSetup {
     pub request_type: u8,
     pub request: u8,
@@ -70,9 +104,9 @@ pub struct UsbSetup {
     pub length: u16,
 }
 
-// The 48-byte usbmon header; ports `UsbPacketLinktypeHeader`. A status below 0 stands as 2^32 less its amount. Its seconds have 64 bits, so that the two
-// times are no `CaptureTime`.
-#[derive(Clone, Copy, PartialEq)]
+// The 48-byte usbmon header; ports `UsbPacketLinktypeHeader`. A status below 0 stands as 2^32 less its amount. Its seconds have 64 bits, so
+// that the two times are no `CaptureTime`.
+#[derive(Clone, Copy, Default, PartialEq)]
 pub struct UsbHeader {
     pub id: u64,
     pub event_type: u8,
@@ -104,7 +138,7 @@ pub fn to_host(request: UsbRequest) -> bool
     128 <= request.request_type
 }
 
-// Does a record of the event carry its payload? Ports `packet_payload`.
+// Does a record of the event carry its payload? Ports `packet_payload`. No `matches!`: two of the arms ask a question of their own.
 pub fn carries(event: CaptureEvent) -> bool
     ensures { result ≡ carries event }
 {

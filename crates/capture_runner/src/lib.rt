@@ -1,5 +1,5 @@
-// Runs a call script and writes the capture of its requests and completions: takes its lines from a reader, makes the calls as `replay` does, and
-// writes the records of each.
+// Runs a call script and writes the capture of its requests and completions: takes its lines from a reader, makes the calls as `replay`
+// does, and writes the records of each.
 #![tactic(auto)]
 
 ghost use Rattle.std.specs.Prelude.{◌≡◌, ◌≤◌, length};
@@ -7,6 +7,7 @@ ghost use Rattle.session_calls.specs.Buffers.{SameBuffers};
 ghost use Rattle.state_text.specs.Widths.{max_answer};
 
 use call_answer::Ran;
+use call_captures::MadeCall;
 use call_script::Call;
 use captured_calls::Setting;
 use script_lines::{Found, Input};
@@ -14,13 +15,6 @@ use session::{LentBuffers, Session};
 use std::io;
 use std::io::{Read, Write};
 use text::Text;
-
-// ---- Bytes out
-
-// Writes the first `length` bytes out, or as many as there are.
-fn write_out<W: Write>(writer: &mut W, output: &[u8], length: usize) -> io::Result<()> {
-    writer.write_all(&output[..length.min(output.len())])
-}
 
 // ---- Lines
 
@@ -40,14 +34,15 @@ fn started() -> Progress {
 
 // Is the high region the longer one while the call is made?
 fn high_is_longer(session: Session, call: Call) -> bool {
-    match call {
-        Call::Window(_, low_length, _, high_length) => low_length < high_length,
-        _ => session.low_length < session.high_length,
-    }
+    let window = match call {
+        Call::Window(window) => window,
+        _ => session.lent.window,
+    };
+    window.low.len < window.high.len
 }
 
-// Makes a call. Of the two regions, which together have no more bytes than the low buffer, the longer one lies there, whichever it is; a call that moves them
-// fills both anew.
+// Makes a call. Of the two regions, which together have no more bytes than the low buffer, the longer one lies there, whichever it is; a
+// call that moves them fills both anew.
 fn run_call(
     text: &mut [u8],
     session: Session,
@@ -91,22 +86,17 @@ fn run_line<W: Write>(
         return Ok(None);
     };
     let ran = run_call(text, progress.session, call, buffers);
-    // Slices that a lent struct holds, passed on to be read, are variables first.
-    let log = &mut *buffers.log;
-    let collect = &mut *buffers.collect;
-    let data = buffers.data;
-    let end = call_captures::put_call(
-        output,
-        progress.setting,
-        progress.session,
-        ran.left,
+    let made = MadeCall {
+        before: progress.session,
+        after: ran.left,
         call,
-        log,
-        ran.records,
-        collect,
-        data,
-    );
-    write_out(writer, output, end)?;
+        log: buffers.log,
+        records: ran.records,
+        collect: buffers.collect,
+        data: buffers.data,
+    };
+    let end = call_captures::put_call(output, progress.setting, &made);
+    writer.write_all(&output[..end])?;
     if !ran.good {
         return Ok(None);
     }
@@ -116,8 +106,8 @@ fn run_line<W: Write>(
     }))
 }
 
-// Takes the input to its end, or to a bad line. The loop is as in `raw_trbs`: a closure for what is done with a line would have to ask
-// again what `run_line` asks.
+// Takes the input to its end, or to a bad line. The loop is as in `raw_trbs`, and stands in both: a closure for what is done
+// with a line would have to ask again what `run_line` asks.
 fn run_input<R: Read, W: Write>(
     reader: &mut R,
     writer: &mut W,
@@ -149,41 +139,27 @@ fn run_input<R: Read, W: Write>(
 
 // ---- Buffers
 
-fn text_buffer() -> [u8; state_text::MAX_ANSWER]
-    ensures { length result ≡ max_answer }
-{
-    [0u8; state_text::MAX_ANSWER]
-}
-
 // The shorter one of two regions has at most half of guest memory.
 const SHORTER_REGION: usize = call_script::MAX_WINDOW / 2;
-
-fn shorter_region_buffer() -> [u8; SHORTER_REGION] {
-    [0u8; SHORTER_REGION]
-}
 
 // Bytes of the records of the longest row: two to a TRB, each with its two headers, and all of the device's data.
 const OUTPUT: usize = 2 * 64 * trb::MAX_ROW + call_script::MAX_SCRIPT_DATA;
 
-fn output_buffer() -> [u8; OUTPUT] {
-    [0u8; OUTPUT]
-}
-
 // Writes the capture of the call script that the reader gives.
 pub fn run<R: Read, W: Write>(reader: &mut R, writer: &mut W) -> io::Result<()> {
-    let mut input_bytes = script_lines::input_buffer();
-    let mut input = Input::new(&mut input_bytes);
-    let mut output = output_buffer();
-    let mut text = text_buffer();
-    let mut log = call_runner::log_buffer();
-    let mut collect = call_runner::collect_buffer();
-    let mut longer = call_runner::region_buffer();
-    let mut shorter = shorter_region_buffer();
-    let mut data = call_runner::data_buffer();
+    let mut piece = input_bytes::zeros::<{ script_lines::PIECE }>();
+    let mut input = Input::new(&mut piece);
+    let mut output = input_bytes::zeros::<OUTPUT>();
+    let mut text = input_bytes::zeros::<{ state_text::MAX_ANSWER }>();
+    let mut log = input_bytes::zeros::<{ call_script::MAX_LENT_LOG }>();
+    let mut collect = input_bytes::zeros::<{ call_script::MAX_LENT_COLLECT }>();
+    let mut longer = input_bytes::zeros::<{ call_script::MAX_WINDOW }>();
+    let mut shorter = input_bytes::zeros::<SHORTER_REGION>();
+    let mut data = input_bytes::zeros::<{ call_script::MAX_SCRIPT_DATA }>();
     script_bytes::fill_device(&mut data);
     script_bytes::fill_guest(&mut longer, session::FIRST_BASE);
     let header = capture_writer::write_file_header(&mut output).unwrap_or(0);
-    write_out(writer, &output, header)?;
+    writer.write_all(&output[..header.min(OUTPUT)])?;
     let mut buffers = LentBuffers {
         log: &mut log,
         collect: &mut collect,

@@ -1,9 +1,7 @@
 // A capture file checked in one pass: what is found of its records.
 #![tactic(auto)]
 
-ghost use Rattle.std.specs.Prelude.{not, ◌≡◌, ◌≤◌, length};
-ghost use Rattle.buffers.specs.LittleEndian.{le_field};
-ghost use Rattle.capture_file.specs.Times.{before};
+ghost use Rattle.std.specs.Prelude.{◌≡◌, ◌≤◌};
 ghost use Rattle.capture_file.specs.Survey.{survey_of, file_survey};
 
 use capture_file::{CaptureTime, Survey};
@@ -21,17 +19,16 @@ fn survey_records(records: &[u8], extra: usize, most: u32) -> Option<Survey>
         seconds: 0,
         microseconds: 0,
     };
-    // A record says its own length: what is left is cut where it ends.
     while !rest.is_empty() {
         if !capture_tests::whole_record(rest, extra, most) {
             return None;
         }
         convertible &= capture_tests::is_convertible(rest, extra);
         let time = capture_tests::time_at(rest);
-        ordered &= !capture_tests::is_before(time, last);
+        ordered &= last <= time;
         last = time;
         count += 1;
-        rest = &rest[capture_tests::record_size(rest)..];
+        rest = capture_tests::split_record(rest).1;
     }
     Some(Survey {
         convertible,
@@ -40,18 +37,15 @@ fn survey_records(records: &[u8], extra: usize, most: u32) -> Option<Survey>
     })
 }
 
-// One pass over a file, or nothing where it is not whole. `growth` is the number of bytes by which records of link type 189 are to
-// grow: 16 for converting, 0 for merging.
+// One pass over a file, or nothing where it is not whole. `growth` is the number of bytes by which records of link type 189 are to grow: 16
+// for converting, 0 for merging.
 pub fn survey_file(src: &[u8], growth: u32) -> Option<Survey>
     ensures { result ≡ file_survey growth src.now }
 {
-    if !capture_tests::whole_head(src) {
-        return None;
-    }
-    let link = buffers::le32(src, 20);
+    let link = capture_tests::link_in(src)?;
     survey_records(
         &src[capture_file::FILE_HEADER_LENGTH..],
-        capture_tests::extra_of(link),
-        capture_tests::most_of(growth, link),
+        link.extra(),
+        link.most(growth),
     )
 }

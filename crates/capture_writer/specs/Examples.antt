@@ -9,6 +9,7 @@ use Rattle.capture_file.specs.Files.{file_head}
 use Rattle.capture_record.specs.declared.CaptureEvent.{CaptureEvent}
 use Rattle.capture_record.specs.declared.CaptureEvent.TheVariants.{InSubmission, InCompletion, ControlSubmission, ControlCompletionIn, ControlCompletionOut, ControlError, TrbError}
 use Rattle.capture_record.specs.declared.InPipe.{InPipe}
+use Rattle.capture_record.specs.declared.InTransferType.TheVariants.{Interrupt, Bulk}
 use Rattle.capture_record.specs.declared.TransferError.TheVariants.{Disconnect, Stall, TransactionError}
 use Rattle.capture_record.specs.Headers.{header_bytes}
 use Rattle.capture_record.specs.Calls.{CaptureCall, record_of, writer_head}
@@ -19,10 +20,10 @@ abbrev at : ℕ → CaptureEvent → List ℕ → CaptureCall
 at microseconds e payload = call_of (record { bus_number = 258; device_address = 5 }) 0x0A0B0C0D microseconds e payload
 
 abbrev bulk : ℕ → InPipe
-bulk id = record { endpoint_id = record { 0 = id }; interrupt = false }
+bulk id = record { endpoint_id = record { 0 = id }; transfer_type = Bulk }
 
 abbrev interrupt : ℕ → InPipe
-interrupt id = record { endpoint_id = record { 0 = id }; interrupt = true }
+interrupt id = record { endpoint_id = record { 0 = id }; transfer_type = Interrupt }
 
 abbrev request : ℕ → ℕ → ℕ → ℕ → ℕ → UsbRequest
 request type code value index length =

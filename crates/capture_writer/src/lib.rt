@@ -1,22 +1,36 @@
 // Captures written: a file header and records, each by a call of its own over a lent buffer, from its start on.
 #![tactic(auto)]
 
-ghost use Rattle.std.specs.Prelude.{cond, ◌≡◌, ◌+◌, ◌≤◌, ◌%◌, length};
+ghost use Rattle.std.specs.Prelude.{cond, ◌≡◌, ◌+◌, ◌≤◌, length};
 ghost use Rattle.buffers.specs.Patch.{patch};
 ghost use Rattle.capture_record.specs.Events.{snap_length, carries};
 ghost use Rattle.capture_writer.specs.Writing.{in_numbers, call_of, record_bytes, WritesHead, Writes};
 
 use capture_file::{
-    CaptureTime, FILE_HEADER_LENGTH, FRONT_LENGTH, RECORD_HEADER_LENGTH, USB_HEADER_LENGTH,
+    CaptureTime, FILE_HEADER_LENGTH, FRONT_LENGTH, LinkType, RECORD_HEADER_LENGTH,
+    USB_HEADER_LENGTH,
 };
-use capture_record::{CaptureEvent, UsbDevice, UsbHeader};
+use capture_record::{CaptureEvent, Stamp, UsbHeader};
 
 // 02, R-2: why nothing is written, by the number of the question that said no. The buffer cannot take the whole header or record;
-// the microseconds or the captured length are out of range.
+// the microseconds or the captured length are out of range. A no is given back by hand: `trb::ask` answers a `Refusal`, and none has the
+// number 24.
 #[derive(Clone, Copy)]
 pub enum NotWritten {
     OutputTooShort = 14,
     OutOfRange = 24,
+}
+
+// The number that documents 01 and 02 give it.
+impl From<NotWritten> for u32 {
+    ghost use Rattle.std.specs.Prelude.{◌≡◌};
+    ghost use Rattle.capture_writer.specs.Writing.{refusal_number};
+
+    ghost from_gives = { λ refusal number. number ≡ refusal_number refusal };
+
+    fn from(refusal: NotWritten) -> u32 {
+        refusal as u32
+    }
 }
 
 // Writes the header of a capture file, and returns its length, or 14 and leaves the buffer as it was.
@@ -26,12 +40,7 @@ pub fn write_file_header(output: &mut [u8]) -> Result<usize, NotWritten>
     if output.len() < FILE_HEADER_LENGTH {
         return Err(NotWritten::OutputTooShort);
     }
-    let cells = capture_file::file_head(
-        0,
-        0,
-        capture_record::SNAP_LENGTH,
-        capture_file::LINK_SHORT,
-    );
+    let cells = capture_file::file_head(0, 0, capture_record::SNAP_LENGTH, LinkType::Short);
     buffers::copy_into(output, 0, &cells);
     Ok(FILE_HEADER_LENGTH)
 }
@@ -60,19 +69,18 @@ fn put_record(output: &mut [u8], time: CaptureTime, header: UsbHeader, payload: 
     buffers::copy_into(output, FRONT_LENGTH, payload);
 }
 
-// Writes the record of an event, and returns its length: 24 where the microseconds pass 999,999 or the captured length the snap length, then 14 where the
-// buffer cannot take the whole record. It is as it was on both.
+// Writes the record of an event, and returns its length: 24 where the microseconds pass 999,999 or the captured length the snap length,
+// then 14 where the buffer cannot take the whole record. It is as it was on both.
 pub fn write_record(
     output: &mut [u8],
-    device: UsbDevice,
-    time: CaptureTime,
+    stamp: Stamp,
     event: CaptureEvent,
     payload: &[u8],
 ) -> Result<usize, NotWritten>
-    ensures { Writes (call_of device time.seconds time.microseconds event payload.now) output.old (in_numbers result) output.new }
+    ensures { Writes (call_of stamp.device stamp.time.seconds stamp.time.microseconds event payload.now) output.old (in_numbers result) output.new }
 {
     let delivered = delivered_count(event, payload.len());
-    if capture_record::MAX_MICROSECONDS < time.microseconds
+    if capture_record::MAX_MICROSECONDS < stamp.time.microseconds
         || capture_record::SNAP_LENGTH as usize - USB_HEADER_LENGTH < delivered
     {
         return Err(NotWritten::OutOfRange);
@@ -80,8 +88,8 @@ pub fn write_record(
     if output.len() < FRONT_LENGTH + delivered {
         return Err(NotWritten::OutputTooShort);
     }
-    let count = (payload.len() % 4294967296) as u32;
-    let header = event_header::header_of(device, time, event, count);
-    put_record(output, time, header, &payload[..delivered]);
+    let count = (payload.len() & 0xffff_ffff) as u32;
+    let header = event_header::header_of(stamp, event, count);
+    put_record(output, stamp.time, header, &payload[..delivered]);
     Ok(FRONT_LENGTH + delivered)
 }

@@ -1,24 +1,22 @@
 -- Laws of a row's captures: the TDs one by one, and what looks for a TD's end, for a Normal of it and for its request. Assumes nothing.
-use Prim.Native.Nat.{ℕ, zero, suc, ◌+◌, ◌-◌, ◌<◌, ◌≤◌, min}
+use Prim.Native.Nat.{ℕ, zero, suc, ◌+◌, ◌<◌, ◌≤◌, min}
 use mathlib.Core.Bool.{Bool, true, false}
 use mathlib.Core.Path.{◌≡◌, refl, ap, ◌∙◌}
-use mathlib.Core.List.{List, [], ◌∷◌, ◌++◌}
+use mathlib.Core.List.{List, [], ◌∷◌, ◌++◌, map}
 use native.Mathlib.Nat.{zero-add}
 use native.Mathlib.Numerals.{add-one}
 use native.Mathlib.Omega.{arith}
-use lib.Dec.{leb, eqb}
+use lib.Dec.{eqb}
 use lib.ListN.{length, take, drop, get_or, drop_of_length-le}
 use lib.Seq.{drop-cons}
 use Rattle.std.proofs.Common.{Option, None, Some, ne_eqb}
 use Rattle.std.specs.Bool.{MatchBool}
 use Rattle.std.specs.Option.{MatchOption, IfSome}
-use borrow.Author.Tests.{leb-true, leb-false}
 use Rattle.std.specs.List.{AllWithin, HoldsAt}
 use Rattle.trb.specs.Trbs.{chain_of}
 use Rattle.trb.specs.declared.TransferTrb.{TransferTrb}
-use Rattle.call_log.specs.Records.{request_kind, record_at}
+use Rattle.call_log.specs.Records.{request_kind, decode}
 use Rattle.call_log.specs.declared.Record.{Record}
-use Rattle.call_log.proofs.LogLaws.{records_in-next}
 use Rattle.in_td.specs.Td.{is_normal, normals}
 use Rattle.row_walk.specs.declared.TdResult.{TdResult}
 use Rattle.row_walk.specs.Rows.{with_results, has_normal, past_results}
@@ -27,10 +25,8 @@ use Rattle.row_walk.proofs.TdsLaws.{tds_of-cons, take-first_td}
 use Rattle.capture_record.specs.declared.InPipe.{InPipe}
 use Rattle.capture_record.specs.Calls.{CaptureCall}
 use Rattle.capture_calls.specs.Captures.{Captured}
-use Rattle.captured_calls.specs.Submitted.{records_from}
 use Rattle.captured_calls.specs.Rows.{requests_in, request_at, td_captures, requests_behind, row_captures}
 use Rattle.captured_calls.proofs.LeastLaws.{take-least, drop-least}
-use Rattle.captured_calls.proofs.SubmittedLaws.{records_from-none}
 
 -- ---- A TD's end, and its Normals
 
@@ -78,45 +74,38 @@ has_normal-decided false ts h = rw (no-normals ts h) refl
 
 -- ---- The first request
 
-module _ (n : ℕ) (log : List ℕ) where
-  abbrev pub Other : ℕ → Type 0
-  Other k = eqb (record_at log k).kind request_kind ≡ false
+abbrev pub Request : Bool → List ℕ → Type 0
+Request b cells = eqb (decode cells).kind request_kind ≡ b
 
-  request-here : (i : ℕ) → i < n → eqb (record_at log i).kind request_kind ≡ true → requests_in (records_from n i log) ≡ request_at n (Some i) log
-  unfolding requests_in
-  request-here i h is = rw (records_in-next n i log h, is)
+-- what `position` says of the records: none is a request, or this is the first one
+no-requests : (cells : List (List ℕ)) → AllWithin (Request false) cells 0 (length cells) → requests_in (map decode cells) ≡ []
+unfolding requests_in
+no-requests [] h = refl
+no-requests (x ∷ cells) h =
+    let here : Request false x = h 0 x (omega arith) (omega arith) in
+    rw here (no-requests cells (λ k d low high. h (suc k) d (omega arith) (omega arith)))
 
-  request-later : (i : ℕ) → i < n → Other i → requests_in (records_from n i log) ≡ requests_in (records_from n (i + 1) log)
-  unfolding requests_in
-  request-later i h not = rw (records_in-next n i log h, not)
+some-request : (cells : List (List ℕ)) (i : ℕ) → i < length cells → HoldsAt (Request true) cells i → AllWithin (Request false) cells 0 i
+    → requests_in (map decode cells) ≡ request_at (Some i) cells
+unfolding requests_in
+some-request [] i h is others = absurd (omega arith)
+some-request (x ∷ cells) zero h is others = rw (is x) refl
+some-request (x ∷ cells) (suc i) h is others =
+    let here : Request false x = others 0 x (omega arith) (omega arith) in
+    let behind : suc i + 1 ≡ suc (i + 1) = omega arith in
+    rw (here, behind) (some-request cells i (omega arith) is (λ k d low high. others (suc k) d (omega arith) (omega arith)))
 
-  pub request-nowhere : (i : ℕ) → n ≤ i → requests_in (records_from n i log) ≡ []
-  unfolding requests_in
-  request-nowhere i h = rw (records_from-none n i log h)
+module _ (cells : List (List ℕ)) where
+  abbrev pub First : Option ℕ → Type 0
+  First r = MatchOption r (AllWithin (Request false) cells 0 (length cells)) (λ i. (i < length cells) × HoldsAt (Request true) cells i × AllWithin (Request false) cells 0 i)
 
-  -- behind d records that are none
-  behind_others : (d i j : ℕ) → j ≡ i + d → j ≤ n → ((k : ℕ) → i ≤ k → k < j → Other k) → requests_in (records_from n i log) ≡ requests_in (records_from n j log)
-  behind_others zero i j e h others = ap (λ (m : ℕ). requests_in (records_from n m log)) (omega arith)
-  behind_others (suc d) i j e h others =
-      request-later i (omega arith) (others i (omega arith) (omega arith))
-      ∙ behind_others d (i + 1) j (omega arith) h (λ k low high. others k (omega arith) high)
+  pub request-found : (r : Option ℕ) → First r → requests_in (map decode cells) ≡ request_at r cells
+  request-found None h = no-requests cells h
+  request-found (Some i) h = some-request cells i h.0 h.1 h.2
 
-  -- what the iterator's `find` says of the records from i on
-  pub request-found : (i : ℕ) (r : Option ℕ)
-      → MatchOption r ((k : ℕ) → i ≤ k → k < n → Other k) (λ j. (i ≤ j) × (j < n) × (eqb (record_at log j).kind request_kind ≡ true) × ((k : ℕ) → i ≤ k → k < j → Other k))
-      → requests_in (records_from n i log) ≡ request_at n r log
-  request-found i None others = by (leb i n) refl
-    where
-      by : (b : Bool) → leb i n ≡ b → requests_in (records_from n i log) ≡ []
-      by true low = behind_others (n - i) i n (omega (arith, leb-true i n low)) (omega arith) others ∙ request-nowhere n (omega arith)
-      by false high = request-nowhere i (omega (arith, leb-false i n high))
-  request-found i (Some j) found = behind_others (j - i) i j (omega (arith, found.0)) (omega (arith, found.1)) found.3 ∙ request-here j found.1 found.2
-
-  pub request-below : (i : ℕ) (r : Option ℕ)
-      → MatchOption r ((k : ℕ) → i ≤ k → k < n → Other k) (λ j. (i ≤ j) × (j < n) × (eqb (record_at log j).kind request_kind ≡ true) × ((k : ℕ) → i ≤ k → k < j → Other k))
-      → IfSome r (λ j. j < n)
-  request-below i None others = tt
-  request-below i (Some j) found = found.1
+  pub request-below : (r : Option ℕ) → First r → IfSome r (λ i. i < length cells)
+  request-below None h = tt
+  request-below (Some i) h = h.0
 
 -- ---- The TDs of a row
 
@@ -135,26 +124,25 @@ unfolding with_results
 with_results-none [] = refl
 with_results-none (td ∷ tds) = refl
 
-module _ (c : Captured) (p : InPipe) (results : List TdResult) (n : ℕ) (log : List ℕ) where
-  -- the TDs of the TRBs that are left, with the results from `td`, the log's records from `from` and the bytes that are left
-  abbrev pub row_left : List TransferTrb → ℕ → ℕ → List ℕ → List CaptureCall
-  row_left ts td from bytes = row_captures c p (with_results (tds_of ts) (drop td results)) (requests_in (records_from n from log)) bytes
+module _ (c : Captured) (p : InPipe) (results : List TdResult) where
+  -- the TDs of the TRBs that are left, with the results from `td`, and the records and the bytes that are left
+  abbrev pub row_left : List TransferTrb → ℕ → List (List ℕ) → List ℕ → List CaptureCall
+  row_left ts td cells bytes = row_captures c p (with_results (tds_of ts) (drop td results)) (requests_in (map decode cells)) bytes
 
-  pub row-end : (ts : List TransferTrb) (td from : ℕ) (bytes : List ℕ) → length results ≤ td → row_left ts td from bytes ≡ []
+  pub row-end : (ts : List TransferTrb) (td : ℕ) (cells : List (List ℕ)) (bytes : List ℕ) → length results ≤ td → row_left ts td cells bytes ≡ []
   unfolding row_captures
-  row-end ts td from bytes h = rw (drop_of_length-le results {i = td} h, with_results-none)
+  row-end ts td cells bytes h = rw (drop_of_length-le results {i = td} h, with_results-none)
 
-  module _ (ts : List TransferTrb) (td from : ℕ) (bytes : List ℕ) (more : td < length results) where
+  module _ (ts : List TransferTrb) (td : ℕ) (cells : List (List ℕ)) (bytes : List ℕ) (more : td < length results) where
     abbrev given : TdResult
     given = get_or results td past_results
 
-    pub row-turn : (normal : Bool) (size from' own : ℕ) → size ≡ length (first_td ts) → normal ≡ has_normal (take size ts)
-        → requests_in (records_from n from' log) ≡ requests_behind normal (requests_in (records_from n from log))
-        → own ≡ min given.length (length bytes)
-        → row_left ts td from bytes
-        ≡ td_captures c p normal (requests_in (records_from n from log)) given.status (take own bytes) ++ row_left (drop size ts) (td + 1) from' (drop own bytes)
-    row-turn normal size from' own ends is left cut =
+    pub row-turn : (normal : Bool) (size own : ℕ) (cells' : List (List ℕ)) → size ≡ length (first_td ts) → normal ≡ has_normal (take size ts)
+        → requests_in (map decode cells') ≡ requests_behind normal (requests_in (map decode cells)) → own ≡ min given.length (length bytes)
+        → row_left ts td cells bytes
+        ≡ td_captures c p normal (requests_in (map decode cells)) given.status (take own bytes) ++ row_left (drop size ts) (td + 1) cells' (drop own bytes)
+    row-turn normal size own cells' ends is left cut =
         let here : take size ts ≡ first_td ts = ap (λ (k : ℕ). take k ts) ends ∙ take-first_td ts in
         let results-here : drop td results ≡ given ∷ drop (td + 1) results = rw (add-one, drop-cons results td past_results) in
         rw (results-here, take-least bytes given.length own cut, drop-least bytes given.length own cut, left, is, here, ends)
-        (row_next c p ts given (drop (td + 1) results) (requests_in (records_from n from log)) bytes)
+        (row_next c p ts given (drop (td + 1) results) (requests_in (map decode cells)) bytes)

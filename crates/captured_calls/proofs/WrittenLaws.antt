@@ -19,9 +19,9 @@ use Rattle.capture_file.specs.Records.{layout}
 use Rattle.capture_record.specs.Calls.{CaptureCall, record_of, captured_by}
 use Rattle.capture_record.specs.Events.{snap_length, max_microseconds}
 use Rattle.capture_writer.specs.Writing.{Written, in_numbers, refused_with, record_questions, answer_of, WritesIf, Writes}
-use Rattle.captured_calls.specs.declared.Capture.{Capture}
+use Rattle.captured_calls.specs.declared.capture.Capture.{Capture}
 use Rattle.captured_calls.specs.declared.Setting.{Setting}
-use Rattle.captured_calls.specs.Written.{written_one, written_all, Fits, Laid, Lays}
+use Rattle.captured_calls.specs.Written.{written_one, written_all, Laid, Lays}
 
 -- ---- It lies in the room
 
@@ -86,9 +86,9 @@ written_all-append room (c ∷ cs) ds =
     ∙ ap (λ (n : ℕ). one ++ (rest ++ written_all n ds)) left
     ∙ sym (append_assoc one rest (written_all (room - length (one ++ rest)) ds))
 
-pub laid-none : {c : Capture} → Fits c → Laid [] c c
+pub laid-none : {c : Capture} → Laid [] c c
 unfolding written_all
-laid-none {c = c} h = record { end = omega arith; bytes = sym (patch-none c.bytes.now c.end); size = refl; fits = h; same = refl; setting = refl }
+laid-none {c = c} = record { end = omega arith; bytes = sym (patch-none c.bytes.now c.end); size = refl; fits = c.inside; same = refl; setting = refl }
 
 -- these calls, and then those
 pub laid-append : {c m d : Capture} {cs ds : List CaptureCall} → Laid cs c m → Laid ds m d → Laid (cs ++ ds) c d
@@ -102,7 +102,7 @@ laid-append {c = c} {m = m} {cs = cs} {ds = ds} p q =
       end = q.end ∙ omega (arith, p.end, ap length both, length-append first (written_all (length m.bytes.now - m.end) ds));
       bytes =
           q.bytes
-          ∙ patch-behind c.bytes.now m.bytes.now c.end m.end first (written_all (length m.bytes.now - m.end) ds) p.bytes p.end (omega (arith, p.end, p.size, p.fits))
+          ∙ patch-behind c.bytes.now m.bytes.now c.end m.end first (written_all (length m.bytes.now - m.end) ds) p.bytes p.end (omega (arith, p.end, p.size, m.inside))
           ∙ ap (patch c.bytes.now c.end) (sym both);
       size = q.size ∙ p.size;
       fits = q.fits;
@@ -119,12 +119,12 @@ laid-first {c} {c'} {cs} {output} none p last =
     record {
       end = omega (arith, p.end, ap length room);
       after = last (sym p.same) ∙ p.bytes ∙ rw (room, none) refl;
-      inside = omega (arith, p.fits, p.size);
+      inside = omega (arith, c'.inside, p.size);
     }
 
 -- ---- One call, over the part of the buffer behind the records
 
-module _ (c : Capture) (fits : Fits c) where
+module _ (c : Capture) where
   abbrev output : List ℕ
   output = c.bytes.now
 
@@ -164,10 +164,10 @@ module _ (c : Capture) (fits : Fits c) where
       by true false e f = omega (arith, rw (e, f) at answered)
       by false b e f = omega (arith, rw e at answered)
 
-  pub laid-one : {d : Capture} (call : CaptureCall) (w : Written) (part' : List ℕ) → Writes call part w part'
-      → d.bytes.now ≡ put_mid at (length output - at) output part' → d.end ≡ at + w.length → d.bytes.ghost_name ≡ c.bytes.ghost_name → d.setting ≡ c.setting → Laid (call ∷ []) c d
+  pub laid-one : {d : Capture} {cs : List CaptureCall} (call : CaptureCall) (w : Written) (part' : List ℕ) → cs ≡ call ∷ [] → Writes call part w part'
+      → d.bytes.now ≡ put_mid at (length output - at) output part' → d.end ≡ at + w.length → d.bytes.ghost_name ≡ c.bytes.ghost_name → d.setting ≡ c.setting → Laid cs c d
   unfolding written_all
-  laid-one {d} call w part' writes after end same setting =
+  laid-one {d} call w part' is writes after end same setting =
       let room : ℕ = length output - at in
       let one : List ℕ = written_one room call in
       let all : one ++ [] ≡ one = append-nil one in
@@ -176,7 +176,7 @@ module _ (c : Capture) (fits : Fits c) where
       let left : part' ≡ patch part 0 one = written_after part call w part' writes ∙ ap (λ (n : ℕ). patch part 0 (written_one n call)) length_part in
       let laid : d.bytes.now ≡ patch output at one = after ∙ ap (put_mid at room output) left ∙ part-patched one in
       let size : length d.bytes.now ≡ length output = ap length laid ∙ length-patch output at one (omega arith) in
-      record { end = omega (arith, ap length all); bytes = laid ∙ ap (patch output at) (sym all); size = size; fits = omega arith; same = same; setting = setting }
+      rw is (record { end = omega (arith, ap length all); bytes = laid ∙ ap (patch output at) (sym all); size = size; fits = omega arith; same = same; setting = setting })
 
 -- ---- A loop that makes calls of the writer
 
@@ -190,8 +190,8 @@ pub record Remaining (c₀ : Capture) (whole : List CaptureCall) (c : Capture) (
   pub laid : Laid made c₀ c
   pub all : whole ≡ made ++ rest
 
-pub remaining-all : {c : Capture} (cs : List CaptureCall) → Fits c → Remaining c cs c cs
-remaining-all cs h = record { made = []; laid = laid-none h; all = refl }
+pub remaining-all : {c : Capture} (cs : List CaptureCall) → Remaining c cs c cs
+remaining-all cs = record { made = []; laid = laid-none; all = refl }
 
 module _ {c₀ c : Capture} {whole : List CaptureCall} where
   -- the calls of a turn, as the setting has them

@@ -1,25 +1,24 @@
 -- 02, R-2 of R-7: what a row of TDs in a single call gives to a capture. Assumes nothing.
-use Rattle.std.specs.Prelude.{ℕ, ◌+◌, Bool, cond, List, [], ◌∷◌, ◌++◌, Option, Some, None, eqb, take, drop}
+use Rattle.std.specs.Prelude.{ℕ, ◌+◌, Bool, cond, List, [], ◌∷◌, ◌++◌, Option, Some, None, eqb, take, drop, map, get_or}
 use Rattle.trb.specs.declared.InTrbProcessingStatus.{InTrbProcessingStatus}
 use Rattle.trb.specs.declared.TdBasedNormalSubmissionState.TheVariants.{AwaitingRealTransfer}
-use Rattle.call_log.specs.Records.{request_kind, record_at}
+use Rattle.call_log.specs.Records.{request_kind, decode}
 use Rattle.call_log.specs.declared.Record.{Record}
 use Rattle.row_walk.specs.Rows.{RowTd, has_normal}
 use Rattle.capture_record.specs.declared.InPipe.{InPipe}
 use Rattle.capture_record.specs.Calls.{CaptureCall}
 use Rattle.capture_calls.specs.Events.{in_request_event, in_completion_event}
 use Rattle.capture_calls.specs.Captures.{Captured, writer_call}
-use Rattle.captured_calls.specs.Submitted.{records_from}
 
 -- the requests of a log, in their order: 02, R-7: each TD that was started has logged its own, if it has a Normal
 unfoldable pub requests_in : List Record → List Record
 requests_in [] = []
 requests_in (r ∷ rs) = cond (eqb r.kind request_kind) (r ∷ requests_in rs) (requests_in rs)
 
--- of a log's first n records: that request is number r, or there is none
-abbrev pub request_at : ℕ → Option ℕ → List ℕ → List Record
-request_at n None log = []
-request_at n (Some r) log = record_at log r ∷ requests_in (records_from n (r + 1) log)
+-- of records by their bytes: the first request is number r, or there is none
+abbrev pub request_at : Option ℕ → List (List ℕ) → List Record
+request_at None cells = []
+request_at (Some r) cells = decode (get_or cells r []) ∷ requests_in (map decode (drop (r + 1) cells))
 
 -- a TD that has logged this request: its submission, then its completion with its identifier, its status and its own bytes
 abbrev pub td_capture : Captured → InPipe → Record → InTrbProcessingStatus → List ℕ → List CaptureCall

@@ -5,7 +5,7 @@ use Rattle.buffers.specs.Patch.{patch}
 use Rattle.capture_file.specs.Records.{layout}
 use Rattle.capture_record.specs.Calls.{CaptureCall, record_of}
 use Rattle.capture_writer.specs.Writing.{record_questions}
-use Rattle.captured_calls.specs.declared.Capture.{Capture}
+use Rattle.captured_calls.specs.declared.capture.Capture.{Capture}
 
 -- a call of the writer leaves its record where `room` bytes are left; a refused one leaves nothing
 unfoldable pub written_one : ℕ → CaptureCall → List ℕ
@@ -16,7 +16,7 @@ unfoldable pub written_all : ℕ → List CaptureCall → List ℕ
 written_all room [] = []
 written_all room (c ∷ cs) = written_one room c ++ written_all (room - length (written_one room c)) cs
 
--- the records lie in the buffer: whoever makes a capture shows it, and `Laid` gives it back
+-- the records lie in the buffer, as the type of a capture says
 abbrev pub Fits : Capture → Type 0
 Fits c = c.end ≤ length c.bytes.now
 

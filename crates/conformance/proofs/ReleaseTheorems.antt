@@ -92,7 +92,7 @@ module _ (r : Reading) (code : ℕ) where
 -- a completion of a block for release 5 that holds the chain, with a device's answer that fails it
 module _ (log : ℕ) (b : ControlBlock) (d : Option ControlRequestProcessingResult) (n : ℕ) (code : CompletionCode) (result : TrbProcessingResult) (c : Chain) where
   module _ (rule : b.release ≡ Release5) (holds : held_of b ≡ trbs_of c) (awaits : b.state ≡ AwaitingControlRequest) (fails : request_ending d n ≡ Fail code result) (none : first_no (completion_questions log (facts_of b) d n) ≡ 0) where
-    told_at : (a : ℕ) → stage_address (trbs_of c) b.request.address ≡ a → told (completion log b d n).records ≡ transfer_event (code_number code) false a 0 ∷ []
+    told_at : (a : ℕ) → stage_address (trbs_of c) b.transfer.request.address ≡ a → told (completion log b d n).records ≡ transfer_event (code_number code) false a 0 ∷ []
     unfolding error_address
     told_at a stage =
         ap told (failed-event log b d n code result awaits fails none)
@@ -106,7 +106,7 @@ module _ (log : ℕ) (b : ControlBlock) (d : Option ControlRequestProcessingResu
       pub told-status_failed : c.data_part ≡ no_data → setup_events ++ told (completion log b d n).records ≡ control_events r (stages_of c) (status_failed (code_number code) 0)
       told-status_failed part =
           rw (
-            told_at c.status_address (stage-status c b.request.address c.final part refl),
+            told_at c.status_address (stage-status c b.transfer.request.address c.final part refl),
             part,
             status-events r (code_number code) c.status_address c.status.interrupt_on_completion c.final,
           )
@@ -116,7 +116,7 @@ module _ (log : ℕ) (b : ControlBlock) (d : Option ControlRequestProcessingResu
           → setup_events ++ sized (t.transfer_length - m) (told (completion log b d n).records) ≡ control_events r (stages_of c) (data_failed (code_number code) m)
       told-data_failed t a y ds m part falls =
           rw (
-            told_at a (stage-data c b.request.address t a y ds part),
+            told_at a (stage-data c b.transfer.request.address t a y ds part),
             part,
             data-events r (code_number code) m t a y ds falls,
           )

@@ -24,7 +24,7 @@ use Rattle.phase_table.specs.Leads.{trbs_lead}
 use Rattle.phase_table.specs.Outcomes.{holds, requests}
 use Rattle.phase_table.specs.Table.{trb_outcome}
 use Rattle.phase_table.specs.declared.Outcome.{Outcome}
-use Rattle.control_block.specs.Blocks.{transfer_of, held_of}
+use Rattle.control_block.specs.Blocks.{held_of}
 use Rattle.control_block.specs.declared.ControlBlock.{ControlBlock}
 use Rattle.control_block.specs.declared.ControlTransfer.{ControlTransfer}
 use Rattle.control_transfer.specs.Data.{no_data, data_of, size_of, bytes_of}
@@ -125,43 +125,43 @@ module _ (lent : Lent) (m : Memory) (same : lent.regions ≡ regions_of m) where
     asked : first_no (questions_of lent.log lent.collect b t (regions_of m)) ≡ 0
     asked = ap (λ (r : Regions). first_no (questions_of lent.log lent.collect b t r)) (sym same) ∙ none
 
-    collected-as : bytes_collected lent.log lent.collect b t m ≡ bytes_taken (trb_outcome b.phase t.variant) b.direction t.variant m
+    collected-as : bytes_collected lent.log lent.collect b t m ≡ bytes_taken (trb_outcome b.transfer.phase t.variant) b.transfer.direction t.variant m
     unfolding bytes_collected
     collected-as = rw asked
 
     -- in a transfer that goes out
-    out-bytes : holds (trb_outcome b.phase t.variant) ≡ true → b.direction ≡ false → all allowed (source_of t.variant) ≡ true
+    out-bytes : holds (trb_outcome b.transfer.phase t.variant) ≡ true → b.transfer.direction ≡ false → all allowed (source_of t.variant) ≡ true
         → bytes_collected lent.log lent.collect b t m ≡ outgoing (bytes_at m) (source_of t.variant)
     unfolding collects
     out-bytes held out short = collected-as ∙ rw (held, out) (own-bytes m t.variant short)
 
     -- a Setup Stage TRB has none, whatever the transfer before it was
     setup-bytes : data_of t.variant ≡ no_data → bytes_collected lent.log lent.collect b t m ≡ []
-    setup-bytes e = collected-as ∙ by-collects (collects (trb_outcome b.phase t.variant) b.direction)
+    setup-bytes e = collected-as ∙ by-collects (collects (trb_outcome b.transfer.phase t.variant) b.transfer.direction)
       where
         by-collects : (c : Bool) → cond c (bytes_of m (data_of t.variant)) [] ≡ []
         by-collects true = ap (bytes_of m) e ∙ bytes-none m
         by-collects false = refl
 
-  last-bytes : (b : ControlBlock) (t : TransferTrb) → b.direction ≡ false → trbs_lead b.phase (t ∷ []) ≡ true → EachAccepted lent b (t ∷ []) → all allowed (sources_of (t ∷ [])) ≡ true
+  last-bytes : (b : ControlBlock) (t : TransferTrb) → b.transfer.direction ≡ false → trbs_lead b.transfer.phase (t ∷ []) ≡ true → EachAccepted lent b (t ∷ []) → all allowed (sources_of (t ∷ [])) ≡ true
       → collected_by lent m b (t ∷ []) ≡ outgoing (bytes_at m) (sources_of (t ∷ []))
   unfolding EachAccepted sources_of collected_by trb_outcome
   last-bytes b t out h none short =
-      let held : holds (trb_outcome b.phase t.variant) ≡ true = ap holds (last-requests (trb_outcome b.phase t.variant) h) in
+      let held : holds (trb_outcome b.transfer.phase t.variant) ≡ true = ap holds (last-requests (trb_outcome b.transfer.phase t.variant) h) in
       out-bytes b t none held out (all_append (source_of t.variant) [] short).0 ∙ ap (outgoing (bytes_at m)) (sym (append-nil (source_of t.variant)))
 
   -- the TRBs behind the Setup Stage TRB
-  collected-behind : (b : ControlBlock) (ts : List TransferTrb) → length b.trbs ≡ max_held → b.direction ≡ false → any_setup ts ≡ false → trbs_lead b.phase ts ≡ true
+  collected-behind : (b : ControlBlock) (ts : List TransferTrb) → length b.trbs ≡ max_held → b.transfer.direction ≡ false → any_setup ts ≡ false → trbs_lead b.transfer.phase ts ≡ true
       → EachAccepted lent b ts → all allowed (sources_of ts) ≡ true → collected_by lent m b ts ≡ outgoing (bytes_at m) (sources_of ts)
   unfolding sources_of collected_by
   collected-behind b [] places out alone h accepts short = absurd (false≢true h)
   collected-behind b (t ∷ []) places out alone h accepts short = last-bytes b t out h accepts short
   collected-behind b (t ∷ u ∷ ts) places out alone h accepts short =
-      let k : Kept (trb_outcome b.phase t.variant) = taken lent b (held_of b) refl places t u ts h accepts in
+      let k : Kept (trb_outcome b.transfer.phase t.variant) = taken lent b (held_of b) refl places t u ts h accepts in
       let parts = all_append (source_of t.variant) (sources_of (u ∷ ts)) short in
-      let on : (collecting lent b t).state.block.direction ≡ false =
+      let on : (collecting lent b t).state.block.transfer.direction ≡ false =
       ap (λ (w : ControlTransfer). w.direction) (transfer-next lent b (held_of b) refl places t u ts h accepts)
-      ∙ after-direction (trb_outcome b.phase t.variant) t.variant t.addr (transfer_of b) (or-false-left (is_setup t.variant) (any_setup (u ∷ ts)) alone) ∙ out in
+      ∙ after-direction (trb_outcome b.transfer.phase t.variant) t.variant t.addr b.transfer (or-false-left (is_setup t.variant) (any_setup (u ∷ ts)) alone) ∙ out in
       rw (
         out-bytes b t (first-yes lent b (held_of b) refl places t u ts h accepts) k.held out parts.0,
         collected-behind (collecting lent b t).state.block (u ∷ ts) (places-next lent b (held_of b) refl places t u ts h accepts) on
@@ -172,12 +172,12 @@ module _ (lent : Lent) (m : Memory) (same : lent.regions ≡ regions_of m) where
 
   -- all of them: the Setup Stage TRB begins a transfer that goes out
   pub collected-all : (b : ControlBlock) (t u : TransferTrb) (ts : List TransferTrb) → length b.trbs ≡ max_held → data_of t.variant ≡ no_data → source_of t.variant ≡ []
-      → (h : trbs_lead b.phase (t ∷ u ∷ ts) ≡ true) (accepts : EachAccepted lent b (t ∷ u ∷ ts))
-      → (transfer_after (trb_outcome b.phase t.variant) t.variant t.addr (transfer_of b)).direction ≡ false → any_setup (u ∷ ts) ≡ false → all allowed (sources_of (t ∷ u ∷ ts)) ≡ true
+      → (h : trbs_lead b.transfer.phase (t ∷ u ∷ ts) ≡ true) (accepts : EachAccepted lent b (t ∷ u ∷ ts))
+      → (transfer_after (trb_outcome b.transfer.phase t.variant) t.variant t.addr b.transfer).direction ≡ false → any_setup (u ∷ ts) ≡ false → all allowed (sources_of (t ∷ u ∷ ts)) ≡ true
       → collected_by lent m b (t ∷ u ∷ ts) ≡ outgoing (bytes_at m) (sources_of (t ∷ u ∷ ts))
   unfolding sources_of collected_by
   collected-all b t u ts places nothing no_source h accepts out alone short =
-      let on : (collecting lent b t).state.block.direction ≡ false =
+      let on : (collecting lent b t).state.block.transfer.direction ≡ false =
       ap (λ (w : ControlTransfer). w.direction) (transfer-next lent b (held_of b) refl places t u ts h accepts) ∙ out in
       rw (setup-bytes b t (first-yes lent b (held_of b) refl places t u ts h accepts) nothing, no_source)
       (collected-behind (collecting lent b t).state.block (u ∷ ts) (places-next lent b (held_of b) refl places t u ts h accepts) on alone
@@ -186,10 +186,10 @@ module _ (lent : Lent) (m : Memory) (same : lent.regions ≡ regions_of m) where
 
   -- of a transfer from its Setup Stage TRB on
   pub collected-transfer : (b : ControlBlock) (s : SetupStageTrb) (a : ℕ) (cycle : Bool) (ts : List TransferTrb) → let us = at (SetupStage s) a cycle ∷ ts in
-      length b.trbs ≡ max_held → trbs_lead b.phase us ≡ true → EachAccepted lent b us
-      → (transfer_after (trb_outcome b.phase (SetupStage s)) (SetupStage s) a (transfer_of b)).direction ≡ false → any_setup ts ≡ false → all allowed (sources_of us) ≡ true
+      length b.trbs ≡ max_held → trbs_lead b.transfer.phase us ≡ true → EachAccepted lent b us
+      → (transfer_after (trb_outcome b.transfer.phase (SetupStage s)) (SetupStage s) a b.transfer).direction ≡ false → any_setup ts ≡ false → all allowed (sources_of us) ≡ true
       → collected_by lent m b us ≡ outgoing (bytes_at m) (sources_of us)
   unfolding trb_outcome
   collected-transfer b s a cycle [] places h accepts out alone short =
-      absurd (false≢true (sym (setup-silent b.phase) ∙ ap requests (last-requests (trb_outcome b.phase (SetupStage s)) h)))
+      absurd (false≢true (sym (setup-silent b.transfer.phase) ∙ ap requests (last-requests (trb_outcome b.transfer.phase (SetupStage s)) h)))
   collected-transfer b s a cycle (u ∷ ts) places h accepts out alone short = collected-all b (at (SetupStage s) a cycle) u ts places refl refl h accepts out alone short

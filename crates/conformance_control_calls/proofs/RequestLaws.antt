@@ -29,7 +29,7 @@ use Rattle.phase_table.specs.Table.{data_taken, setup_stage_outcome, data_stage_
 use Rattle.phase_table.proofs.LeadsLaws.{leads-rest}
 use Rattle.phase_table.specs.declared.Outcome.{Outcome}
 use Rattle.phase_table.specs.declared.Outcome.TheVariants.{StartTransfer, RestartTransfer, TakeData, TakeLastData, TakeChainedStatus, SubmitRequest, Unexpected, Unsupported, Unrecognized}
-use Rattle.control_block.specs.Blocks.{transfer_of, held_of, stored, advanced}
+use Rattle.control_block.specs.Blocks.{held_of, stored, advanced}
 use Rattle.control_block.specs.Facts.{facts_of}
 use Rattle.control_block.specs.declared.ControlBlock.{ControlBlock}
 use Rattle.control_block.specs.declared.ControlTransfer.{ControlTransfer}
@@ -82,7 +82,7 @@ last-requests Unrecognized h = absurd (false≢true h)
 module _ (lent : Lent) (b : ControlBlock) (t : TransferTrb) (places : length b.trbs ≡ max_held)
     (none : first_no (submitting.questions_of lent.log lent.collect b t lent.regions) ≡ 0) where
   abbrev o : Outcome
-  o = trb_outcome b.phase t.variant
+  o = trb_outcome b.transfer.phase t.variant
 
   accepted-as : submitted lent b t ≡ submitting.accepted o b t
   unfolding submitting.submission
@@ -94,7 +94,7 @@ module _ (lent : Lent) (b : ControlBlock) (t : TransferTrb) (places : length b.t
 
     -- the block with one TRB more
     abbrev after : ControlBlock
-    after = advanced (stored b t) (transfer_after o t.variant t.addr (transfer_of b)) (state_after o t.addr)
+    after = advanced (stored b t) (transfer_after o t.variant t.addr b.transfer) (state_after o t.addr)
 
     block-after : (submitted lent b t).state.block ≡ after
     unfolding submitting.accepted submitting.block_after
@@ -106,7 +106,7 @@ module _ (lent : Lent) (b : ControlBlock) (t : TransferTrb) (places : length b.t
     places-after : length after.trbs ≡ max_held
     places-after = length-set b.trbs b.held t ∙ places
 
-    records-after : (r : Bool) → requests o ≡ r → (submitted lent b t).records ≡ cond r (control_request b.request b.endpoint_id b.slot_id ∷ []) []
+    records-after : (r : Bool) → requests o ≡ r → (submitted lent b t).records ≡ cond r (control_request b.transfer.request b.endpoint_id b.slot_id ∷ []) []
     unfolding submitting.accepted submitting.records_of
     records-after true e = ap (λ (r : Out Submitted). r.records) accepted-as ∙ rw (goes, e)
     records-after false e = ap (λ (r : Out Submitted). r.records) accepted-as ∙ rw (goes, e)
@@ -116,7 +116,7 @@ module _ (lent : Lent) (b : ControlBlock) (t : TransferTrb) (places : length b.t
     module _ (waits : state_after o t.addr ≡ CollectingTd)
         (yes : first_no (completion_questions lent.log (facts_of (submitted lent b t).state.block) None 0) ≡ 0) where
       abbrev between : ControlBlock
-      between = advanced (stored b t) (transfer_after o t.variant t.addr (transfer_of b)) NoTrbSubmitted
+      between = advanced (stored b t) (transfer_after o t.variant t.addr b.transfer) NoTrbSubmitted
 
       kept-as : collecting lent b t ≡ completing.accepted KeepCollecting (submitted lent b t).state.block
       unfolding completing.completion
@@ -180,40 +180,40 @@ last-request variant.Unrecognized a w e = absurd (false≢true (ap requests e))
 record Behind (b : ControlBlock) (us ts : List TransferTrb) (ran : Ran) : Type 0 where
   held : held_of ran.block ≡ us ++ ts
   state : ran.block.state ≡ AwaitingControlRequest
-  transfer : transfer_of ran.block ≡ transfer_behind ts (transfer_of b)
-  phase : ran.block.phase ≡ ExpectSetupStageTrb
+  transfer : ran.block.transfer ≡ transfer_behind ts b.transfer
+  phase : ran.block.transfer.phase ≡ ExpectSetupStageTrb
   places : length ran.block.trbs ≡ max_held
-  records : ran.records ≡ control_request (transfer_behind ts (transfer_of b)).request b.endpoint_id b.slot_id ∷ []
+  records : ran.records ≡ control_request (transfer_behind ts b.transfer).request b.endpoint_id b.slot_id ∷ []
   endpoint : ran.block.endpoint_id ≡ b.endpoint_id
   slot : ran.block.slot_id ≡ b.slot_id
   release : ran.block.release ≡ b.release
 
 module _ (lent : Lent) (b : ControlBlock) (us : List TransferTrb) (holds-us : held_of b ≡ us) (places : length b.trbs ≡ max_held) (t : TransferTrb) where
-  behind-last : trbs_lead b.phase (t ∷ []) ≡ true → EachAccepted lent b (t ∷ []) → Behind b us (t ∷ []) (calls_of lent b (t ∷ []))
+  behind-last : trbs_lead b.transfer.phase (t ∷ []) ≡ true → EachAccepted lent b (t ∷ []) → Behind b us (t ∷ []) (calls_of lent b (t ∷ []))
   unfolding EachAccepted calls_of trb_outcome transfer_after
   behind-last h none =
-      let this : trb_outcome b.phase t.variant ≡ SubmitRequest = last-requests (trb_outcome b.phase t.variant) h in
+      let this : trb_outcome b.transfer.phase t.variant ≡ SubmitRequest = last-requests (trb_outcome b.transfer.phase t.variant) h in
       let block = block-after lent b t places none (ap holds this) (ap restarts this) in
       record {
         held = ap held_of block ∙ held_after lent b t places none (ap holds this) (ap restarts this) ∙ ap (λ (vs : List TransferTrb). vs ++ t ∷ []) holds-us;
         state = ap (λ (c : ControlBlock). c.state) block ∙ ap (λ (o : Outcome). state_after o t.addr) this;
-        transfer = ap transfer_of block;
-        phase = ap (λ (c : ControlBlock). c.phase) block ∙ ap (λ (o : Outcome). phase_after b.phase o) this;
+        transfer = ap (λ (c : ControlBlock). c.transfer) block;
+        phase = ap (λ (c : ControlBlock). c.transfer.phase) block ∙ ap (λ (o : Outcome). phase_after b.transfer.phase o) this;
         places = ap (λ (c : ControlBlock). length c.trbs) block ∙ places-after lent b t places none (ap holds this) (ap restarts this);
         records = records-after lent b t places none (ap holds this) (ap restarts this) true (ap requests this)
-            ∙ ap (λ (q : UsbRequest). control_request q b.endpoint_id b.slot_id ∷ []) (sym (last-request t.variant t.addr (transfer_of b) this));
+            ∙ ap (λ (q : UsbRequest). control_request q b.endpoint_id b.slot_id ∷ []) (sym (last-request t.variant t.addr b.transfer this));
         endpoint = ap (λ (c : ControlBlock). c.endpoint_id) block;
         slot = ap (λ (c : ControlBlock). c.slot_id) block;
         release = ap (λ (c : ControlBlock). c.release) block;
       }
 
-  module _ (u : TransferTrb) (ts : List TransferTrb) (h : trbs_lead b.phase (t ∷ u ∷ ts) ≡ true) (all : EachAccepted lent b (t ∷ u ∷ ts)) where
+  module _ (u : TransferTrb) (ts : List TransferTrb) (h : trbs_lead b.transfer.phase (t ∷ u ∷ ts) ≡ true) (all : EachAccepted lent b (t ∷ u ∷ ts)) where
     abbrev next : ControlBlock
     next = (collecting lent b t).state.block
 
-    pub taken : Kept (trb_outcome b.phase t.variant)
+    pub taken : Kept (trb_outcome b.transfer.phase t.variant)
     unfolding trb_outcome
-    taken = kept (trb_outcome b.phase t.variant) (trbs_lead (phase_after b.phase (trb_outcome b.phase t.variant)) (u ∷ ts)) h
+    taken = kept (trb_outcome b.transfer.phase t.variant) (trbs_lead (phase_after b.transfer.phase (trb_outcome b.transfer.phase t.variant)) (u ∷ ts)) h
 
     pub first-yes : first_no (submitting.questions_of lent.log lent.collect b t lent.regions) ≡ 0
     unfolding EachAccepted
@@ -236,17 +236,17 @@ module _ (lent : Lent) (b : ControlBlock) (us : List TransferTrb) (holds-us : he
     pub places-next : length next.trbs ≡ max_held
     places-next = ap (λ (c : ControlBlock). length c.trbs) block-next ∙ places-after lent b t places first-yes taken.held taken.goes_on
 
-    pub transfer-next : transfer_of next ≡ transfer_after (trb_outcome b.phase t.variant) t.variant t.addr (transfer_of b)
-    transfer-next = ap transfer_of block-next
+    pub transfer-next : next.transfer ≡ transfer_after (trb_outcome b.transfer.phase t.variant) t.variant t.addr b.transfer
+    transfer-next = ap (λ (c : ControlBlock). c.transfer) block-next
 
-    pub leads-next : trbs_lead next.phase (u ∷ ts) ≡ true
+    pub leads-next : trbs_lead next.transfer.phase (u ∷ ts) ≡ true
     unfolding trb_outcome transfer_after
-    leads-next = ap (λ (w : ControlTransfer). trbs_lead w.phase (u ∷ ts)) transfer-next ∙ leads-rest b.phase (entry_of t) (entry_of u) (map entry_of ts) h
+    leads-next = ap (λ (w : ControlTransfer). trbs_lead w.phase (u ∷ ts)) transfer-next ∙ leads-rest b.transfer.phase (entry_of t) (entry_of u) (map entry_of ts) h
 
     behind-cons : Behind next (us ++ t ∷ []) (u ∷ ts) (calls_of lent next (u ∷ ts)) → Behind b us (t ∷ u ∷ ts) (calls_of lent b (t ∷ u ∷ ts))
     unfolding calls_of
     behind-cons rest =
-        let wider : transfer_behind (u ∷ ts) (transfer_of next) ≡ transfer_behind (t ∷ u ∷ ts) (transfer_of b) = ap (transfer_behind (u ∷ ts)) transfer-next in
+        let wider : transfer_behind (u ∷ ts) next.transfer ≡ transfer_behind (t ∷ u ∷ ts) b.transfer = ap (transfer_behind (u ∷ ts)) transfer-next in
         let endpoint : next.endpoint_id ≡ b.endpoint_id = ap (λ (c : ControlBlock). c.endpoint_id) block-next in
         let slot : next.slot_id ≡ b.slot_id = ap (λ (c : ControlBlock). c.slot_id) block-next in
         let quiet : (submitted lent b t).records ≡ [] = records-after lent b t places first-yes taken.held taken.goes_on false taken.silent in
@@ -260,14 +260,14 @@ module _ (lent : Lent) (b : ControlBlock) (us : List TransferTrb) (holds-us : he
           places = rest.places;
           records = rw (quiet, kept-quiet) (rest.records
               ∙ ap (λ (w : ControlTransfer). control_request w.request next.endpoint_id next.slot_id ∷ []) wider
-              ∙ ap (λ (e : EndpointId). control_request (transfer_behind (t ∷ u ∷ ts) (transfer_of b)).request e next.slot_id ∷ []) endpoint
-              ∙ ap (λ (s : SlotId). control_request (transfer_behind (t ∷ u ∷ ts) (transfer_of b)).request b.endpoint_id s ∷ []) slot);
+              ∙ ap (λ (e : EndpointId). control_request (transfer_behind (t ∷ u ∷ ts) b.transfer).request e next.slot_id ∷ []) endpoint
+              ∙ ap (λ (s : SlotId). control_request (transfer_behind (t ∷ u ∷ ts) b.transfer).request b.endpoint_id s ∷ []) slot);
           endpoint = rest.endpoint ∙ endpoint;
           slot = rest.slot ∙ slot;
           release = rest.release ∙ ap (λ (c : ControlBlock). c.release) block-next;
         }
 
-behind-all : (lent : Lent) (b : ControlBlock) (us ts : List TransferTrb) → held_of b ≡ us → length b.trbs ≡ max_held → trbs_lead b.phase ts ≡ true → EachAccepted lent b ts
+behind-all : (lent : Lent) (b : ControlBlock) (us ts : List TransferTrb) → held_of b ≡ us → length b.trbs ≡ max_held → trbs_lead b.transfer.phase ts ≡ true → EachAccepted lent b ts
     → Behind b us ts (calls_of lent b ts)
 behind-all lent b us [] held places h all = absurd (false≢true h)
 behind-all lent b us (t ∷ []) held places h all = behind-last lent b us held places t h all

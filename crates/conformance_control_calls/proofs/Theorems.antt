@@ -26,7 +26,7 @@ use Rattle.walks.specs.All.{all}
 use Rattle.guest_memory.specs.Places.{Memory, regions_of, bytes_at}
 use Rattle.phase_table.specs.Leads.{trbs_lead}
 use Rattle.phase_table.specs.Table.{trb_outcome}
-use Rattle.control_block.specs.Blocks.{fresh_block, held_of, transfer_of}
+use Rattle.control_block.specs.Blocks.{fresh_block, held_of}
 use Rattle.control_block.specs.Endings.{request_ending, ending_of, phase_behind}
 use Rattle.control_block.specs.Facts.{facts_of}
 use Rattle.control_block.specs.Stages.{error_address}
@@ -97,10 +97,10 @@ module _ (c : Chain) where
     unfolding trb_outcome transfer_after
     goes-out w phase = rw (phase, same) ((begun-requests p fits MaybeDataStageTrb ioc c.setup_address).direction ∙ out)
 
-    bytes-out : (lent : Lent) (m : Memory) → lent.regions ≡ regions_of m → (b : ControlBlock) → Ready b → trbs_lead b.phase (trbs_of c) ≡ true → EachAccepted lent b (trbs_of c)
+    bytes-out : (lent : Lent) (m : Memory) → lent.regions ≡ regions_of m → (b : ControlBlock) → Ready b → trbs_lead b.transfer.phase (trbs_of c) ≡ true → EachAccepted lent b (trbs_of c)
         → all allowed (sources_of (trbs_of c)) ≡ true → collected_by lent m b (trbs_of c) ≡ outgoing (bytes_at m) (sources_of (trbs_of c))
     bytes-out lent m regions b ready leads accepts short =
-        collected-transfer lent m regions b c.setup c.setup_address c.setup_cycle behind-setup ready.places leads accepts (goes-out (transfer_of b) ready.phase) one-setup short
+        collected-transfer lent m regions b c.setup c.setup_address c.setup_cycle behind-setup ready.places leads accepts (goes-out b.transfer ready.phase) one-setup short
 
 -- ---- The completion
 
@@ -141,7 +141,7 @@ unfolding cleared
 length-cleared n xs =
     length-append (replicate (min n (length xs)) blank_trb) (drop n xs) ∙ omega (arith, length-replicate (min n (length xs)) blank_trb, length-drop n xs)
 
-ready-behind : (log : ℕ) (b : ControlBlock) (r : Option ControlRequestProcessingResult) (n : ℕ) → b.state ≡ AwaitingControlRequest → b.phase ≡ ExpectSetupStageTrb → length b.trbs ≡ max_held
+ready-behind : (log : ℕ) (b : ControlBlock) (r : Option ControlRequestProcessingResult) (n : ℕ) → b.state ≡ AwaitingControlRequest → b.transfer.phase ≡ ExpectSetupStageTrb → length b.trbs ≡ max_held
     → is_given r ≡ true → first_no (completion_questions log (facts_of b) r n) ≡ 0 → Ready (completion log b r n).state.block
 unfolding accepted block_behind
 ready-behind log b r n awaits phase places given none =
@@ -152,11 +152,11 @@ ready-behind log b r n awaits phase places given none =
 
     by_result : (r : Option ControlRequestProcessingResult) → is_given r ≡ true → Ready (block_behind (request_ending r n) b)
     by_result None h = absurd (false≢true h)
-    by_result (Some device.Disconnect) h = record { due = refl; phase = ap (λ (x : ControlSubmissionState). phase_behind x b.phase) awaits ∙ phase; empty = refl; places = emptied-places }
-    by_result (Some device.Stall) h = record { due = refl; phase = ap (λ (x : ControlSubmissionState). phase_behind x b.phase) awaits ∙ phase; empty = refl; places = emptied-places }
-    by_result (Some device.TransactionError) h = record { due = refl; phase = ap (λ (x : ControlSubmissionState). phase_behind x b.phase) awaits ∙ phase; empty = refl; places = emptied-places }
-    by_result (Some device.SuccessfulControlIn) h = record { due = refl; phase = ap (λ (x : ControlSubmissionState). phase_behind x b.phase) awaits ∙ phase; empty = refl; places = emptied-places }
-    by_result (Some device.SuccessfulControlOut) h = record { due = refl; phase = ap (λ (x : ControlSubmissionState). phase_behind x b.phase) awaits ∙ phase; empty = refl; places = emptied-places }
+    by_result (Some device.Disconnect) h = record { due = refl; phase = ap (λ (x : ControlSubmissionState). phase_behind x b.transfer.phase) awaits ∙ phase; empty = refl; places = emptied-places }
+    by_result (Some device.Stall) h = record { due = refl; phase = ap (λ (x : ControlSubmissionState). phase_behind x b.transfer.phase) awaits ∙ phase; empty = refl; places = emptied-places }
+    by_result (Some device.TransactionError) h = record { due = refl; phase = ap (λ (x : ControlSubmissionState). phase_behind x b.transfer.phase) awaits ∙ phase; empty = refl; places = emptied-places }
+    by_result (Some device.SuccessfulControlIn) h = record { due = refl; phase = ap (λ (x : ControlSubmissionState). phase_behind x b.transfer.phase) awaits ∙ phase; empty = refl; places = emptied-places }
+    by_result (Some device.SuccessfulControlOut) h = record { due = refl; phase = ap (λ (x : ControlSubmissionState). phase_behind x b.transfer.phase) awaits ∙ phase; empty = refl; places = emptied-places }
 
 -- ---- The theorems
 
@@ -171,12 +171,12 @@ leading-conforms lent b ts ready leads accepts =
       same = found.1;
       requested = requested;
       packet = λ p ioc fits setup.
-          subst (λ (us : List TransferTrb). Requests p found.0.setup_address (transfer_behind us (transfer_of b))) found.1
-          (packet-requested found.0 p ioc fits setup (transfer_of b) ready.phase);
+          subst (λ (us : List TransferTrb). Requests p found.0.setup_address (transfer_behind us b.transfer)) found.1
+          (packet-requested found.0 p ioc fits setup b.transfer ready.phase);
       collected = λ m regions p ioc fits setup out.
           subst
           (λ (us : List TransferTrb).
-          trbs_lead b.phase us ≡ true → EachAccepted lent b us → all allowed (sources_of us) ≡ true → collected_by lent m b us ≡ outgoing (bytes_at m) (sources_of us))
+          trbs_lead b.transfer.phase us ≡ true → EachAccepted lent b us → all allowed (sources_of us) ≡ true → collected_by lent m b us ≡ outgoing (bytes_at m) (sources_of us))
           found.1 (bytes-out found.0 p ioc fits setup out lent m regions b ready)
           (ap (λ (x : ControlTransferState). trbs_lead x ts) ready.phase ∙ leads) accepts;
       received = λ log n none. received_as (calls_of lent b ts).block found.0 requested.state held log n none;

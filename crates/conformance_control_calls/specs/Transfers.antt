@@ -15,7 +15,7 @@ use Rattle.call_log.specs.declared.Record.{Record}
 use Rattle.walks.specs.All.{all}
 use Rattle.guest_memory.specs.declared.Regions.{Regions}
 use Rattle.guest_memory.specs.Places.{Memory, regions_of, bytes_at}
-use Rattle.control_block.specs.Blocks.{held_of, transfer_of}
+use Rattle.control_block.specs.Blocks.{held_of}
 use Rattle.control_block.specs.Facts.{facts_of}
 use Rattle.control_block.specs.declared.ControlBlock.{ControlBlock}
 use Rattle.control_questions.specs.Completion.{is_given, completion_questions}
@@ -66,7 +66,7 @@ calls_of lent b (t ∷ u ∷ ts) =
 -- a block that holds nothing, expects Setup, and has a submission due
 pub record Ready (b : ControlBlock) : Type 0 where
   pub due : b.state ≡ NoTrbSubmitted
-  pub phase : b.phase ≡ ExpectSetupStageTrb
+  pub phase : b.transfer.phase ≡ ExpectSetupStageTrb
   pub empty : b.held ≡ 0
   pub places : length b.trbs ≡ max_held
 
@@ -74,11 +74,11 @@ pub record Ready (b : ControlBlock) : Type 0 where
 pub record Requested (b : ControlBlock) (ts : List TransferTrb) (ran : Ran) : Type 0 where
   pub held : held_of ran.block ≡ ts
   pub state : ran.block.state ≡ AwaitingControlRequest
-  pub transfer : transfer_of ran.block ≡ transfer_behind ts (transfer_of b)
+  pub transfer : ran.block.transfer ≡ transfer_behind ts b.transfer
   -- another Setup is expected behind it
-  pub phase : ran.block.phase ≡ ExpectSetupStageTrb
+  pub phase : ran.block.transfer.phase ≡ ExpectSetupStageTrb
   pub places : length ran.block.trbs ≡ max_held
-  pub records : ran.records ≡ control_request (transfer_behind ts (transfer_of b)).request b.endpoint_id b.slot_id ∷ []
+  pub records : ran.records ≡ control_request (transfer_behind ts b.transfer).request b.endpoint_id b.slot_id ∷ []
   -- ids and release are the block's own
   pub endpoint : ran.block.endpoint_id ≡ b.endpoint_id
   pub slot : ran.block.slot_id ≡ b.slot_id
@@ -136,7 +136,7 @@ pub record Conforms (lent : Lent) (b : ControlBlock) (ts : List TransferTrb) : T
   pub same : trbs_of chain ≡ ts
   pub requested : Requested b ts (calls_of lent b ts)
   -- USB 2.0, 9.3: the request has the fields of the setup packet
-  pub packet : (p : Setup) (ioc : Bool) → Sized p → chain.setup ≡ setup_trb p ioc → Requests p chain.setup_address (transfer_behind ts (transfer_of b))
+  pub packet : (p : Setup) (ioc : Bool) → Sized p → chain.setup ≡ setup_trb p ioc → Requests p chain.setup_address (transfer_behind ts b.transfer)
   -- 4.9.1, 6.4.1.1: what an OUT transfer collects are the bytes that go out
   pub collected : (m : Memory) → lent.regions ≡ regions_of m → (p : Setup) (ioc : Bool) → Sized p → chain.setup ≡ setup_trb p ioc → to_host p ≡ false
       → all allowed (sources_of ts) ≡ true → collected_by lent m b ts ≡ outgoing (bytes_at m) (sources_of ts)

@@ -20,11 +20,8 @@ block_of e s release transfer state held trbs = record {
   endpoint_id = e;
   slot_id = s;
   release = release;
-  phase = transfer.phase;
   state = state;
-  direction = transfer.direction;
-  request = transfer.request;
-  collected = transfer.collected;
+  transfer = transfer;
   held = held;
   trbs = trbs;
 }
@@ -32,9 +29,6 @@ block_of e s release transfer state held trbs = record {
 -- the block b with these in place of its own; what its creation gave it stays
 abbrev pub changed : ControlBlock → ControlTransfer → ControlSubmissionState → ℕ → List TransferTrb → ControlBlock
 changed b transfer state held trbs = block_of b.endpoint_id b.slot_id b.release transfer state held trbs
-
-abbrev pub transfer_of : ControlBlock → ControlTransfer
-transfer_of b = record { phase = b.phase; direction = b.direction; request = b.request; collected = b.collected }
 
 -- the transfer w at this phase
 abbrev pub at_phase : ControlTransferState → ControlTransfer → ControlTransfer
@@ -57,11 +51,11 @@ held_of b = take b.held b.trbs
 
 -- one TRB more is held
 abbrev pub stored : ControlBlock → TransferTrb → ControlBlock
-stored b t = changed b (transfer_of b) b.state (b.held + 1) (set b.trbs b.held t)
+stored b t = changed b b.transfer b.state (b.held + 1) (set b.trbs b.held t)
 
 -- 01, Questions asked: nothing is held any more, and the places freed are blank
 abbrev pub emptied : ControlBlock → ControlBlock
-emptied b = changed b (transfer_of b) b.state 0 (cleared b.held b.trbs)
+emptied b = changed b b.transfer b.state 0 (cleared b.held b.trbs)
 
 abbrev pub advanced : ControlBlock → ControlTransfer → ControlSubmissionState → ControlBlock
 advanced b transfer state = changed b transfer state b.held b.trbs

@@ -31,10 +31,10 @@ abbrev pub facts_of : ControlBlock → BlockFacts
 facts_of b = record {
   endpoint_id = b.endpoint_id;
   slot_id = b.slot_id;
-  phase = b.phase;
+  phase = b.transfer.phase;
   state = b.state;
-  direction = b.direction;
-  collected = b.collected;
+  direction = b.transfer.direction;
+  collected = b.transfer.collected;
   held = b.held;
   sound = held_sound Control (held_of b);
 }

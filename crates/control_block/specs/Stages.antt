@@ -7,6 +7,7 @@ use Rattle.control_block.specs.declared.ControlBlock.{ControlBlock}
 use Rattle.control_block.specs.declared.GuestRelease.{GuestRelease}
 use Rattle.control_block.specs.declared.GuestRelease.TheVariants.{Release4, Release5}
 use Rattle.control_block.specs.declared.StageFound.{StageFound}
+use Rattle.control_block.specs.declared.StageFound.TheVariants as found
 use Rattle.control_block.specs.Blocks.{held_of}
 
 abbrev pub is_data_stage : TransferTrbVariant → Bool
@@ -45,17 +46,19 @@ address_for Release5 setup stage = stage
 
 -- where the event of a failed transfer of the block b goes
 unfoldable pub error_address : ControlBlock → ℕ
-error_address b = address_for b.release b.request.address (stage_address (held_of b) b.request.address)
+error_address b = address_for b.release b.transfer.request.address (stage_address (held_of b) b.transfer.request.address)
 
 -- ---- The same, TRB by TRB
 
--- no stage is found yet
-abbrev pub no_stage : (setup : ℕ) → StageFound
-no_stage setup = record { data_stage = false; status_stage = false; addr = setup }
-
 -- a TRB has its turn: the first Data Stage TRB counts, even behind a Status Stage TRB
 unfoldable pub stage_with : StageFound → TransferTrb → StageFound
-stage_with s t =
-    cond s.data_stage s
-    (cond (is_data_stage t.variant) (record { data_stage = true; status_stage = s.status_stage; addr = t.addr })
-    (cond s.status_stage s (cond (is_status_stage t.variant) (record { data_stage = false; status_stage = true; addr = t.addr }) s)))
+stage_with (found.Neither a) t =
+    cond (is_data_stage t.variant) (found.DataStage t.addr) (cond (is_status_stage t.variant) (found.StatusStage t.addr) (found.Neither a))
+stage_with (found.StatusStage a) t = cond (is_data_stage t.variant) (found.DataStage t.addr) (found.StatusStage a)
+stage_with (found.DataStage a) t = found.DataStage a
+
+-- the address that the event goes to
+abbrev pub found_address : StageFound → ℕ
+found_address (found.Neither a) = a
+found_address (found.StatusStage a) = a
+found_address (found.DataStage a) = a

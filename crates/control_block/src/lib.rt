@@ -8,7 +8,7 @@ ghost use Rattle.control_block.specs.Numbers.{release_of, phase_of};
 ghost use Rattle.control_block.specs.Blocks.{no_transfer, at_phase, fresh_block, held_of, stored, advanced};
 ghost use Rattle.control_block.specs.Facts.{facts_of, sound_block, submission_due, awaits_device};
 ghost use Rattle.control_block.specs.Endings.{request_ending, ending_of, result_of, places_freed, phase_behind};
-ghost use Rattle.control_block.specs.Stages.{stage_address, address_for, error_address, no_stage, stage_with};
+ghost use Rattle.control_block.specs.Stages.{stage_address, address_for, error_address, stage_with, found_address};
 
 use held::EndpointKind;
 use trb::{
@@ -25,31 +25,28 @@ pub enum GuestRelease {
     Release5,
 }
 
+// What a block knows of its transfer; the Rust's `ControlTransfer`. How many bytes are collected, and below how many TRBs are held, has no
+// bound by its type: any bytes are a block, and question 2 asks for the bound.
+#[derive(Clone, Copy)]
+pub struct ControlTransfer {
+    pub phase: ControlTransferState,
+    // Of the request: is it IN?
+    pub direction: bool,
+    pub request: UsbRequest,
+    // Bytes of an OUT transfer in the collect buffer.
+    pub collected: usize,
+}
+
 #[derive(Clone, Copy)]
 pub struct ControlBlock {
     pub endpoint_id: EndpointId,
     pub slot_id: SlotId,
     pub release: GuestRelease,
-    pub phase: ControlTransferState,
     pub state: ControlSubmissionState,
-    // Of the transfer's request: is it IN?
-    pub direction: bool,
-    pub request: UsbRequest,
-    // Bytes of an OUT transfer in the collect buffer.
-    pub collected: usize,
-    // Of the places, the first so many are held. Places and their count, with no heap: a script makes blocks that say any count, and question 2 asks for the bound.
+    pub transfer: ControlTransfer,
+    // Of the places, the first so many are held. Places and their count, since there is no heap; question 2 asks any block for the bound.
     pub held: usize,
     pub trbs: [TransferTrb; trb::MAX_HELD],
-}
-
-// What a block knows of its transfer; the Rust's `ControlTransfer`. How many bytes are collected, and above how many TRBs are held, has no bound by its type: any
-// bytes are a block, and question 2 asks for the bound.
-#[derive(Clone, Copy)]
-pub struct ControlTransfer {
-    pub phase: ControlTransferState,
-    pub direction: bool,
-    pub request: UsbRequest,
-    pub collected: usize,
 }
 
 // The TRBs that are held: no more than there are places.
@@ -86,6 +83,7 @@ pub fn phase_of(number: u8) -> ControlTransferState
 
 // ---- Changes
 
+// Of a fresh block, as 01 lists it. No `Default`: those of the phase and the request would stand in `trb`, apart from what 01 says here.
 fn no_transfer() -> ControlTransfer
     ensures { result ≡ no_transfer }
 {
@@ -108,16 +106,12 @@ fn no_transfer() -> ControlTransfer
 pub fn fresh(endpoint_id: EndpointId, slot_id: SlotId, release: GuestRelease) -> ControlBlock
     ensures { result ≡ fresh_block endpoint_id slot_id release }
 {
-    let transfer = no_transfer();
     ControlBlock {
         endpoint_id,
         slot_id,
         release,
-        phase: transfer.phase,
         state: ControlSubmissionState::NoTrbSubmitted,
-        direction: transfer.direction,
-        request: transfer.request,
-        collected: transfer.collected,
+        transfer: no_transfer(),
         held: 0,
         trbs: [held::blank(); trb::MAX_HELD],
     }
@@ -131,14 +125,12 @@ pub fn at_phase(transfer: ControlTransfer, phase: ControlTransferState) -> Contr
 }
 
 // One TRB more is held. `in_block` has the same: what the two share is the store to a place, which is one line.
-pub fn store(block: ControlBlock, t: TransferTrb) -> ControlBlock
-    requires { block.held < max_held }
-    ensures { result ≡ stored block t }
+pub fn store(block: &mut ControlBlock, t: TransferTrb)
+    requires { block.old.held < max_held }
+    ensures { block.new ≡ stored block.old t }
 {
-    let mut next = block;
-    next.trbs[block.held] = t;
-    next.held += 1;
-    next
+    block.trbs[block.held] = t;
+    block.held += 1;
 }
 
 // The transfer is at this, and so is the endpoint.
@@ -150,11 +142,8 @@ pub fn advance(
     ensures { result ≡ advanced block transfer state }
 {
     ControlBlock {
-        phase: transfer.phase,
         state,
-        direction: transfer.direction,
-        request: transfer.request,
-        collected: transfer.collected,
+        transfer,
         ..block
     }
 }
@@ -181,10 +170,10 @@ pub fn facts_of(block: &ControlBlock) -> BlockFacts
     BlockFacts {
         endpoint_id: block.endpoint_id,
         slot_id: block.slot_id,
-        phase: block.phase,
+        phase: block.transfer.phase,
         state: block.state,
-        direction: block.direction,
-        collected: block.collected,
+        direction: block.transfer.direction,
+        collected: block.transfer.collected,
         held: block.held,
         sound: held::are_sound(EndpointKind::Control, held_of(block)),
     }
@@ -286,7 +275,7 @@ pub fn result_of(ending: Ending) -> TrbProcessingResult
     }
 }
 
-// How many of the `held` TRBs are held no more.
+// How many of the `held` TRBs are held no more: all of them, but where TRBs are still collected.
 pub fn places_freed(ending: Ending, held: usize) -> usize
     ensures { result ≡ places_freed ending held }
 {
@@ -311,25 +300,14 @@ pub fn phase_behind(
 
 // ---- Where the event of a failed transfer goes
 
-// The stage found among the TRBs held so far: the first Data Stage TRB, failing that the first Status Stage TRB. What is found TRB by TRB, also in bytes: no
-// search through a list.
+// The stage found among the TRBs held so far: the first Data Stage TRB, failing that the first Status Stage TRB. Each case has the address
+// that the event goes to.
 #[derive(Clone, Copy)]
-pub struct StageFound {
-    pub data_stage: bool,
-    pub status_stage: bool,
-    // Of that TRB; where there is none, of the Setup TRB.
-    pub addr: u64,
-}
-
-// Before a TRB was looked at: the event of a failed transfer goes to the Setup TRB.
-pub fn no_stage(setup_address: u64) -> StageFound
-    ensures { result ≡ no_stage setup_address }
-{
-    StageFound {
-        data_stage: false,
-        status_stage: false,
-        addr: setup_address,
-    }
+pub enum StageFound {
+    // Of the Setup TRB.
+    Neither(u64),
+    StatusStage(u64),
+    DataStage(u64),
 }
 
 // One TRB more is looked at.
@@ -337,21 +315,28 @@ pub fn no_stage(setup_address: u64) -> StageFound
 pub fn stage_with(so_far: StageFound, t: TransferTrb) -> StageFound
     ensures { result ≡ stage_with so_far t }
 {
-    if so_far.data_stage {
-        return so_far;
+    match so_far {
+        StageFound::Neither(_) => match t.variant {
+            TransferTrbVariant::DataStage(_) => StageFound::DataStage(t.addr),
+            TransferTrbVariant::StatusStage(_) => StageFound::StatusStage(t.addr),
+            _ => so_far,
+        },
+        StageFound::StatusStage(_) => match t.variant {
+            TransferTrbVariant::DataStage(_) => StageFound::DataStage(t.addr),
+            _ => so_far,
+        },
+        StageFound::DataStage(_) => so_far,
     }
-    match t.variant {
-        TransferTrbVariant::DataStage(_) => StageFound {
-            data_stage: true,
-            addr: t.addr,
-            ..so_far
-        },
-        TransferTrbVariant::StatusStage(_) if !so_far.status_stage => StageFound {
-            status_stage: true,
-            addr: t.addr,
-            ..so_far
-        },
-        _ => so_far,
+}
+
+// The address of the stage that was found.
+pub fn found_address(found: StageFound) -> u64
+    ensures { result ≡ found_address found }
+{
+    match found {
+        StageFound::Neither(addr) | StageFound::StatusStage(addr) | StageFound::DataStage(addr) => {
+            addr
+        }
     }
 }
 
@@ -359,9 +344,9 @@ pub fn stage_with(so_far: StageFound, t: TransferTrb) -> StageFound
 fn stage_address(trbs: &[TransferTrb], setup_address: u64) -> u64
     ensures { result ≡ stage_address trbs.now setup_address }
 {
-    trbs.iter()
-        .fold(no_stage(setup_address), |so_far, t| stage_with(so_far, *t))
-        .addr
+    let none = StageFound::Neither(setup_address);
+    let found = trbs.iter().fold(none, |so_far, t| stage_with(so_far, *t));
+    found_address(found)
 }
 
 // Where the event goes, by the block's rule.
@@ -379,7 +364,7 @@ pub fn address_for(release: GuestRelease, setup_address: u64, stage_address: u64
 pub fn error_address(block: &ControlBlock) -> u64
     ensures { result ≡ error_address block.now }
 {
-    let setup_address = block.request.address;
+    let setup_address = block.transfer.request.address;
     address_for(
         block.release,
         setup_address,

@@ -2,6 +2,7 @@
 use Prim.Native.Nat.{ℕ, ◌+◌, ◌≤◌}
 use mathlib.Core.Path.{◌≡◌, refl, sym, ap, ◌∙◌}
 use mathlib.Core.Bool.{Bool, true, false, cond}
+use mir.Val.{bool_byte}
 use mathlib.Core.List.{List, ◌++◌}
 use native.Mathlib.Omega.{arith}
 use lib.Dec.{eqb}
@@ -43,6 +44,11 @@ state-said AwaitingControlRequest = refl
 pub direction-said : (b : Bool) → direction_of (direction_number b) ≡ b
 direction-said true = refl
 direction-said false = refl
+
+-- a direction as a byte
+pub direction-byte : (b : Bool) → bool_byte b ≡ direction_number b
+direction-byte true = refl
+direction-byte false = refl
 
 -- ---- The head from byte 4 on
 

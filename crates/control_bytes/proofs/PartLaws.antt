@@ -16,7 +16,6 @@ use Rattle.held_bytes.specs.Places.{control_layout}
 use Rattle.held_bytes.proofs.ByteLaws.{take-drop-before, drop-behind}
 use Rattle.control_block.specs.declared.ControlTransfer.{ControlTransfer}
 use Rattle.control_block.specs.Blocks as blocks
-use Rattle.control_block.specs.Blocks.{transfer_of}
 use Rattle.control_block.specs.Numbers.{release_of, phase_of}
 use Rattle.control_bytes.specs.Head.{phase_number, state_of, state_number, state_address, direction_of, direction_number, transfer_at, turn_cells, count_cells}
 use Rattle.control_bytes.specs.Layout.{head_length, places_in, held_at, block_of}
@@ -62,7 +61,7 @@ module _ (b : List ℕ) (phase : ControlTransferState) (s : ControlSubmissionSta
   abbrev turn : List ℕ
   turn = turn_cells (phase_number phase) (state_number s) (direction_number direction) (state_address s)
 
-  pub turn-headed : (b' : List ℕ) → b' ≡ patch b 4 turn → Headed b (turned phase direction (transfer_of (block_of b))) s (block_of b).held b'
+  pub turn-headed : (b' : List ℕ) → b' ≡ patch b 4 turn → Headed b (turned phase direction (block_of b).transfer) s (block_of b).held b'
   unfolding block_of
   turn-headed =
       let now : List ℕ = patch b 4 turn in
@@ -80,7 +79,7 @@ module _ (b : List ℕ) (phase : ControlTransferState) (s : ControlSubmissionSta
       let index = field 28 2 (omega arith) in
       let asked = field 40 4 (omega arith) in
       let collected = field 32 8 (omega arith) in
-      headed-by b 4 turn (omega arith) (omega arith) long (turned phase direction (transfer_of (block_of b))) s (block_of b).held
+      headed-by b 4 turn (omega arith) (omega arith) long (turned phase direction (block_of b).transfer) s (block_of b).held
       (λ j. record {
         phase = at j;
         direction = towards j;
@@ -95,7 +94,7 @@ module _ (b : List ℕ) (collected asked held : ℕ) (long : head_length ≤ len
   abbrev counts : List ℕ
   counts = count_cells collected asked held
 
-  pub counts-headed : (b' : List ℕ) → b' ≡ patch b 32 counts → Headed b (counting collected asked (transfer_of (block_of b))) (block_of b).state held b'
+  pub counts-headed : (b' : List ℕ) → b' ≡ patch b 32 counts → Headed b (counting collected asked (block_of b).transfer) (block_of b).state held b'
   unfolding block_of
   counts-headed =
       let now : List ℕ = patch b 32 counts in
@@ -113,7 +112,7 @@ module _ (b : List ℕ) (collected asked held : ℕ) (long : head_length ≤ len
       let collected-now : le_field 32 8 now ≡ collected = field_stored b counts 32 0 8 (omega arith) ∙ le_number-le_bytes 8 collected few in
       let asked-now : le_field 40 4 now ≡ asked = field_stored b counts 32 8 4 (omega arith) ∙ le_number-le_bytes 4 asked short in
       let held-now : held_at now ≡ held = field_stored b counts 32 12 4 (omega arith) ∙ le_number-le_bytes 4 held places in
-      headed-by b 32 counts (omega arith) (omega arith) long (counting collected asked (transfer_of (block_of b))) (block_of b).state held
+      headed-by b 32 counts (omega arith) (omega arith) long (counting collected asked (block_of b).transfer) (block_of b).state held
       (λ j. record {
         phase = phase_of (phase j);
         direction = direction_of (direction j);

@@ -50,16 +50,6 @@ next_place i = rw mul-suc (omega arith)
 from_next : (i : ℕ) (l : List ℕ) → drop (place_length * i) (drop place_length l) ≡ drop (place_length * suc i) l
 from_next i l = drop-drop (place_length * i) place_length l ∙ ap (λ (k : ℕ). drop k l) (next_place i)
 
-get_or-places_of : (n : ℕ) (l : List ℕ) (i : ℕ) (d : TransferTrb) → i < n → get_or (places_of n l) i d ≡ place_of (drop (place_length * i) l)
-unfolding places_of
-get_or-places_of zero l i d h = absurd (not-suc-le-zero h)
-get_or-places_of (suc n) l zero d h = refl
-get_or-places_of (suc n) l (suc i) d h = get_or-places_of n (drop place_length l) i d (omega arith) ∙ ap place_of (from_next i l)
-
--- of a block's bytes
-pub place_at : (b : List ℕ) (n i : ℕ) (d : TransferTrb) → i < n → get_or (places_of n (drop head_length b)) i d ≡ place_of (drop (head_length + place_length * i) b)
-place_at b n i d h = get_or-places_of n (drop head_length b) i d h ∙ ap place_of (drop-drop (place_length * i) head_length b)
-
 pub take-places_of : (n m : ℕ) (l : List ℕ) → n ≤ m → take n (places_of m l) ≡ places_of n l
 unfolding places_of
 take-places_of zero m l h = refl

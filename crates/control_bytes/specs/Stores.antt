@@ -45,6 +45,6 @@ pub record Placed (b : List ℕ) (n : ℕ) (t : TransferTrb) (b' : List ℕ) : T
   pub endpoint : (block_of b').endpoint_id ≡ (block_of b).endpoint_id
   pub slot : (block_of b').slot_id ≡ (block_of b).slot_id
   pub rule : (block_of b').release ≡ (block_of b).release
-  pub transfer : blocks.transfer_of (block_of b') ≡ blocks.transfer_of (block_of b)
+  pub transfer : (block_of b').transfer ≡ (block_of b).transfer
   pub behind : drop block_length b' ≡ drop block_length b
   pub long : length b' ≡ length b

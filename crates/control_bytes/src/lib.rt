@@ -2,16 +2,14 @@
 // bytes are.
 #![tactic(auto)]
 
-ghost use Rattle.std.specs.Prelude.{◌≡◌, true, ◌+◌, ◌*◌, ◌<◌, ◌≤◌, ◌^◌, length, drop};
+ghost use Rattle.std.specs.Prelude.{◌≡◌, true, ◌<◌, ◌≤◌, ◌^◌, length, map, take};
 ghost use Rattle.trb.specs.Limits.{max_held, max_transfer_length};
 ghost use Rattle.trb.specs.Trbs.{transfer_length};
 ghost use Rattle.held.specs.Sound.{supported};
 ghost use Rattle.held.specs.declared.EndpointKind.TheVariants.{Control};
 ghost use Rattle.held_bytes.specs.Numbers.{trb_of};
-ghost use Rattle.held_bytes.specs.Places.{place_length};
-ghost use Rattle.control_block.specs.Blocks.{transfer_of};
 ghost use Rattle.control_block.specs.Facts.{facts_of};
-ghost use Rattle.control_bytes.specs.Head.{phase_number, state_of, state_number, state_address, direction_number, request_at, head_cells, turn_cells, count_cells};
+ghost use Rattle.control_bytes.specs.Head.{phase_number, state_of, state_number, state_address, direction_number, request_at, head_bytes, turn_cells, count_cells};
 ghost use Rattle.control_bytes.specs.Layout.{head_length, block_length, held_type, place_of, id_at, block_of};
 ghost use Rattle.control_bytes.specs.Stores.{turned, counting, fresh_head, Headed, Made, Placed};
 
@@ -27,7 +25,7 @@ pub const HEAD: usize = 48;
 // Bytes of a block. It is lent as a slice, and each function asks that the slice is long enough: see `in_bytes`.
 pub const BLOCK: usize = HEAD + held_bytes::PLACE * trb::MAX_HELD;
 
-// ---- Numbers: constants and no enum, since any byte is a state.
+// ---- Numbers: constants and no enum, since any byte is a state; and no `From`, since the enums are trb's and the numbers this layout's.
 
 const NOTHING_SUBMITTED: u8 = 0;
 
@@ -79,12 +77,6 @@ fn state_address(state: ControlSubmissionState) -> u64
         }
         _ => 0,
     }
-}
-
-fn direction_number(direction: bool) -> u8
-    ensures { result ≡ direction_number direction }
-{
-    direction as u8
 }
 
 // ---- Reading
@@ -164,7 +156,7 @@ fn request(block: &[u8]) -> UsbRequest
 #[tactic(auto, unfolding(crate::specs::Layout::block_of))]
 pub fn transfer(block: &[u8]) -> ControlTransfer
     requires { head_length ≤ length block.now }
-    ensures { result ≡ transfer_of (block_of block.now) }
+    ensures { result ≡ (block_of block.now).transfer }
 {
     ControlTransfer {
         phase: control_block::phase_of(block[4]),
@@ -174,7 +166,8 @@ pub fn transfer(block: &[u8]) -> ControlTransfer
     }
 }
 
-// What the questions ask about. Every place that is held is sound, whatever its bytes: so the facts are given one by one, and not by `facts_of` of a block.
+// What the questions ask about. Every place that is held is sound, whatever its bytes: so the facts are given one by one, and not by
+// `facts_of` of a block.
 pub fn facts(block: &[u8]) -> BlockFacts
     requires { head_length ≤ length block.now }
     ensures { result ≡ facts_of (block_of block.now) }
@@ -204,13 +197,21 @@ fn held_type(kind: u8) -> u8
     }
 }
 
+// The first `count` places, each by its bytes, where so many are held.
+pub fn held_places(block: &[u8], count: usize) -> &[[u8; held_bytes::PLACE]]
+    requires { (block_length ≤ length block.now) × ((count ≤ (block_of block.now).held) × (count ≤ max_held)) }
+    ensures trbs { map place_of result.now ≡ take count (block_of block.now).trbs }
+    ensures count { length result.now ≡ count }
+{
+    &block[HEAD..].as_chunks().0[..count]
+}
+
 // The TRB in a place that is held, by numbers.
 #[tactic(auto, unfolding(crate::specs::Layout::place_of))]
-pub fn numbers_at(block: &[u8], i: usize) -> TrbNumbers
-    requires { head_length + place_length * (i + 1) ≤ length block.now }
-    ensures { trb_of result ≡ place_of (drop (head_length + place_length * i) block.now) }
+pub fn numbers_in(place: &[u8; held_bytes::PLACE]) -> TrbNumbers
+    ensures { trb_of result ≡ place_of place.now }
 {
-    let numbers = held_bytes::numbers_at(block, HEAD + held_bytes::PLACE * i);
+    let numbers = held_bytes::numbers_at(place, 0);
     TrbNumbers {
         kind: held_type(numbers.kind),
         ..numbers
@@ -218,44 +219,33 @@ pub fn numbers_at(block: &[u8], i: usize) -> TrbNumbers
 }
 
 // The TRB in a place that is held.
-pub fn trb_at(block: &[u8], i: usize) -> TransferTrb
-    requires { head_length + place_length * (i + 1) ≤ length block.now }
-    ensures { result ≡ place_of (drop (head_length + place_length * i) block.now) }
+pub fn trb_in(place: &[u8; held_bytes::PLACE]) -> TransferTrb
+    ensures { result ≡ place_of place.now }
 {
-    held_bytes::trb_of(numbers_at(block, i))
+    held_bytes::trb_of(numbers_in(place))
 }
 
 // ---- Storing
 
 // The bytes of the head from 4 on.
-fn encoded(
-    phase: u8,
-    state: u8,
-    direction: u8,
-    state_address: u64,
-    address: u64,
-    request_type: u8,
-    request: u8,
-    value: u16,
-    index: u16,
-    collected: u64,
-    request_length: u32,
-    held: u32,
-) -> [u8; 44]
-    ensures { result ≡ head_cells phase state direction state_address address request_type request value index collected request_length held }
+fn encoded(transfer: ControlTransfer, state: ControlSubmissionState, held: u32) -> [u8; 44]
+    ensures cells { result ≡ head_bytes transfer state held }
+    ensures address { state_address state < 256 ^ 8 }
 {
+    let request = transfer.request;
+    let collected = transfer.collected as u64;
     let mut cells = [0; 44];
-    cells[0] = phase;
-    cells[1] = state;
-    cells[2] = direction;
-    cells[4..12].copy_from_slice(&state_address.to_le_bytes());
-    cells[12..20].copy_from_slice(&address.to_le_bytes());
-    cells[20] = request_type;
-    cells[21] = request;
-    cells[22..24].copy_from_slice(&value.to_le_bytes());
-    cells[24..26].copy_from_slice(&index.to_le_bytes());
+    cells[0] = phase_number(transfer.phase);
+    cells[1] = state_number(state);
+    cells[2] = u8::from(transfer.direction);
+    cells[4..12].copy_from_slice(&state_address(state).to_le_bytes());
+    cells[12..20].copy_from_slice(&request.address.to_le_bytes());
+    cells[20] = request.request_type;
+    cells[21] = request.request;
+    cells[22..24].copy_from_slice(&request.value.to_le_bytes());
+    cells[24..26].copy_from_slice(&request.index.to_le_bytes());
     cells[28..36].copy_from_slice(&collected.to_le_bytes());
-    cells[36..40].copy_from_slice(&request_length.to_le_bytes());
+    cells[36..40].copy_from_slice(&request.length.to_le_bytes());
     cells[40..].copy_from_slice(&held.to_le_bytes());
     cells
 }
@@ -270,33 +260,23 @@ pub fn put_head(
     requires { (head_length ≤ length block.old) × (held < 2 ^ 32) }
     ensures { Headed block.old transfer state held block.new }
 {
-    let request = transfer.request;
-    let cells = encoded(
-        phase_number(transfer.phase),
-        state_number(state),
-        direction_number(transfer.direction),
-        state_address(state),
-        request.address,
-        request.request_type,
-        request.request,
-        request.value,
-        request.index,
-        transfer.collected as u64,
-        request.length,
-        held as u32,
-    );
-    buffers::copy_into(block, 4, &cells);
+    buffers::copy_into(block, 4, &encoded(transfer, state, held as u32));
 }
 
 // The bytes of the head from 4 to 15.
-fn turn_cells(phase: u8, state: u8, direction: u8, state_address: u64) -> [u8; 12]
-    ensures { result ≡ turn_cells phase state direction state_address }
+fn turn_cells(
+    phase: ControlTransferState,
+    state: ControlSubmissionState,
+    direction: bool,
+) -> [u8; 12]
+    ensures cells { result ≡ turn_cells (phase_number phase) (state_number state) (direction_number direction) (state_address state) }
+    ensures address { state_address state < 256 ^ 8 }
 {
     let mut cells = [0; 12];
-    cells[0] = phase;
-    cells[1] = state;
-    cells[2] = direction;
-    cells[4..].copy_from_slice(&state_address.to_le_bytes());
+    cells[0] = phase_number(phase);
+    cells[1] = state_number(state);
+    cells[2] = u8::from(direction);
+    cells[4..].copy_from_slice(&state_address(state).to_le_bytes());
     cells
 }
 
@@ -308,15 +288,9 @@ pub fn put_turn(
     direction: bool,
 )
     requires { head_length ≤ length block.old }
-    ensures { Headed block.old (turned phase direction (transfer_of (block_of block.old))) state (block_of block.old).held block.new }
+    ensures { Headed block.old (turned phase direction (block_of block.old).transfer) state (block_of block.old).held block.new }
 {
-    let cells = turn_cells(
-        phase_number(phase),
-        state_number(state),
-        direction_number(direction),
-        state_address(state),
-    );
-    buffers::copy_into(block, 4, &cells);
+    buffers::copy_into(block, 4, &turn_cells(phase, state, direction));
 }
 
 // The bytes of the head from 32 to 47.
@@ -333,7 +307,7 @@ fn count_cells(collected: u64, request_length: u32, held: u32) -> [u8; 16]
 // So many bytes are collected, so many asked for, and the first `held` places held; what else the head says stays.
 pub fn put_counts(block: &mut [u8], collected: usize, request_length: u32, held: usize)
     requires { (head_length ≤ length block.old) × (held < 2 ^ 32) }
-    ensures { Headed block.old (counting collected request_length (transfer_of (block_of block.old))) (block_of block.old).state held block.new }
+    ensures { Headed block.old (counting collected request_length (block_of block.old).transfer) (block_of block.old).state held block.new }
 {
     let cells = count_cells(collected as u64, request_length, held as u32);
     buffers::copy_into(block, 32, &cells);
@@ -360,8 +334,8 @@ pub fn make(block: &mut [u8], endpoint_id: u8, slot_id: u8, release: u8)
     buffers::copy_into(block, 0, &cells);
 }
 
-// The TRB is in the place behind the `i` that are held. Of an IN block this is `in_bytes::put_trb`: what both store is `put_place`'s, and what they promise is of
-// two layouts.
+// The TRB is in the place behind the `i` that are held. Of an IN block this is `in_bytes::put_trb`: what both store is `put_place`'s, and
+// what they promise is of two layouts.
 pub fn put_trb(block: &mut [u8], i: usize, numbers: TrbNumbers)
     requires block_length_in_bounds { (block_length ≤ length block.old) × (i < max_held) }
     requires numbers_value { (supported Control (trb_of numbers).variant ≡ true) × (transfer_length (trb_of numbers).variant ≤ max_transfer_length) }

@@ -121,7 +121,7 @@ length-take-most k l h = rw (length-take k l) (omega arith)
 
 -- the collect buffer behind a submission, of which as much was lent as there is
 pub collected-behind : {k : ℕ} {part : List ℕ} (b : ControlBlock) (t : TransferTrb) (lent : ℕ) (collect log : List ℕ) (m : Memory) → k ≡ min lent (length collect)
-    → part ≡ patch (take k collect) b.collected (bytes_collected (length log) (length (take k collect)) b t m)
+    → part ≡ patch (take k collect) b.transfer.collected (bytes_collected (length log) (length (take k collect)) b t m)
     → part ++ drop k collect ≡ collect_after b t lent collect log m
 unfolding collect_after
 collected-behind {k = k} b t lent collect log m e h =
@@ -134,7 +134,7 @@ module _ (b : ControlBlock) (lent : ℕ) (bytes collect log : List ℕ) (m : Mem
   pub bad-call : (call : Call) → ((t : TransferTrb) → call ≡ Submit t → ⊥) → ((s : DeviceStatus) (n : ℕ) → call ≡ CompleteWithResult s n → ⊥) → ((n : ℕ) → call ≡ CompleteWithout n → ⊥) → (call ≡ Cancel → ⊥)
       → ((t : TransferTrb) → call ≡ Hold t → ⊥) → ((phase : ControlTransferState) (state : ControlSubmissionState) (direction : Bool) (n : ℕ) → call ≡ MakeUpControl phase state direction n → ⊥) → control_call b call bytes lent collect log m ≡ called (bad_said b) log m
   unfolding control_call
-  bad-call (Window a b c d) submit with_result without cancel hold make_up = refl
+  bad-call (Window window) submit with_result without cancel hold make_up = refl
   bad-call (Buffers l c) submit with_result without cancel hold make_up = refl
   bad-call (CreateIn e s mode) submit with_result without cancel hold make_up = refl
   bad-call (CreateControl e s release) submit with_result without cancel hold make_up = refl
@@ -155,7 +155,7 @@ module _ (b : ControlBlock) (lent : ℕ) (collect log : List ℕ) (m : Memory) w
   -- a call that submits nothing leaves the collect buffer
   pub kept-collect : (call : Call) → ((t : TransferTrb) → call ≡ Submit t → ⊥) → collect_behind b call lent collect log m ≡ collect
   unfolding collect_behind
-  kept-collect (Window a b c d) submit = refl
+  kept-collect (Window window) submit = refl
   kept-collect (Buffers l c) submit = refl
   kept-collect (CreateIn e s mode) submit = refl
   kept-collect (CreateControl e s release) submit = refl

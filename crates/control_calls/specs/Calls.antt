@@ -38,17 +38,17 @@ use Rattle.call_answer.specs.declared.Ran.{Ran}
 
 -- what was collected; a made-up block may say more than there is
 abbrev pub collected_bytes : ControlBlock → List ℕ → List ℕ
-collected_bytes b collect = take (min b.collected max_collected) collect
+collected_bytes b collect = take (min b.transfer.collected max_collected) collect
 
 -- what the block is at, with the whole collect buffer
 abbrev pub standing : ControlBlock → List ℕ → ControlStanding
 standing b collect = record {
-  phase = b.phase;
+  phase = b.transfer.phase;
   state = b.state;
   held = count_of b.held;
-  direction = b.direction;
-  request = b.request;
-  collected = count_of b.collected;
+  direction = b.transfer.direction;
+  request = b.transfer.request;
+  collected = count_of b.transfer.collected;
   sum = weighted_sum 0 0 (collected_bytes b collect);
 }
 
@@ -83,7 +83,7 @@ create_call e s release collect = created (creation e s release) collect
 -- the collect buffer after a submission, of which so many bytes were lent
 unfoldable pub collect_after : ControlBlock → TransferTrb → ℕ → List ℕ → List ℕ → Memory → List ℕ
 collect_after b t lent collect log m =
-    patch (take lent collect) b.collected (bytes_collected (length log) (length (take lent collect)) b t m) ++ drop lent collect
+    patch (take lent collect) b.transfer.collected (bytes_collected (length log) (length (take lent collect)) b t m) ++ drop lent collect
 
 -- `s` and `u`
 unfoldable pub submit_call : ControlBlock → TransferTrb → ℕ → List ℕ → List ℕ → Memory → Called ControlBlock
@@ -112,23 +112,23 @@ with_length r n = record { address = r.address; request_type = r.request_type; r
 
 abbrev pub made_up : ControlBlock → ControlTransferState → ControlSubmissionState → Bool → ℕ → ControlBlock
 made_up b phase state direction n =
-    advanced b (record { phase = phase; direction = direction; request = with_length b.request n; collected = b.collected }) state
+    advanced b (record { phase = phase; direction = direction; request = with_length b.transfer.request n; collected = b.transfer.collected }) state
 
 -- ---- Any call
 
 -- the device result of a script as a control endpoint takes it
-abbrev pub result_of : DeviceStatus → Option ControlRequestProcessingResult
-result_of device.Success = Some result.SuccessfulControlIn
-result_of device.Stall = Some result.Stall
-result_of device.TransactionError = Some result.TransactionError
-result_of device.Disconnect = Some result.Disconnect
-result_of device.SuccessfulControlOut = Some result.SuccessfulControlOut
+abbrev pub result_of : DeviceStatus → ControlRequestProcessingResult
+result_of device.Success = result.SuccessfulControlIn
+result_of device.Stall = result.Stall
+result_of device.TransactionError = result.TransactionError
+result_of device.Disconnect = result.Disconnect
+result_of device.SuccessfulControlOut = result.SuccessfulControlOut
 
 -- a call on the endpoint, of whose device these bytes are, with so many bytes of the collect buffer lent. (Those that are none on an endpoint, or not on this
 -- one, are bad lines.)
 unfoldable pub control_call : ControlBlock → Call → List ℕ → ℕ → List ℕ → List ℕ → Memory → Called ControlBlock
 control_call b (Submit t) bytes lent collect log m = submit_call b t lent collect log m
-control_call b (CompleteWithResult s n) bytes lent collect log m = complete_call b (result_of s) (take n bytes) collect log m
+control_call b (CompleteWithResult s n) bytes lent collect log m = complete_call b (Some (result_of s)) (take n bytes) collect log m
 control_call b (CompleteWithout n) bytes lent collect log m = complete_call b None (take n bytes) collect log m
 control_call b Cancel bytes lent collect log m = called (cancel_call b collect) log m
 control_call b (Hold t) bytes lent collect log m = called (hold_call b t) log m

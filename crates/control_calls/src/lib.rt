@@ -24,15 +24,21 @@ use trb::{
 fn standing(block: ControlBlock, collect: &[u8]) -> ControlStanding
     ensures { result ≡ standing block collect.now }
 {
-    let collected = block.collected.min(trb::MAX_COLLECTED).min(collect.len());
+    let ControlTransfer {
+        phase,
+        direction,
+        request,
+        collected,
+    } = block.transfer;
+    let summed = collected.min(trb::MAX_COLLECTED).min(collect.len());
     ControlStanding {
-        phase: block.phase,
+        phase,
         state: block.state,
         held: call_text::count(block.held),
-        direction: block.direction,
-        request: block.request,
-        collected: call_text::count(block.collected),
-        sum: script_bytes::weighted_sum(&collect[..collected]),
+        direction,
+        request,
+        collected: call_text::count(collected),
+        sum: script_bytes::weighted_sum(&collect[..summed]),
     }
 }
 
@@ -70,7 +76,8 @@ pub fn create(
     answered(text, created.block, collect, 0)
 }
 
-// Of the collect buffer, the first `collect_lent` bytes are lent.
+// Submits a TRB; of the collect buffer, the first `collect_lent` bytes are lent. It is passed whole, with that length, and not cut: the
+// state line sums the bytes collected, of which a made-up block may say more than are lent.
 fn submit(
     text: &mut Text<'_>,
     log: &mut [u8],
@@ -110,17 +117,15 @@ fn complete(
 }
 
 // A device result of a script as a control endpoint takes it.
-pub fn result_of(status: DeviceStatus) -> Option<ControlRequestProcessingResult>
+pub fn result_of(status: DeviceStatus) -> ControlRequestProcessingResult
     ensures { result ≡ result_of status }
 {
     match status {
-        DeviceStatus::Success => Some(ControlRequestProcessingResult::SuccessfulControlIn),
-        DeviceStatus::Stall => Some(ControlRequestProcessingResult::Stall),
-        DeviceStatus::TransactionError => Some(ControlRequestProcessingResult::TransactionError),
-        DeviceStatus::Disconnect => Some(ControlRequestProcessingResult::Disconnect),
-        DeviceStatus::SuccessfulControlOut => Some(
-            ControlRequestProcessingResult::SuccessfulControlOut,
-        ),
+        DeviceStatus::Success => ControlRequestProcessingResult::SuccessfulControlIn,
+        DeviceStatus::Stall => ControlRequestProcessingResult::Stall,
+        DeviceStatus::TransactionError => ControlRequestProcessingResult::TransactionError,
+        DeviceStatus::Disconnect => ControlRequestProcessingResult::Disconnect,
+        DeviceStatus::SuccessfulControlOut => ControlRequestProcessingResult::SuccessfulControlOut,
     }
 }
 
@@ -133,13 +138,14 @@ fn cancel(text: &mut Text<'_>, block: ControlBlock, collect: &[u8]) -> Ran<Contr
 }
 
 #[tactic(auto, unfolding(crate::specs::Calls::hold_call))]
-fn hold(block: ControlBlock, t: TransferTrb) -> Ran<ControlBlock>
+fn hold(mut block: ControlBlock, t: TransferTrb) -> Ran<ControlBlock>
     ensures { result ≡ ran_of (hold_call block t) }
 {
     if trb::MAX_HELD <= block.held {
         return call_answer::bad(block);
     }
-    call_answer::silent(control_block::store(block, t))
+    control_block::store(&mut block, t);
+    call_answer::silent(block)
 }
 
 // What the call does not name stays.
@@ -157,9 +163,9 @@ fn make_up(
         direction,
         request: UsbRequest {
             length,
-            ..block.request
+            ..block.transfer.request
         },
-        collected: block.collected,
+        ..block.transfer
     };
     call_answer::silent(control_block::advance(block, transfer, state))
 }
@@ -184,7 +190,8 @@ pub fn run(
         Call::Submit(t) => submit(text, log, collect, collect_lent, block, t, &memory.view()),
         Call::CompleteWithResult(status, n) => {
             let given = &data[..n.min(data.len())];
-            complete(text, log, collect, block, result_of(status), given, memory)
+            let result = Some(result_of(status));
+            complete(text, log, collect, block, result, given, memory)
         }
         Call::CompleteWithout(n) => {
             let given = &data[..n.min(data.len())];

@@ -4,7 +4,7 @@
 ghost use Rattle.std.specs.Prelude.{length};
 ghost use Rattle.control_endpoint.specs.Completion.{Completes};
 
-use control_block::ControlBlock;
+use control_block::{ControlBlock, ControlTransfer};
 use control_endpoint::Completed;
 use trb::{ControlRequestProcessingResult, ControlSubmissionState};
 
@@ -43,13 +43,17 @@ pub fn next_completion(
             );
             let mut trbs = block.trbs;
             held::clear(&mut trbs, freed);
-            let phase = control_block::phase_behind(block.state, block.phase);
+            let phase = control_block::phase_behind(block.state, block.transfer.phase);
+            let transfer = ControlTransfer {
+                phase,
+                ..block.transfer
+            };
             Completed {
                 answer: Ok(control_block::result_of(ending)),
                 records,
                 block: ControlBlock {
-                    phase,
                     state: ControlSubmissionState::NoTrbSubmitted,
+                    transfer,
                     held: block.held - freed,
                     trbs,
                     ..block

@@ -30,7 +30,7 @@ use Rattle.walks.specs.Walk.{walk}
 use Rattle.control_block.specs.declared.ControlBlock.{ControlBlock}
 use Rattle.control_block.specs.declared.Ending.{Ending}
 use Rattle.control_block.specs.declared.Ending.TheVariants.{KeepCollecting, ReportBadTrb, Fail, Realize}
-use Rattle.control_block.specs.Blocks.{block_of, transfer_of, at_phase, changed, held_of, advanced}
+use Rattle.control_block.specs.Blocks.{block_of, at_phase, changed, held_of, advanced}
 use Rattle.control_block.specs.Endings.{ending_of, result_of, places_freed, phase_behind}
 use Rattle.control_block.specs.Facts.{facts_of}
 use Rattle.control_block.specs.Stages.{error_address}
@@ -68,7 +68,7 @@ module _ (b : ControlBlock) (d : Option ControlRequestProcessingResult) (n : ℕ
 -- ---- The places
 
 module _ (b : ControlBlock) where
-  freed-block : (x : Ending) → held_behind x b ≡ changed b (transfer_of b) b.state (b.held - places_freed x b.held) (cleared (places_freed x b.held) b.trbs)
+  freed-block : (x : Ending) → held_behind x b ≡ changed b b.transfer b.state (b.held - places_freed x b.held) (cleared (places_freed x b.held) b.trbs)
   freed-block KeepCollecting = freed-none b
   freed-block (ReportBadTrb a) = freed-all b
   freed-block (Fail c r) = freed-all b
@@ -76,9 +76,9 @@ module _ (b : ControlBlock) where
 
   -- the answer, the records and the block that a completion leaves
   pub completed-by : (x : Ending) (result : TrbProcessingResult) (n : ℕ) (phase : ControlTransferState) (freed : ℕ) (ts : List TransferTrb) → result ≡ result_of x
-      → n ≡ length (ending_records x (error_address b) b.endpoint_id b.slot_id (held_of b)) → phase ≡ phase_behind b.state b.phase → freed ≡ places_freed x b.held
+      → n ≡ length (ending_records x (error_address b) b.endpoint_id b.slot_id (held_of b)) → phase ≡ phase_behind b.state b.transfer.phase → freed ≡ places_freed x b.held
       → ts ≡ cleared freed b.trbs
-      → ◌≡◌ {A = Completed} (record { answer = Ok result; records = n; block = block_of b.endpoint_id b.slot_id b.release (at_phase phase (transfer_of b)) NoTrbSubmitted (b.held - freed) ts })
+      → ◌≡◌ {A = Completed} (record { answer = Ok result; records = n; block = block_of b.endpoint_id b.slot_id b.release (at_phase phase b.transfer) NoTrbSubmitted (b.held - freed) ts })
       (accepted x b).state
   unfolding accepted block_behind
   completed-by x result n phase freed ts end count at frees blank =
@@ -86,7 +86,7 @@ module _ (b : ControlBlock) where
       (ap (λ (y : ControlBlock). record {
         answer = Ok (result_of x);
         records = length (ending_records x (error_address b) b.endpoint_id b.slot_id (held_of b));
-        block = advanced y (at_phase (phase_behind b.state b.phase) (transfer_of b)) NoTrbSubmitted;
+        block = advanced y (at_phase (phase_behind b.state b.transfer.phase) b.transfer) NoTrbSubmitted;
       }) (sym (freed-block x)))
 
 -- ---- The records

@@ -18,7 +18,7 @@ use Rattle.walks.specs.Walk.{walk}
 use Rattle.walks.proofs.WalkLaws.{walk-counts}
 use Rattle.control_block.specs.declared.ControlBlock.{ControlBlock}
 use Rattle.control_block.specs.declared.Ending.{Ending}
-use Rattle.control_block.specs.Blocks.{transfer_of, changed, emptied}
+use Rattle.control_block.specs.Blocks.{changed, emptied}
 use Rattle.control_chain.specs.Chain.{never}
 use Rattle.control_chain.specs.Endings.{next_trb}
 use Rattle.control_chain.proofs.EndingLaws.{put-behind, ending_walker}
@@ -51,13 +51,13 @@ cleared-none ts = sym (cleared-blanked 0 ts (omega arith)) ∙ blanked-none ts
 
 module _ (b : ControlBlock) where
   -- no place is freed
-  pub freed-none : b ≡ changed b (transfer_of b) b.state (b.held - 0) (cleared 0 b.trbs)
+  pub freed-none : b ≡ changed b b.transfer b.state (b.held - 0) (cleared 0 b.trbs)
   freed-none =
       let same : b.held - 0 ≡ b.held = omega arith in
       rw (same, cleared-none b.trbs)
 
   -- all that are held
-  pub freed-all : emptied b ≡ changed b (transfer_of b) b.state (b.held - b.held) (cleared b.held b.trbs)
+  pub freed-all : emptied b ≡ changed b b.transfer b.state (b.held - b.held) (cleared b.held b.trbs)
   freed-all =
       let none : b.held - b.held ≡ 0 = omega arith in
       rw none

@@ -28,7 +28,7 @@ use Rattle.control_block.specs.declared.ControlBlock.{ControlBlock}
 use Rattle.control_block.specs.declared.Ending.{Ending}
 use Rattle.control_block.specs.declared.Ending.TheVariants.{KeepCollecting, ReportBadTrb, Fail, Realize}
 use Rattle.control_block.specs.declared.GuestRelease.{GuestRelease}
-use Rattle.control_block.specs.Blocks.{fresh_block, transfer_of, held_of, stored, emptied, advanced}
+use Rattle.control_block.specs.Blocks.{fresh_block, held_of, stored, emptied, advanced}
 use Rattle.control_block.specs.Endings.{ending_of, request_ending, result_of}
 use Rattle.control_block.specs.Facts.{facts_of}
 use Rattle.control_block.specs.Stages.{error_address}
@@ -157,7 +157,7 @@ module _ (one other : GuestRelease) (b : ControlBlock) (t : TransferTrb) where
         state = record {
           answer = Ok tt;
           records = length (records_of o b);
-          block = under other (advanced x (transfer_after o t.variant t.addr (transfer_of b)) (state_after o t.addr));
+          block = under other (advanced x (transfer_after o t.variant t.addr b.transfer) (state_after o t.addr));
         };
         records = records_of o b;
       }) (held-under (restarts o) (holds o))
@@ -172,9 +172,9 @@ module _ (one other : GuestRelease) (b : ControlBlock) (t : TransferTrb) where
       asked = first_no (questions_of log collect b t regions)
 
       by : (yes : Bool)
-          → submitted_under other (cond yes (submits.accepted (trb_outcome b.phase t.variant) (under one b) t) (submits.refused (under one b) asked))
-          ≡ submitted_under other (cond yes (submits.accepted (trb_outcome b.phase t.variant) (under other b) t) (submits.refused (under other b) asked))
-      by true = taken-under (trb_outcome b.phase t.variant)
+          → submitted_under other (cond yes (submits.accepted (trb_outcome b.transfer.phase t.variant) (under one b) t) (submits.refused (under one b) asked))
+          ≡ submitted_under other (cond yes (submits.accepted (trb_outcome b.transfer.phase t.variant) (under other b) t) (submits.refused (under other b) asked))
+      by true = taken-under (trb_outcome b.transfer.phase t.variant)
       by false = refl
 
 -- ---- The rule is kept
@@ -199,7 +199,7 @@ module _ (b : ControlBlock) where
   submission-keeps t log collect regions = by (eqb asked 0)
     where
       o : Outcome
-      o = trb_outcome b.phase t.variant
+      o = trb_outcome b.transfer.phase t.variant
 
       asked : ℕ
       asked = first_no (questions_of log collect b t regions)

@@ -35,7 +35,7 @@ use Rattle.phase_table.specs.Outcomes.{holds, restarts, requests, state_after}
 use Rattle.phase_table.specs.Table.{trb_outcome}
 use Rattle.control_block.specs.declared.ControlBlock.{ControlBlock}
 use Rattle.control_block.specs.declared.ControlTransfer.{ControlTransfer}
-use Rattle.control_block.specs.Blocks.{block_of, transfer_of, changed, held_of, stored, emptied, advanced}
+use Rattle.control_block.specs.Blocks.{block_of, changed, held_of, stored, emptied, advanced}
 use Rattle.control_block.specs.Facts.{facts_of}
 use Rattle.control_chain.specs.Chain.{never}
 use Rattle.control_chain.specs.Dropped.{successes, report_dropped}
@@ -59,24 +59,24 @@ module _ (b : ControlBlock) (t : TransferTrb) (m : Memory) (l c : List ℕ) wher
       let first : number_of {A = Unit {0}} (Err q) ≡ first_no questions = ap number_of (sym no-to) ∙ numbered in
       record {
         number = numbered;
-        met = meets (answered-no questions (refused b) (accepted (trb_outcome b.phase t.variant) b t) (Err q) first refl) (meets-silent 0 l (rw (no-to, refusal_of-number q)));
-        collect = rw (answered-no questions nothing_collected (bytes_taken (trb_outcome b.phase t.variant) b.direction t.variant m) (Err q) first refl) (sym (patch-none c b.collected));
+        met = meets (answered-no questions (refused b) (accepted (trb_outcome b.transfer.phase t.variant) b t) (Err q) first refl) (meets-silent 0 l (rw (no-to, refusal_of-number q)));
+        collect = rw (answered-no questions nothing_collected (bytes_taken (trb_outcome b.transfer.phase t.variant) b.transfer.direction t.variant m) (Err q) first refl) (sym (patch-none c b.transfer.collected));
       }
 
-  pub submits-accepted : (o : Outcome) → o ≡ trb_outcome b.phase t.variant → first_no questions ≡ 0 → (r : Submitted) (l' c' : List ℕ) → r ≡ (accepted o b t).state
-      → Put l 0 (records_of o b) l' → c' ≡ patch c b.collected (bytes_taken o b.direction t.variant m) → Submits b t m l c r l' c'
+  pub submits-accepted : (o : Outcome) → o ≡ trb_outcome b.transfer.phase t.variant → first_no questions ≡ 0 → (r : Submitted) (l' c' : List ℕ) → r ≡ (accepted o b t).state
+      → Put l 0 (records_of o b) l' → c' ≡ patch c b.transfer.collected (bytes_taken o b.transfer.direction t.variant m) → Submits b t m l c r l' c'
   unfolding submission bytes_collected accepted
   submits-accepted o same none r l' c' e p collected = record {
     number = ap (λ (x : Submitted). number_of x.answer) e ∙ sym none;
-    met = meets (answered-yes questions (refused b) (accepted (trb_outcome b.phase t.variant) b t) (Ok tt) (sym none) refl ∙ ap (λ (y : Outcome). accepted y b t) (sym same)) (record { state = e; log = p.log; fits = p.fits });
-    collect = rw (answered-yes questions nothing_collected (bytes_taken (trb_outcome b.phase t.variant) b.direction t.variant m) (Ok tt) (sym none) refl)
-        (collected ∙ ap (λ (y : Outcome). patch c b.collected (bytes_taken y b.direction t.variant m)) same);
+    met = meets (answered-yes questions (refused b) (accepted (trb_outcome b.transfer.phase t.variant) b t) (Ok tt) (sym none) refl ∙ ap (λ (y : Outcome). accepted y b t) (sym same)) (record { state = e; log = p.log; fits = p.fits });
+    collect = rw (answered-yes questions nothing_collected (bytes_taken (trb_outcome b.transfer.phase t.variant) b.transfer.direction t.variant m) (Ok tt) (sym none) refl)
+        (collected ∙ ap (λ (y : Outcome). patch c b.transfer.collected (bytes_taken y b.transfer.direction t.variant m)) same);
   }
 
 -- ---- The places
 
 dropped-block : (b : ControlBlock) (restart : Bool)
-    → cond restart (emptied b) b ≡ changed b (transfer_of b) b.state (b.held - places_dropped restart b.held) (cleared (places_dropped restart b.held) b.trbs)
+    → cond restart (emptied b) b ≡ changed b b.transfer b.state (b.held - places_dropped restart b.held) (cleared (places_dropped restart b.held) b.trbs)
 dropped-block b true = freed-all b
 dropped-block b false = freed-none b
 
@@ -97,7 +97,7 @@ module _ (b : ControlBlock) (t : TransferTrb) (o : Outcome) where
   dropped = places_dropped (restarts o) b.held
 
   abbrev leaves : ℕ → List TransferTrb → Type 0
-  leaves held ts = changed b (transfer_of b) b.state held ts ≡ held_after o (dropped_before o b) t
+  leaves held ts = changed b b.transfer b.state held ts ≡ held_after o (dropped_before o b) t
 
   pub leaves-stored : (held : ℕ) (us ts : List TransferTrb) → holds o ≡ true → us ≡ cleared dropped b.trbs → held ≡ b.held - dropped + 1 → ts ≡ set us (b.held - dropped) t → leaves held ts
   leaves-stored held us ts hold blank more put =
@@ -108,12 +108,12 @@ module _ (b : ControlBlock) (t : TransferTrb) (o : Outcome) where
 
   -- the answer, the records and the block that a TRB leaves
   pub submitted-by : (answer : Answer) (n : ℕ) (w : ControlTransfer) (state : ControlSubmissionState) (held : ℕ) (ts : List TransferTrb) → answer ≡ Ok tt → n ≡ length (records_of o b)
-      → w ≡ transfer_after o t.variant t.addr (transfer_of b) → state ≡ state_after o t.addr → leaves held ts
+      → w ≡ transfer_after o t.variant t.addr b.transfer → state ≡ state_after o t.addr → leaves held ts
       → ◌≡◌ {A = Submitted} (record { answer = answer; records = n; block = block_of b.endpoint_id b.slot_id b.release w state held ts }) (accepted o b t).state
   unfolding accepted block_after
   submitted-by answer n w state held ts accepts count at now places =
       rw (accepts, count, at, now)
-      (ap (λ (x : ControlBlock). record { answer = Ok tt; records = length (records_of o b); block = advanced x (transfer_after o t.variant t.addr (transfer_of b)) (state_after o t.addr) }) places)
+      (ap (λ (x : ControlBlock). record { answer = Ok tt; records = length (records_of o b); block = advanced x (transfer_after o t.variant t.addr b.transfer) (state_after o t.addr) }) places)
 
 -- ---- The records
 
@@ -126,10 +126,10 @@ module _ (b : ControlBlock) (o : Outcome) (d : ℕ) (drops : d ≡ places_droppe
   dropped_records = (walk (report_dropped (info_of b)) never at_start (take d b.trbs)).records
 
   -- their events, and the request
-  pub walk-records_of : dropped_records ++ requests_of o b.request b.endpoint_id b.slot_id ≡ records_of o b
+  pub walk-records_of : dropped_records ++ requests_of o b.transfer.request b.endpoint_id b.slot_id ≡ records_of o b
   unfolding records_of successes
   walk-records_of =
-      ap (λ (rs : List Record). rs ++ requests_of o b.request b.endpoint_id b.slot_id)
+      ap (λ (rs : List Record). rs ++ requests_of o b.transfer.request b.endpoint_id b.slot_id)
       (walk-dropped (info_of b) at_start (take d b.trbs) ∙ ap (λ (n : ℕ). successes b.endpoint_id b.slot_id (take n b.trbs)) drops ∙ by (restarts o))
     where
       by : (restart : Bool)
@@ -157,9 +157,9 @@ length-records_of b o few =
       arith,
       few,
       ap length (walk-records_of b o d refl),
-      length-append rs (requests_of o b.request b.endpoint_id b.slot_id),
+      length-append rs (requests_of o b.transfer.request b.endpoint_id b.slot_id),
       length-dropped b o d refl,
-      length-when (requests o) (control_request b.request b.endpoint_id b.slot_id),
+      length-when (requests o) (control_request b.transfer.request b.endpoint_id b.slot_id),
     )
 
 pub length-submission : (log collect : ℕ) (b : ControlBlock) (t : TransferTrb) (regions : Regions) → length (submission log collect b t regions).records ≤ max_records
@@ -167,7 +167,7 @@ unfolding submission accepted
 length-submission log collect b t regions = by (first_no (questions_of log collect b t regions)) refl
   where
     o : Outcome
-    o = trb_outcome b.phase t.variant
+    o = trb_outcome b.transfer.phase t.variant
 
     by : (n : ℕ) → first_no (questions_of log collect b t regions) ≡ n → length (cond (eqb n 0) (accepted o b t) (refused b n)).records ≤ max_records
     by zero none = length-records_of b o (passed (facts_of b) o t regions log collect none).held

@@ -8,7 +8,7 @@ use Rattle.call_log.specs.Calls.{Out, silent, Meets}
 use Rattle.control_block.specs.declared.ControlBlock.{ControlBlock}
 use Rattle.control_block.specs.declared.Ending.{Ending}
 use Rattle.control_block.specs.declared.Ending.TheVariants.{KeepCollecting, ReportBadTrb, Fail, Realize}
-use Rattle.control_block.specs.Blocks.{transfer_of, held_of, at_phase, emptied, advanced}
+use Rattle.control_block.specs.Blocks.{held_of, at_phase, emptied, advanced}
 use Rattle.control_block.specs.Endings.{ending_of, result_of, phase_behind}
 use Rattle.control_block.specs.Facts.{facts_of}
 use Rattle.control_block.specs.Stages.{error_address}
@@ -27,7 +27,7 @@ held_behind (Realize input n) b = emptied b
 
 -- length and collected bytes stay in every case; a submission is due
 unfoldable pub block_behind : Ending → ControlBlock → ControlBlock
-block_behind x b = advanced (held_behind x b) (at_phase (phase_behind b.state b.phase) (transfer_of b)) NoTrbSubmitted
+block_behind x b = advanced (held_behind x b) (at_phase (phase_behind b.state b.transfer.phase) b.transfer) NoTrbSubmitted
 
 -- ---- The call
 

@@ -6,13 +6,13 @@ use Rattle.control_block.specs.declared.ControlBlock.{ControlBlock}
 use Rattle.control_block.specs.declared.Ending.{Ending}
 use Rattle.control_block.specs.declared.Ending.TheVariants.{KeepCollecting, ReportBadTrb, Fail, Realize}
 use Rattle.control_block.specs.declared.GuestRelease.{GuestRelease}
-use Rattle.control_block.specs.Blocks.{block_of, transfer_of}
+use Rattle.control_block.specs.Blocks.{block_of}
 use Rattle.control_endpoint.specs.Returned.{Completed}
 use Rattle.control_endpoint.specs.Returned.{Submitted}
 
 -- the block b with this rule in place of its own
 abbrev pub under : GuestRelease → ControlBlock → ControlBlock
-under release b = block_of b.endpoint_id b.slot_id release (transfer_of b) b.state b.held b.trbs
+under release b = block_of b.endpoint_id b.slot_id release b.transfer b.state b.held b.trbs
 
 -- a record with its address left out
 abbrev pub without_address : Record → Record

@@ -69,6 +69,6 @@ module _ (l c b : List ℕ) (t : TransferTrb) (m : Memory) (o : Outcome) (a : Ac
   pub holdable : holds o ≡ true → Holdable ((block_of b).held - places_dropped (restarts o) (block_of b).held) t
   holdable hold = record {
     room = place-free o (block_of b).held pass.room hold;
-    kind = held-supported (block_of b).phase t.variant (ap holds (sym a.outcome) ∙ hold);
+    kind = held-supported (block_of b).transfer.phase t.variant (ap holds (sym a.outcome) ∙ hold);
     short = short-enough (facts_of (block_of b)) o t (regions_of m) (length l) (length c) none;
   }

@@ -107,7 +107,7 @@ module _ (t : TransferTrb) (m : Memory) (l c b : List ℕ) where
   submits-short short =
       let none : lent_log l b ≡ 0 = rw (lt-leb _ _ short) in
       subst (λ (k : ℕ). SubmitsInPlace k t m l c b (answered_as (Err BufferTooShort) 0) l c b) (sym none)
-      (record { number = refl; met = meets-silent 0 l refl; collect = sym (patch-none c (block_of b).collected); becomes = record { block = refl; behind = refl; long = refl }; unchanged = λ h. refl })
+      (record { number = refl; met = meets-silent 0 l refl; collect = sym (patch-none c (block_of b).transfer.collected); becomes = record { block = refl; behind = refl; long = refl }; unchanged = λ h. refl })
 
   pub submits-long : (r : Logged Answer) (l' c' b' : List ℕ) → block_length ≤ length b → SubmitsAsByValue b t m l c r l' c' b'
       → SubmitsInPlace (lent_log l b) t m l c b (answered_as r.answer r.records) l' c' b'

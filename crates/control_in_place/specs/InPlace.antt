@@ -1,5 +1,6 @@
 -- What a call in place is: by the promises of the endpoint by value, of the block that the bytes are. Assumes nothing.
-use Rattle.std.specs.Prelude.{ℕ, ◌<◌, ◌≤◌, ◌≡◌, Bool, cond, List, [], ◌∷◌, leb, eqb, length, drop, None, Option, Some}
+use Rattle.std.specs.Prelude.{ℕ, ◌<◌, ◌≤◌, ◌≡◌, Bool, cond, List, [], ◌∷◌, leb, eqb, length, drop, None, Option, Result, Some}
+use Rattle.std.specs.Result.{IfOk}
 use Rattle.buffers.specs.Patch.{patch}
 use Rattle.trb.specs.Answers.{number_of, Answer, CompletionAnswer}
 use Rattle.trb.specs.Ids.{ids_in_range}
@@ -7,6 +8,7 @@ use Rattle.trb.specs.Questions.{first_no}
 use Rattle.trb.specs.declared.ControlRequestProcessingResult.{ControlRequestProcessingResult}
 use Rattle.trb.specs.declared.ControlRequestProcessingResult.TheVariants.{Disconnect, Stall, TransactionError, SuccessfulControlIn, SuccessfulControlOut}
 use Rattle.trb.specs.declared.EndpointId.{EndpointId}
+use Rattle.trb.specs.declared.Refusal.{Refusal}
 use Rattle.trb.specs.declared.SlotId.{SlotId}
 use Rattle.trb.specs.declared.TransferTrb.{TransferTrb}
 use Rattle.call_log.specs.Calls.{Out, Meets, counted}
@@ -29,7 +31,6 @@ use Rattle.control_endpoint.specs.Returned.{Completed}
 use Rattle.control_endpoint.specs.Returned.{Submitted}
 use Rattle.control_bytes.specs.Layout.{block_length, block_of}
 use Rattle.control_stores.specs.Becomes.{Becomes}
-use Rattle.control_in_place.specs.declared.AskedSubmission.{AskedSubmission}
 use Rattle.trb.specs.declared.Logged.{Logged}
 
 -- no byte behind the block changed
@@ -39,21 +40,21 @@ pub record Beyond (b b' : List ℕ) : Type 0 where
 
 -- ---- Submission
 
--- what becomes of the TRB t, and the answer to the questions
-pub record Asked (log collect : ℕ) (b : List ℕ) (t : TransferTrb) (regions : Regions) (r : AskedSubmission) : Type 0 where
-  pub outcome : r.outcome ≡ trb_outcome (block_of b).phase t.variant
-  pub number : number_of r.answer ≡ first_no (questions_of log collect (block_of b) t regions)
+-- of the answer r to the questions of the TRB t: what becomes of it
+pub record Asked (log collect : ℕ) (b : List ℕ) (t : TransferTrb) (regions : Regions) (r : Result Outcome Refusal) : Type 0 where
+  pub outcome : IfOk r (λ o. o ≡ trb_outcome (block_of b).transfer.phase t.variant)
+  pub number : number_of r ≡ first_no (questions_of log collect (block_of b) t regions)
 
 -- no question of the TRB t, which becomes o, is answered no
 pub record Acceptable (l c b : List ℕ) (t : TransferTrb) (m : Memory) (o : Outcome) : Type 0 where
   pub long : block_length ≤ length b
-  pub outcome : o ≡ trb_outcome (block_of b).phase t.variant
+  pub outcome : o ≡ trb_outcome (block_of b).transfer.phase t.variant
   pub none : first_no (questions_of (length l) (length c) (block_of b) t (regions_of m)) ≡ 0
 
 -- what it then logs, collects and stores
 pub record Accepts (l c b : List ℕ) (t : TransferTrb) (m : Memory) (o : Outcome) (n : ℕ) (l' c' b' : List ℕ) : Type 0 where
   pub log : Meets (counted 0 (records_of o (block_of b))) 0 l n l'
-  pub collect : c' ≡ patch c (block_of b).collected (bytes_taken o (block_of b).direction t.variant m)
+  pub collect : c' ≡ patch c (block_of b).transfer.collected (bytes_taken o (block_of b).transfer.direction t.variant m)
   pub becomes : Becomes b (block_after o (block_of b) t) b'
 
 -- the promise of the endpoint by value, of the block that the bytes are; a no leaves its bytes as they were
@@ -97,7 +98,7 @@ submitted_numbers o = record { state = answered_as o.state.answer o.state.record
 pub record SubmitsInPlace (k : ℕ) (t : TransferTrb) (m : Memory) (l c b : List ℕ) (r : Answered) (l' c' b' : List ℕ) : Type 0 where
   pub number : r.number ≡ first_no (questions_of k (length c) (block_of b) t (regions_of m))
   pub met : Meets (submitted_numbers (submission k (length c) (block_of b) t (regions_of m))) 0 l r l'
-  pub collect : c' ≡ patch c (block_of b).collected (bytes_collected k (length c) (block_of b) t m)
+  pub collect : c' ≡ patch c (block_of b).transfer.collected (bytes_collected k (length c) (block_of b) t m)
   pub becomes : Becomes b (submission k (length c) (block_of b) t (regions_of m)).state.block b'
   pub unchanged : 0 < r.number → b' ≡ b
 

@@ -7,12 +7,13 @@ ghost use Rattle.trb.specs.Answers.{number_of};
 ghost use Rattle.trb.specs.Questions.{first_no};
 ghost use Rattle.guest_memory.specs.Lent.{seen};
 ghost use Rattle.held_bytes.specs.Numbers.{trb_numbers, trb_of};
+ghost use Rattle.answer_numbers.specs.Numbers.{counted};
 ghost use Rattle.control_block.specs.Facts.{facts_of};
 ghost use Rattle.control_transfer.specs.Data.{data_of};
 ghost use Rattle.control_questions.specs.Completion.{completion_questions};
 ghost use Rattle.control_block.specs.Numbers.{release_of};
 ghost use Rattle.control_bytes.specs.Layout.{block_length, block_of};
-ghost use Rattle.control_in_place.specs.InPlace.{Asked, Acceptable, Accepts, SubmitsAsByValue, CompletesAsByValue, lent_log, block_question, raw_trb, SubmitsInPlace, CompletesInPlace, result_of, CreatesInPlace};
+ghost use Rattle.control_in_place.specs.InPlace.{Asked, Acceptable, Accepts, CompletesAsByValue, lent_log, block_question, raw_trb, SubmitsInPlace, CompletesInPlace, result_of, CreatesInPlace};
 
 use answer_numbers::{Answered, CompletionAnswered};
 use control_transfer::TrbData;
@@ -26,13 +27,8 @@ use trb::{
 
 // ---- Submission
 
-#[derive(Clone, Copy)]
-struct AskedSubmission {
-    answer: Answer,
-    outcome: Outcome,
-}
-
-// Questions 1, 13, 2 to 4, 21 and 5 to 7, of the block that the bytes are and a TRB, given by numbers, that moves this data.
+// Questions 1, 13, 2 to 4, 21 and 5 to 7, of the block that the bytes are and a TRB, given by numbers, that moves this data: what becomes
+// of a TRB that none of them refuses.
 fn ask_submission(
     log_length: usize,
     collect_length: usize,
@@ -40,21 +36,14 @@ fn ask_submission(
     numbers: TrbNumbers,
     data: TrbData,
     regions: Regions,
-) -> AskedSubmission
+) -> Result<Outcome, Refusal>
     requires { (block_length ≤ length block.now) × («data» ≡ data_of (trb_of numbers).variant) }
     ensures { Asked log_length collect_length block.now (trb_of numbers) regions result }
 {
     let facts = control_bytes::facts(block);
     let outcome = control_numbers::outcome_of(facts.phase, numbers);
-    let answer = control_numbers::ask_submission(
-        log_length,
-        collect_length,
-        facts,
-        outcome,
-        data,
-        regions,
-    );
-    AskedSubmission { answer, outcome }
+    control_questions::ask_submission(log_length, collect_length, facts, outcome, data, regions)?;
+    Ok(outcome)
 }
 
 // What a TRB that no question refuses, given by numbers, that moves this data, logs, collects and stores; returns how many records were
@@ -74,7 +63,7 @@ fn accept_trb(
 {
     let transfer = control_bytes::transfer(block);
     let records = control_places::log_submission(log, block, outcome);
-    control_numbers::collect_data(
+    control_transfer::collect_data(
         collect,
         outcome,
         transfer.direction,
@@ -86,36 +75,24 @@ fn accept_trb(
     records
 }
 
-// Of a row of bytes that is long enough for a block.
+// Asks, and takes the TRB; returns how many records were logged.
 fn submit(
     log: &mut [u8],
     collect: &mut [u8],
     block: &mut [u8],
     numbers: TrbNumbers,
     memory: &GuestView<'_>,
-) -> Logged<Answer>
-    requires { block_length ≤ length block.old }
-    ensures { SubmitsAsByValue block.old (trb_of numbers) (seen memory.now) log.old collect.old result log.new collect.new block.new }
+) -> Result<usize, Refusal>
+    ensures { SubmitsInPlace (lent_log log.old block.old) (trb_of numbers) (seen memory.now) log.old collect.old block.old (counted result) log.new collect.new block.new }
 {
+    trb::ask(control_bytes::BLOCK <= block.len(), Refusal::BufferTooShort)?;
     let data = control_numbers::data_of(numbers);
     let regions = memory.regions();
-    let asked = ask_submission(log.len(), collect.len(), block, numbers, data, regions);
-    match asked.answer {
-        Err(refusal) => Logged {
-            answer: Err(refusal),
-            records: 0,
-        },
-        Ok(()) => {
-            let records = accept_trb(log, collect, block, asked.outcome, data, numbers, memory);
-            Logged {
-                answer: Ok(()),
-                records,
-            }
-        }
-    }
+    let outcome = ask_submission(log.len(), collect.len(), block, numbers, data, regions)?;
+    Ok(accept_trb(log, collect, block, outcome, data, numbers, memory))
 }
 
-// Of any row of bytes, and a TRB that is given by these numbers. Both submissions call it: what is not inlined takes plain numbers.
+// Of a TRB that is given by these numbers. Both submissions call it: what is not inlined takes plain numbers.
 fn submit_numbers(
     log: &mut [u8],
     collect: &mut [u8],
@@ -129,9 +106,6 @@ fn submit_numbers(
 ) -> Answered
     ensures { SubmitsInPlace (lent_log log.old block.old) (trb_of (trb_numbers kind flags addr value transfer_length)) (seen memory.now) log.old collect.old block.old result log.new collect.new block.new }
 {
-    if block.len() < control_bytes::BLOCK {
-        return answer_numbers::answered_as(Err(Refusal::BufferTooShort), 0);
-    }
     let numbers = TrbNumbers {
         kind,
         flags,
@@ -139,8 +113,7 @@ fn submit_numbers(
         value,
         transfer_length,
     };
-    let submitted = submit(log, collect, block, numbers, memory);
-    answer_numbers::answered_as(submitted.answer, submitted.records)
+    answer_numbers::counted(submit(log, collect, block, numbers, memory))
 }
 
 // Takes a TRB, given by numbers; ports `submit_trb`.
@@ -265,6 +238,7 @@ pub fn next_completion(
 ) -> CompletionAnswered
     ensures { CompletesInPlace (lent_log log.old block.old) (result_of status) data_length log.old block.old result log.new block.new }
 {
+    // By hand: a completion's answer has its records beside it, so that no one Result could be given back by `?`.
     if block.len() < control_bytes::BLOCK {
         return answer_numbers::completed_as(Err(Refusal::BufferTooShort), 0);
     }
@@ -274,8 +248,8 @@ pub fn next_completion(
 
 // ---- Creation and cancel
 
-// The bytes become a fresh block for this endpoint of this slot, for guests of this release: 5, or any other number for 4. Where an id is refused,
-// both are 0; where the bytes are too few for a block, they stay.
+// The bytes become a fresh block for this endpoint of this slot, for guests of this release: 5, or any other number for 4. Where an id is
+// refused, both are 0; where the bytes are too few for a block, they stay.
 pub fn create(block: &mut [u8], endpoint_id: u8, slot_id: u8, release: u8) -> Answer
     ensures { CreatesInPlace (record { 0 = endpoint_id }) (record { 0 = slot_id }) (release_of release) block.old (number_of result) block.new }
 {

@@ -11,26 +11,32 @@ use Rattle.control_block.specs.Blocks.{at_phase}
 use Rattle.control_transfer.specs.Data.{data_of, size_of}
 use Rattle.control_transfer.specs.Transfers.{begun, grown, taken_by, held_into, transfer_after}
 use Rattle.control_bytes.specs.Stores.{turned, counting}
-use Rattle.control_numbers.specs.Transfers.{size_taken, length_after, collected_after}
+use Rattle.control_numbers.specs.Transfers.{size_taken}
 use Rattle.control_numbers.proofs.KindLaws.{said}
 
 module _ (kind flags value len addr : ℕ) (w : ControlTransfer) (short : w.request.length < 2 ^ 32) where
+  -- the numbers of a transfer over those of w
+  abbrev over : ControlTransfer → ControlTransfer
+  over v = counting v.collected v.request.length w
+
   abbrev counts : ℕ → ControlTransfer
-  counts n = counting (collected_after w.direction w.collected n) (length_after w.direction w.request.length n) w
+  counts n = over (grown w n)
+
+  -- which grows by the request length on IN, by the bytes collected on OUT
+  abbrev by_direction : Bool → ℕ → ControlTransfer
+  by_direction input n = cond input (counting w.collected ((w.request.length + n) % 2 ^ 32) w) (counting (w.collected + n) w.request.length w)
 
   none-counted : w ≡ counts 0
   none-counted = by w.direction
     where
-      by : (input : Bool) → w ≡ counting (collected_after input w.collected 0) (length_after input w.request.length 0) w
+      by : (input : Bool) → w ≡ over (by_direction input 0)
       by true = let same : w.request.length ≡ (w.request.length + 0) % 2 ^ 32 = omega arith in λ j. counting w.collected (same j) w
       by false = let same : w.collected ≡ w.collected + 0 = omega arith in λ j. counting (same j) w.request.length w
 
   grown-counted : (n : ℕ) → grown w n ≡ counts n
   grown-counted n = by w.direction
     where
-      by : (input : Bool)
-          → cond input (counting w.collected ((w.request.length + n) % 2 ^ 32) w) (counting (w.collected + n) w.request.length w)
-          ≡ counting (collected_after input w.collected n) (length_after input w.request.length n) w
+      by : (input : Bool) → by_direction input n ≡ over (by_direction input n)
       by true = refl
       by false = refl
 
@@ -57,13 +63,12 @@ module _ (kind flags value len addr : ℕ) (w : ControlTransfer) (short : w.requ
       by false other = none-counted
 
   -- by its phase and what it then counts
-  pub counted-by : (o : Outcome) (phase : ControlTransferState) (collected asked : ℕ) → (holds o && eqb kind setup_stage_type) ≡ false → phase ≡ phase_after w.phase o
-      → collected ≡ collected_after w.direction w.collected (size_taken o (data_of (variant_of kind flags value len)))
-      → asked ≡ length_after w.direction w.request.length (size_taken o (data_of (variant_of kind flags value len)))
-      → counting collected asked (turned phase w.direction w) ≡ transfer_after o (variant_of kind flags value len) addr w
+  pub counted-by : (o : Outcome) (phase : ControlTransferState) (v : ControlTransfer) → (holds o && eqb kind setup_stage_type) ≡ false → phase ≡ phase_after w.phase o
+      → v ≡ grown w (size_taken o (data_of (variant_of kind flags value len)))
+      → counting v.collected v.request.length (turned phase w.direction w) ≡ transfer_after o (variant_of kind flags value len) addr w
   unfolding transfer_after
-  counted-by o phase collected asked other at more longer =
-      (λ j. counting (more j) (longer j) (turned (at j) w.direction w)) ∙ ap (at_phase (phase_after w.phase o)) (sym (held-counted o other))
+  counted-by o phase v other at grew =
+      (λ j. counting (grew j).collected (grew j).request.length (turned (at j) w.direction w)) ∙ ap (at_phase (phase_after w.phase o)) (sym (held-counted o other))
 
 -- a Setup TRB that is held begins a transfer
 pub begun-by : (kind flags value len addr : ℕ) (w : ControlTransfer) (o : Outcome) → (holds o && eqb kind setup_stage_type) ≡ true

@@ -1,6 +1,6 @@
 -- What a submission and a completion log, by the walk over the TRBs held and the record behind it. Assumes nothing.
 use Prim.Native.Nat.{ℕ, ◌+◌, ◌*◌, ◌≤◌}
-use mathlib.Core.Path.{◌≡◌, refl, sym, ap, ◌∙◌, subst}
+use mathlib.Core.Path.{◌≡◌, refl, sym, ap, ◌∙◌}
 use mathlib.Core.Bool.{Bool, true, false, not, cond}
 use mathlib.Core.List.{List, [], ◌++◌}
 use native.Mathlib.Nat.{zero-add}
@@ -67,7 +67,7 @@ unfolding records_of
 silent-submission o b l quiet = meets (ap (counted 0) (by (restarts o) (requests o) quiet)) (meets-silent 0 l refl)
   where
     by : (restart request : Bool) → cond restart false (not request) ≡ true
-        → cond restart (successes b.endpoint_id b.slot_id (held_of b)) [] ++ when request (control_request b.request b.endpoint_id b.slot_id) ≡ []
+        → cond restart (successes b.endpoint_id b.slot_id (held_of b)) [] ++ when request (control_request b.transfer.request b.endpoint_id b.slot_id) ≡ []
     by true request e = let z : ◌≡◌ {A = ℕ} 0 1 = cc in absurd (omega arith)
     by false true e = let z : ◌≡◌ {A = ℕ} 0 1 = cc in absurd (omega arith)
     by false false e = refl
@@ -81,12 +81,12 @@ module _ (b : ControlBlock) (o : Outcome) (td : TdInfo) (d : ℕ) (l l' : List �
   pub dropped-few : w.records ≤ b.held
   dropped-few = omega (arith, walked-count (ReportBadTrb 0) (submission.info_of b) (take d b.trbs) l l' w own-walk, length-dropped b o d drops)
 
-  pub submission-logged : (q : UsbRequest) (e : EndpointId) (s : SlotId) (k : ℕ) (l'' : List ℕ) → q ≡ b.request → e ≡ b.endpoint_id → s ≡ b.slot_id
+  pub submission-logged : (q : UsbRequest) (e : EndpointId) (s : SlotId) (k : ℕ) (l'' : List ℕ) → q ≡ b.transfer.request → e ≡ b.endpoint_id → s ≡ b.slot_id
       → Meets (counted w.records (requests_of o q e s)) w.records l' k l'' → Meets (counted 0 (records_of o b)) 0 l k l''
   submission-logged q e s k l'' eq ee es n =
-      let same : requests_of o q e s ≡ requests_of o b.request b.endpoint_id b.slot_id = λ j. requests_of o (eq j) (ee j) (es j) in
+      let same : requests_of o q e s ≡ requests_of o b.transfer.request b.endpoint_id b.slot_id = λ j. requests_of o (eq j) (ee j) (es j) in
       meets (ap (counted 0) (sym (walk-records_of b o d drops)))
-      (walked_then (ReportBadTrb 0) (submission.info_of b) (take d b.trbs) l l' w own-walk (requests_of o b.request b.endpoint_id b.slot_id) k l'' (omega (arith, dropped-few))
+      (walked_then (ReportBadTrb 0) (submission.info_of b) (take d b.trbs) l l' w own-walk (requests_of o b.transfer.request b.endpoint_id b.slot_id) k l'' (omega (arith, dropped-few))
       (meets (ap (counted w.records) (sym same)) n))
 
 -- ---- Completion

@@ -15,19 +15,19 @@ ghost use Rattle.control_endpoint.specs.Submission.{records_of};
 ghost use Rattle.control_bytes.specs.Layout.{block_length, block_of};
 ghost use Rattle.control_places.specs.Events.{is_silent, is_collecting, EventAt, completion_records};
 
-use control_block::{Ending, GuestRelease};
+use control_block::{Ending, GuestRelease, StageFound};
 use phase_table::Outcome;
 use td_part::{TdInfo, TdProgress};
 
-// Each of the first `count` TRBs held has its turn, as a completion that ends so gives it.
+// Each of the first `count` TRBs held has its turn, as a completion that ends so gives it. By value `control_turn::end_held`; here a TRB
+// has its turn by the numbers in its place: decoded first it goes through memory, which on IN cost 86 of 494 instructions, 14 of 34 ns.
 fn end_held(log: &mut [u8], block: &[u8], count: usize, ending: Ending, info: TdInfo) -> TdProgress
     requires { (block_length ≤ length block.now) × ((min_log ≤ length log.old) × ((count ≤ (block_of block.now).held) × ((block_of block.now).held ≤ max_held))) }
     ensures { Meets (walk (next_trb ending info) never at_start (take count (block_of block.now).trbs)) 0 log.old result log.new }
 {
     let mut progress = td_part::at_start_of_td();
-    // An index: a place is read by its number where it lies in the block's bytes, which are no slice of places. So below.
-    for j in 0..count {
-        let numbers = control_bytes::numbers_at(block, j);
+    for place in control_bytes::held_places(block, count) {
+        let numbers = control_bytes::numbers_in(place);
         progress = control_turn_numbers::next_trb(log, ending, info, progress, numbers);
     }
     progress
@@ -81,21 +81,23 @@ pub fn log_submission(log: &mut [u8], block: &[u8], outcome: Outcome) -> usize
 
 // ---- Completion
 
-// The stage found among the TRBs held: the first Data Stage TRB, failing that the first Status Stage TRB, failing that the Setup TRB.
+// The stage found among the TRBs held: the first Data Stage TRB, failing that the first Status Stage TRB, failing that the Setup TRB. By
+// value `control_block::stage_address`, whose step `stage_with` this shares: a trait over TRBs and places would be longer than the loop.
 fn stage_address(block: &[u8], setup_address: u64) -> u64
     requires { block_length ≤ length block.now }
     ensures { result ≡ stage_address (held_of (block_of block.now)) setup_address }
 {
     let places = held::places_held(control_bytes::held(block));
-    let mut stage = control_block::no_stage(setup_address);
-    for i in 0..places {
-        let t = control_bytes::trb_at(block, i);
+    let mut stage = StageFound::Neither(setup_address);
+    for place in control_bytes::held_places(block, places) {
+        let t = control_bytes::trb_in(place);
         stage = control_block::stage_with(stage, t);
     }
-    stage.addr
+    control_block::found_address(stage)
 }
 
 // Where the event of a failed transfer goes.
+#[tactic(auto, unfolding(control_block::specs::Stages::error_address))]
 fn error_address(block: &[u8]) -> u64
     requires { block_length ≤ length block.now }
     ensures { result ≡ error_address (block_of block.now) }

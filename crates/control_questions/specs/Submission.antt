@@ -30,6 +30,19 @@ has_room o held = asked_if (holds o) (leb (cond (restarts o) 1 (held + 1)) max_h
 unfoldable pub reaches : Outcome → Bool → TrbData → Regions → Bool
 reaches o input d regions = asked_if (holds o) (in_reach input d regions)
 
+-- of a TRB that is held and moves this data
+abbrev pub held_questions : BlockFacts → Outcome → TrbData → Regions → List (Bool × ℕ)
+held_questions f o d regions =
+    (immediate_allowed o f.direction d, 21)
+    ∷ (has_room o f.held, 5)
+    ∷ (reaches o f.direction d regions, 6)
+    ∷ (collectable o f.direction f.collected d, 7)
+    ∷ []
+
+-- of a TRB that moves this data
+abbrev pub trb_questions : BlockFacts → Outcome → TrbData → Regions → List (Bool × ℕ)
+trb_questions f o d regions = (leb d.transfer_length max_transfer_length, 4) ∷ held_questions f o d regions
+
 -- of a log and a collect buffer of these lengths, guest memory in these regions, and a TRB that becomes o; 02, R-1: do the regions share no
 -- address?
 unfoldable pub submission_questions : ℕ → ℕ → BlockFacts → Outcome → TransferTrb → Regions → List (Bool × ℕ)

@@ -1,69 +1,102 @@
 // The questions asked on a control endpoint, in the order of document 01, over the facts of its block.
 #![tactic(auto)]
 
-ghost use Rattle.std.specs.Prelude.{◌≡◌, ◌≤◌};
+ghost use Rattle.std.specs.Prelude.{◌≡◌, ◌+◌, ◌≤◌, true, not, ◌||◌, if◌then◌else◌, nat_le};
 ghost use Rattle.trb.specs.Answers.{number_of};
 ghost use Rattle.trb.specs.Limits.{max_held, max_collected};
 ghost use Rattle.trb.specs.Questions.{first_no};
-ghost use Rattle.control_transfer.specs.Transfers.{collectable};
+ghost use Rattle.trb.specs.declared.TransferTrb.{TransferTrb};
+ghost use Rattle.phase_table.specs.Outcomes.{holds};
+ghost use Rattle.control_transfer.specs.Data.{data_of, size_of};
 ghost use Rattle.control_questions.specs.Completion.{completion_questions};
-ghost use Rattle.control_questions.specs.Submission.{immediate_allowed, has_room, reaches, submission_questions};
+ghost use Rattle.control_questions.specs.Submission.{held_questions, trb_questions, submission_questions};
 
 use control_block::BlockFacts;
 use control_transfer::TrbData;
 use guest_memory::Regions;
 use phase_table::Outcome;
-use trb::{Answer, ControlRequestProcessingResult, Refusal, TransferTrb};
+use trb::{Answer, ControlRequestProcessingResult, Refusal};
 
 // ---- Submission
 
-// Question 21: if this TRB would be held in an IN transfer, is its data not immediate?
-fn is_immediate_allowed(outcome: Outcome, input: bool, data: TrbData) -> bool
-    ensures { result ≡ immediate_allowed outcome input «data» }
+// Question 21, of a TRB that is held: in an IN transfer, is its data not immediate?
+fn is_from_memory(input: bool, immediate: bool) -> bool
+    ensures { result ≡ (not input || not immediate) }
 {
-    !(phase_table::is_held(outcome) && input && data.immediate_data)
+    !input || !immediate
 }
 
-// Question 5: if this TRB would be held, are then at most 512 held?
-#[tactic(auto, unfolding(crate::specs::Submission::has_room))]
-fn is_room(outcome: Outcome, held: usize) -> bool
+// Question 5, of a TRB that is held: is there a place for it?
+fn has_place(restart: bool, held: usize) -> bool
     requires { held ≤ max_held }
-    ensures { result ≡ has_room outcome held }
+    ensures { result ≡ nat_le (if restart then 1 else held + 1) max_held }
 {
-    !phase_table::is_held(outcome) || phase_table::is_restart(outcome) || held < trb::MAX_HELD
+    restart || held + 1 <= trb::MAX_HELD
 }
 
-// Question 6: if it would be held, does its data lie in guest memory?
-#[tactic(auto, unfolding(crate::specs::Submission::reaches))]
-fn is_reached(outcome: Outcome, input: bool, data: TrbData, regions: Regions) -> bool
-    ensures { result ≡ reaches outcome input «data» regions }
-{
-    !phase_table::is_held(outcome) || control_transfer::is_in_reach(input, data, regions)
-}
-
-// Question 7: on OUT, would the collected count be at most 65,535?
-fn is_collectable(outcome: Outcome, input: bool, collected: usize, data: TrbData) -> bool
+// Question 7, of a TRB that is held: on OUT, would the collected count be at most 65,535?
+fn is_few(input: bool, collected: usize, data: TrbData) -> bool
     requires { collected ≤ max_collected }
-    ensures { result ≡ collectable outcome input collected «data» }
+    ensures { result ≡ (input || nat_le (collected + size_of «data») max_collected) }
 {
-    !control_transfer::is_collected(outcome, input)
-        || collected + control_transfer::size_of(data) as usize <= trb::MAX_COLLECTED
+    input || collected + control_transfer::size_of(data) as usize <= trb::MAX_COLLECTED
+}
+
+// Questions 21 and 5 to 7, of a TRB that is held and moves this data.
+#[tactic(auto, unfolding(trb::specs::Questions::first_no, crate::specs::Submission::has_room, crate::specs::Submission::reaches, control_transfer::specs::Transfers::collects))]
+fn ask_of_held(facts: BlockFacts, outcome: Outcome, data: TrbData, regions: Regions) -> Answer
+    requires { (holds outcome ≡ true) × ((facts.held ≤ max_held) × (facts.collected ≤ max_collected)) }
+    ensures { number_of result ≡ first_no (held_questions facts outcome «data» regions) }
+{
+    let input = facts.direction;
+    trb::ask(
+        is_from_memory(input, data.immediate_data),
+        Refusal::ImmediateInput,
+    )?;
+    trb::ask(
+        has_place(phase_table::is_restart(outcome), facts.held),
+        Refusal::TooManyHeld,
+    )?;
+    trb::ask(
+        control_transfer::is_in_reach(input, data, regions),
+        Refusal::OutsideGuestMemory,
+    )?;
+    trb::ask(
+        is_few(input, facts.collected, data),
+        Refusal::TooMuchCollected,
+    )
+}
+
+// Questions 4, 21 and 5 to 7, of a TRB that moves this data.
+#[tactic(auto, unfolding(trb::specs::Questions::first_no, crate::specs::Submission::has_room, crate::specs::Submission::reaches, control_transfer::specs::Transfers::collects))]
+fn ask_of_trb(facts: BlockFacts, outcome: Outcome, data: TrbData, regions: Regions) -> Answer
+    requires { (facts.held ≤ max_held) × (facts.collected ≤ max_collected) }
+    ensures { number_of result ≡ first_no (trb_questions facts outcome «data» regions) }
+{
+    trb::ask(
+        data.transfer_length <= trb::MAX_TRANSFER_LENGTH,
+        Refusal::TransferTooLong,
+    )?;
+    if phase_table::is_held(outcome) {
+        ask_of_held(facts, outcome, data, regions)
+    } else {
+        Ok(())
+    }
 }
 
 // Questions 1, 13, 2 to 4, 21 and 5 to 7, of a log and a collect buffer of these lengths, guest memory in these regions, and a TRB that
-// becomes this.
+// becomes this and moves this data.
 #[tactic(auto, unfolding(trb::specs::Questions::first_no, crate::specs::Submission::submission_questions))]
 pub fn ask_submission(
     log_length: usize,
     collect_length: usize,
     facts: BlockFacts,
     outcome: Outcome,
-    t: TransferTrb,
+    data: TrbData,
     regions: Regions,
 ) -> Answer
-    ensures { number_of result ≡ first_no (submission_questions log_length collect_length facts outcome t regions) }
+    ensures { (t : TransferTrb) → «data» ≡ data_of t.variant → number_of result ≡ first_no (submission_questions log_length collect_length facts outcome t regions) }
 {
-    let data = control_transfer::data_of(t.variant);
     trb::ask(
         trb::MIN_LOG <= log_length && trb::MAX_COLLECTED <= collect_length,
         Refusal::BufferTooShort,
@@ -77,23 +110,7 @@ pub fn ask_submission(
         control_block::submission_due(facts.state),
         Refusal::OutOfTurn,
     )?;
-    trb::ask(
-        trb::transfer_length(t.variant) <= trb::MAX_TRANSFER_LENGTH,
-        Refusal::TransferTooLong,
-    )?;
-    trb::ask(
-        is_immediate_allowed(outcome, facts.direction, data),
-        Refusal::ImmediateInput,
-    )?;
-    trb::ask(is_room(outcome, facts.held), Refusal::TooManyHeld)?;
-    trb::ask(
-        is_reached(outcome, facts.direction, data, regions),
-        Refusal::OutsideGuestMemory,
-    )?;
-    trb::ask(
-        is_collectable(outcome, facts.direction, facts.collected, data),
-        Refusal::TooMuchCollected,
-    )
+    ask_of_trb(facts, outcome, data, regions)
 }
 
 // ---- Completion

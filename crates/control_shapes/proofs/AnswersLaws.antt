@@ -1,10 +1,11 @@
 -- The length asked for: it is at most max_shape, so that every answer fits the program's buffer. Assumes nothing.
+use Rattle.std.specs.Prelude.{Option, Some, None, IfSome}
 use Prim.Native.Nat.{ℕ, ◌+◌, ◌-◌, ◌*◌, ◌≤◌}
-use mathlib.Core.Path.{◌≡◌, refl}
+use mathlib.Core.Path.{◌≡◌, refl, sym, subst, ◌∙◌}
 use mathlib.Core.Bool.{Bool, true, false, cond}
 use mathlib.Core.List.{List, [], ◌∷◌, ◌++◌}
 use native.Mathlib.Omega.{arith}
-use borrow.Author.Tests.{ltb-false, eq-eqb, ne_eqb}
+use borrow.Author.Tests.{ltb-false}
 use lib.Dec.{eqb, ltb}
 use lib.ListN.{length, take, drop}
 use lib.Seq.{take_at}
@@ -38,44 +39,48 @@ text-first t {vs = vs} e n = rw (e, n) (take_at vs (drop (0 + length vs) t) (len
 
 -- ---- At most max_shape
 
-unless : (b : Bool) (x : ℕ) → (b ≡ false → x ≤ max_shape) → cond b 0 x ≤ max_shape
-unless true x f = omega arith
-unless false x f = f refl
+abbrev Most : Option ℕ → Type 0
+Most m = IfSome m (λ n. n ≤ max_shape)
 
-either : (b : Bool) (x y : ℕ) → x ≤ max_shape → y ≤ max_shape → cond b x y ≤ max_shape
-either true x y f g = f
-either false x y f g = g
+unless : (b : Bool) (m : Option ℕ) → (b ≡ false → Most m) → Most (cond b None m)
+unless true m f = tt
+unless false m f = f refl
 
-in_range-most : (m : ℕ) → in_range m ≤ max_shape
-in_range-most m = unless (ltb m min_shape) (cond (ltb max_shape m) 0 m) (λ _. unless (ltb max_shape m) m (λ q. ltb-false max_shape m q))
+either : (b : Bool) (m n : Option ℕ) → Most m → Most n → Most (cond b m n)
+either true m n f g = f
+either false m n f g = g
 
-one_digit-most : (c : ℕ) → one_digit c ≤ max_shape
-one_digit-most c = unless (ltb c 48) (cond (ltb 57 c) 0 (in_range (c - 48))) (λ _. unless (ltb 57 c) (in_range (c - 48)) (λ _. in_range-most (c - 48)))
+in_range-most : (m : ℕ) → Most (in_range m)
+in_range-most m = unless (ltb m min_shape) (cond (ltb max_shape m) None (Some m)) (λ _. unless (ltb max_shape m) (Some m) (λ q. ltb-false max_shape m q))
 
-two_digits-most : (b c : ℕ) → two_digits b c ≤ max_shape
+one_digit-most : (c : ℕ) → Most (one_digit c)
+one_digit-most c =
+    unless (ltb c 48) (cond (ltb 57 c) None (in_range (c - 48))) (λ _. unless (ltb 57 c) (in_range (c - 48)) (λ _. in_range-most (c - 48)))
+
+two_digits-most : (b c : ℕ) → Most (two_digits b c)
 two_digits-most b c = let m : ℕ = 10 * (b - 48) + (c - 48) in
-    unless (ltb b 49) (cond (ltb 57 b) 0 (cond (ltb c 48) 0 (cond (ltb 57 c) 0 (in_range m)))) λ _.
-    unless (ltb 57 b) (cond (ltb c 48) 0 (cond (ltb 57 c) 0 (in_range m))) λ _.
-    unless (ltb c 48) (cond (ltb 57 c) 0 (in_range m)) λ _.
+    unless (ltb b 49) (cond (ltb 57 b) None (cond (ltb c 48) None (cond (ltb 57 c) None (in_range m)))) λ _.
+    unless (ltb 57 b) (cond (ltb c 48) None (cond (ltb 57 c) None (in_range m))) λ _.
+    unless (ltb c 48) (cond (ltb 57 c) None (in_range m)) λ _.
     unless (ltb 57 c) (in_range m) λ _. in_range-most m
 
-pub asked-most : (l : List ℕ) → asked l ≤ max_shape
-asked-most [] = omega arith
+pub asked-most : (l : List ℕ) → IfSome (asked l) (λ n. n ≤ max_shape)
+asked-most [] = tt
 asked-most (b ∷ []) = one_digit-most b
 asked-most (b ∷ c ∷ []) = either (eqb c line_feed) (one_digit b) (two_digits b c) (one_digit-most b) (two_digits-most b c)
-asked-most (b ∷ c ∷ f ∷ []) = either (eqb f line_feed) (two_digits b c) 0 (two_digits-most b c) (omega arith)
-asked-most (b ∷ c ∷ f ∷ x ∷ l) = omega arith
+asked-most (b ∷ c ∷ f ∷ []) = either (eqb f line_feed) (two_digits b c) None (two_digits-most b c) tt
+asked-most (b ∷ c ∷ f ∷ x ∷ l) = tt
 
 -- ---- The answer, by the length asked for
 
-module _ (input : List ℕ) (longest : ℕ) (e : longest ≡ asked input) where
-  pub most : longest ≤ max_shape
-  most = rw e (asked-most input)
+module _ (input : List ℕ) {m : Option ℕ} (e : m ≡ asked input) where
+  pub most : (longest : ℕ) → m ≡ Some longest → longest ≤ max_shape
+  most longest is = subst Most (sym e ∙ is) (asked-most input)
 
-  pub refused-answered : longest ≡ 0 → {t t' : Text} → Wrote max_text t refused_text t' → Wrote max_text t (answer_text input) t'
+  pub refused-answered : m ≡ None → {t t' : Text} → Wrote max_text t refused_text t' → Wrote max_text t (answer_text input) t'
   unfolding answer_text
-  refused-answered f g = rw (← e, eq-eqb longest 0 f) g
+  refused-answered is g = rw (← e, is) g
 
-  pub shapes-answered : (longest ≡ 0 → ⊥) → {t t' : Text} → Wrote max_text t (shapes_text longest) t' → Wrote max_text t (answer_text input) t'
+  pub shapes-answered : (longest : ℕ) → m ≡ Some longest → {t t' : Text} → Wrote max_text t (shapes_text longest) t' → Wrote max_text t (answer_text input) t'
   unfolding answer_text
-  shapes-answered f g = rw (← e, ne_eqb longest 0 f) g
+  shapes-answered longest is g = rw (← e, is) g

@@ -17,51 +17,51 @@ use text::Text;
 // Room for `12`, a line feed and one byte, by which a longer input is noticed.
 const INPUT: usize = 4;
 
-// A length, and 0 for one of which no list is asked.
-fn in_range(m: usize) -> usize
+// A length, if a list may be asked of it.
+fn in_range(m: usize) -> Option<usize>
     ensures { result ≡ in_range m }
 {
     if shape_lines::MIN_SHAPE <= m && m <= shape_lines::MAX_SHAPE {
-        m
+        Some(m)
     } else {
-        0
+        None
     }
 }
 
 // One character as a length.
-fn one_digit(c: u8) -> usize
+fn one_digit(c: u8) -> Option<usize>
     ensures { result ≡ one_digit c }
 {
     match c {
         b'0'..=b'9' => in_range((c - b'0') as usize),
-        _ => 0,
+        _ => None,
     }
 }
 
 // Two characters as a length.
-fn two_digits(b: u8, c: u8) -> usize
+fn two_digits(b: u8, c: u8) -> Option<usize>
     ensures { result ≡ two_digits b c }
 {
     match (b, c) {
         (b'1'..=b'9', b'0'..=b'9') => in_range(10 * (b - b'0') as usize + (c - b'0') as usize),
-        _ => 0,
+        _ => None,
     }
 }
 
-// The length asked for, and 0 where no list is.
-fn asked(input: &[u8]) -> usize
+// The length asked for, if a list is.
+fn asked(input: &[u8]) -> Option<usize>
     ensures { result ≡ asked_of input.now }
 {
     match *input {
         [b] | [b, b'\n'] => one_digit(b),
         [b, c] | [b, c, b'\n'] => two_digits(b, c),
-        _ => 0,
+        _ => None,
     }
 }
 
 // ---- What is printed
 
-// Writes the line of an input that is refused.
+// Writes the line of an input that is refused: one word, as in `log_print`.
 #[tactic(auto, unfolding(numerals::specs::Digits::digit_char, numerals::specs::Digits::digits, numerals::specs::Digits::trimmed, numerals::specs::Digits::decimal_of, crate::specs::Answers::refused_text))]
 fn put_refused(text: &mut Text<'_>)
     requires { HasRoom max_text text.old }
@@ -76,8 +76,8 @@ fn put_answer(text: &mut Text<'_>, input: &[u8])
     ensures { Wrote max_text text.old (answer_text input.now) text.new }
 {
     match asked(input) {
-        0 => put_refused(text),
-        longest => shape_text::shapes_up_to(text, longest),
+        None => put_refused(text),
+        Some(longest) => shape_text::shapes_up_to(text, longest),
     }
 }
 
@@ -96,19 +96,13 @@ fn put_text(text: &mut [u8], input: &[u8]) -> usize
     text.end
 }
 
-fn text_buffer() -> [u8; shape_lines::MAX_TEXT]
-    ensures { length result ≡ max_text }
-{
-    [0u8; shape_lines::MAX_TEXT]
-}
-
 // Reads an input and writes the text for it.
 fn answer_input<R: Read, W: Write>(reader: &mut R, writer: &mut W) -> io::Result<()>
     ensures { OnOk result (WritesFor answer_text (R.remaining reader.old) (W.contents writer.old) (W.contents writer.new)) }
 {
     let mut input = [0u8; INPUT];
     let read = input_bytes::read_full(reader, &mut input)?;
-    let mut text = text_buffer();
+    let mut text = [0u8; shape_lines::MAX_TEXT];
     let end = put_text(&mut text, &input[..read]);
     writer.write_all(&text[..end])
 }

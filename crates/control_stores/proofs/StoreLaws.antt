@@ -22,7 +22,7 @@ use Rattle.control_block.specs.declared.ControlTransfer.{ControlTransfer}
 use Rattle.control_block.specs.declared.Ending.{Ending}
 use Rattle.control_block.specs.declared.Ending.TheVariants.{KeepCollecting, ReportBadTrb, Fail, Realize}
 use Rattle.control_block.specs.Blocks as blocks
-use Rattle.control_block.specs.Blocks.{transfer_of, at_phase, changed}
+use Rattle.control_block.specs.Blocks.{at_phase, changed}
 use Rattle.control_block.specs.Endings.{result_of, places_freed, phase_behind}
 use Rattle.control_transfer.specs.Transfers.{transfer_after}
 use Rattle.control_bytes.specs.Layout.{head_length, block_length, places_in, held_at, block_of}
@@ -73,14 +73,14 @@ behind-block b b' e =
 
 -- where the transfer is, then what is counted
 pub progress-stored : (b b' b'' : List ℕ) (phase : ControlTransferState) (state : ControlSubmissionState) (input : Bool) (collected asked held : ℕ)
-    → Headed b (turned phase input (transfer_of (block_of b))) state (block_of b).held b' → Headed b' (counting collected asked (transfer_of (block_of b'))) (block_of b').state held b''
-    → Headed b (counting collected asked (turned phase input (transfer_of (block_of b)))) state held b''
+    → Headed b (turned phase input (block_of b).transfer) state (block_of b).held b' → Headed b' (counting collected asked (block_of b').transfer) (block_of b').state held b''
+    → Headed b (counting collected asked (turned phase input (block_of b).transfer)) state held b''
 progress-stored b b' b'' phase state input collected asked held first second =
-    let at : transfer_of (block_of b') ≡ turned phase input (transfer_of (block_of b)) = ap transfer_of first.block in
+    let at : (block_of b').transfer ≡ turned phase input (block_of b).transfer = ap (λ (c : ControlBlock). c.transfer) first.block in
     let now : (block_of b').state ≡ state = ap (λ (x : ControlBlock). x.state) first.block in
     headed-then b b' b'' _ _ _ _ _ _ first
     (subst (λ (w : ControlTransfer). Headed b' (counting collected asked w) state held b'') at
-    (subst (λ (s : ControlSubmissionState). Headed b' (counting collected asked (transfer_of (block_of b'))) s held b'') now second))
+    (subst (λ (s : ControlSubmissionState). Headed b' (counting collected asked (block_of b').transfer) s held b'') now second))
 
 pub headed-as : (b : List ℕ) (w w' : ControlTransfer) (s s' : ControlSubmissionState) (held : ℕ) (b' : List ℕ) → w ≡ w' → s ≡ s' → Headed b w s held b' → Headed b w' s' held b'
 headed-as b w w' s s' held b' at now h = subst (λ (v : ControlTransfer). Headed b v s' held b') at (subst (λ (x : ControlSubmissionState). Headed b w x held b') now h)
@@ -88,7 +88,7 @@ headed-as b w w' s s' held b' at now h = subst (λ (v : ControlTransfer). Headed
 -- ---- Completion
 
 module _ (b b' : List ℕ) (x : Ending) (w : ControlTransfer) (n freed : ℕ) where
-  pub ended : w ≡ at_phase (phase_behind (block_of b).state (block_of b).phase) (transfer_of (block_of b)) → freed ≡ places_freed x (block_of b).held → n ≡ (block_of b).held - freed
+  pub ended : w ≡ at_phase (phase_behind (block_of b).state (block_of b).transfer.phase) (block_of b).transfer → freed ≡ places_freed x (block_of b).held → n ≡ (block_of b).held - freed
       → Headed b w NoTrbSubmitted n b' → Becomes b (block_behind x (block_of b)) b'
   unfolding completes.accepted
   ended at frees count h =
@@ -97,7 +97,7 @@ module _ (b b' : List ℕ) (x : Ending) (w : ControlTransfer) (n freed : ℕ) wh
       let places : places_in n (drop head_length b) ≡ cleared (places_freed x c.held) c.trbs = ap (λ (k : ℕ). places_in k (drop head_length b)) left ∙ sym (freed-places b x) in
       record {
         block = h.block ∙ (λ j. blocks.block_of c.endpoint_id c.slot_id c.release (at j) NoTrbSubmitted (left j) (places j))
-            ∙ ap (λ (r : Completed). r.block) (completed-by c x (result_of x) _ (phase_behind c.state c.phase) (places_freed x c.held) (cleared (places_freed x c.held) c.trbs) refl refl refl refl refl);
+            ∙ ap (λ (r : Completed). r.block) (completed-by c x (result_of x) _ (phase_behind c.state c.transfer.phase) (places_freed x c.held) (cleared (places_freed x c.held) c.trbs) refl refl refl refl refl);
         behind = behind-block b b' h.behind;
         long = h.long;
       }
@@ -130,7 +130,7 @@ module _ (b b' : List ℕ) (o : Outcome) (t : TransferTrb) (n r : ℕ) (count : 
   old = block_of b
 
   left_by : (v : Bool) → holds o ≡ v → r ≡ cond v (n + 1) n → places_in r (drop head_length b') ≡ cond v (set (places_in n (drop head_length b)) n t) (places_in n (drop head_length b))
-      → changed old (transfer_of old) old.state r (places_in r (drop head_length b')) ≡ held_after o (dropped_before o old) t
+      → changed old old.transfer old.state r (places_in r (drop head_length b')) ≡ held_after o (dropped_before o old) t
   left_by true hold more put =
       leaves-stored old t o r (places_in n (drop head_length b)) (places_in r (drop head_length b')) hold (ap (λ (k : ℕ). places_in k (drop head_length b)) count ∙ sym (dropped-places b (restarts o)))
       (more ∙ ap (λ (k : ℕ). k + 1) count) (put ∙ ap (λ (k : ℕ). set (places_in n (drop head_length b)) k t) count)
@@ -138,7 +138,7 @@ module _ (b b' : List ℕ) (o : Outcome) (t : TransferTrb) (n r : ℕ) (count : 
       leaves_kept old t o r (places_in n (drop head_length b)) (places_in r (drop head_length b')) hold (ap (λ (k : ℕ). places_in k (drop head_length b)) count ∙ sym (dropped-places b (restarts o)))
       (same ∙ count) kept
 
-  pub taken : (w : ControlTransfer) (state : ControlSubmissionState) (b'' : List ℕ) → w ≡ transfer_after o t.variant t.addr (transfer_of old) → state ≡ state_after o t.addr
+  pub taken : (w : ControlTransfer) (state : ControlSubmissionState) (b'' : List ℕ) → w ≡ transfer_after o t.variant t.addr old.transfer → state ≡ state_after o t.addr
       → Headed b' w state r b'' → Becomes b (block_after o old t) b''
   unfolding submits.accepted
   taken w state b'' at now p =

@@ -8,7 +8,6 @@ use Rattle.held.specs.declared.EndpointKind.TheVariants.{Control}
 use Rattle.phase_table.specs.declared.Outcome.{Outcome}
 use Rattle.phase_table.specs.Outcomes.{holds}
 use Rattle.control_block.specs.declared.ControlBlock.{ControlBlock}
-use Rattle.control_block.specs.Blocks.{transfer_of}
 use Rattle.control_bytes.specs.Layout.{head_length, block_length, places_in, block_of}
 
 -- the bytes became those of the block x, and no byte behind the block changed
@@ -30,6 +29,6 @@ pub record Held (b : List ℕ) (o : Outcome) (t : TransferTrb) (n r : ℕ) (b' :
   pub endpoint : (block_of b').endpoint_id ≡ (block_of b).endpoint_id
   pub slot : (block_of b').slot_id ≡ (block_of b).slot_id
   pub rule : (block_of b').release ≡ (block_of b).release
-  pub transfer : transfer_of (block_of b') ≡ transfer_of (block_of b)
+  pub transfer : (block_of b').transfer ≡ (block_of b).transfer
   pub behind : drop block_length b' ≡ drop block_length b
   pub long : length b' ≡ length b

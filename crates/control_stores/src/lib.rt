@@ -5,7 +5,6 @@ ghost use Rattle.std.specs.Prelude.{◌≡◌, true, ◌-◌, ◌<◌, ◌≤◌
 ghost use Rattle.trb.specs.Limits.{max_held, max_collected};
 ghost use Rattle.held_bytes.specs.Numbers.{trb_of};
 ghost use Rattle.phase_table.specs.Outcomes.{holds, restarts, state_after};
-ghost use Rattle.control_block.specs.Blocks.{transfer_of};
 ghost use Rattle.control_transfer.specs.Data.{data_of};
 ghost use Rattle.control_transfer.specs.Transfers.{transfer_after};
 ghost use Rattle.control_bytes.specs.Layout.{head_length, block_length, block_of};
@@ -43,7 +42,7 @@ fn advance(
     held: usize,
 )
     requires head_length_in_bounds { (head_length ≤ length block.old) × (held < 2 ^ 32) }
-    requires transfer_value { (transfer ≡ transfer_of (block_of block.old)) × ((transfer.collected ≤ max_collected) × («data» ≡ data_of (trb_of numbers).variant)) }
+    requires transfer_value { (transfer ≡ (block_of block.old).transfer) × ((transfer.collected ≤ max_collected) × («data» ≡ data_of (trb_of numbers).variant)) }
     ensures { Headed block.old (transfer_after outcome (trb_of numbers).variant numbers.addr transfer) (state_after outcome numbers.addr) held block.new }
 {
     let before = transfer.phase;
@@ -54,17 +53,15 @@ fn advance(
         control_bytes::put_head(block, begun, state, held);
         return;
     }
-    let input = transfer.direction;
     let size = control_numbers::size_taken(outcome, data);
-    let request_length = control_numbers::length_after(input, transfer.request.length, size);
-    let collected = control_numbers::collected_after(input, transfer.collected, size);
-    control_bytes::put_turn(block, phase, state, input);
-    control_bytes::put_counts(block, collected, request_length, held);
+    let grown = control_transfer::grow(transfer, size);
+    control_bytes::put_turn(block, phase, state, transfer.direction);
+    control_bytes::put_counts(block, grown.collected, grown.request.length, held);
 }
 
 // What a TRB of this outcome, given by numbers, that moves this data, makes of the block.
 pub fn take_trb(block: &mut [u8], outcome: Outcome, data: TrbData, numbers: TrbNumbers)
-    requires block_length_in_bounds { (block_length ≤ length block.old) × (((block_of block.old).held ≤ max_held) × (((block_of block.old).collected ≤ max_collected) × («data» ≡ data_of (trb_of numbers).variant))) }
+    requires block_length_in_bounds { (block_length ≤ length block.old) × (((block_of block.old).held ≤ max_held) × (((block_of block.old).transfer.collected ≤ max_collected) × («data» ≡ data_of (trb_of numbers).variant))) }
     requires holdable { holds outcome ≡ true → Holdable ((block_of block.old).held - places_dropped (restarts outcome) (block_of block.old).held) (trb_of numbers) }
     ensures { Becomes block.old (block_after outcome (block_of block.old) (trb_of numbers)) block.new }
 {

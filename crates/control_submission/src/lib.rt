@@ -1,21 +1,20 @@
 // A TRB submitted to the control endpoint; ports `submit_trb` of `ControlEndpointHandle`.
 #![tactic(auto)]
 
-ghost use Rattle.std.specs.Prelude.{◌≡◌};
 ghost use Rattle.guest_memory.specs.Lent.{seen};
 ghost use Rattle.control_endpoint.specs.Submission.{Submits};
 
-use control_block::{ControlBlock, ControlTransfer, Ending};
+use control_block::{ControlBlock, Ending};
 use control_endpoint::Submitted;
 use guest_memory::GuestView;
 use td_part::TdInfo;
 use trb::TransferTrb;
 
-// Takes a TRB. The places are copied once: copies of the block are most of what a call costs.
+// Takes a TRB. The block is changed where it lies: copies of it are most of what a call costs.
 pub fn submit_trb(
     log: &mut [u8],
     collect: &mut [u8],
-    block: ControlBlock,
+    mut block: ControlBlock,
     t: TransferTrb,
     memory: &GuestView<'_>,
 ) -> Submitted
@@ -23,13 +22,14 @@ pub fn submit_trb(
 {
     let facts = control_block::facts_of(&block);
     let regions = memory.regions();
-    let outcome = phase_table::trb_outcome(block.phase, t.variant);
+    let outcome = phase_table::trb_outcome(block.transfer.phase, t.variant);
+    let data = control_transfer::data_of(t.variant);
     let answer = control_questions::ask_submission(
         log.len(),
         collect.len(),
         facts,
         outcome,
-        t,
+        data,
         regions,
     );
     match answer {
@@ -53,46 +53,31 @@ pub fn submit_trb(
                 log,
                 progress.records,
                 outcome,
-                block.request,
+                block.transfer.request,
                 block.endpoint_id,
                 block.slot_id,
             );
-            control_transfer::collect_trb(
+            control_transfer::collect_data(
                 collect,
                 outcome,
-                block.direction,
-                block.collected,
-                t.variant,
+                block.transfer.direction,
+                block.transfer.collected,
+                data,
                 memory,
             );
-            let mut held = block.held - dropped;
-            let mut trbs = block.trbs;
-            held::clear(&mut trbs, dropped);
-            if phase_table::is_held(outcome) {
-                trbs[held] = t;
-                held += 1;
-            }
-            let before = ControlTransfer {
-                phase: block.phase,
-                direction: block.direction,
-                request: block.request,
-                collected: block.collected,
-            };
+            let before = block.transfer;
             let transfer = control_transfer::transfer_after(outcome, before, t.variant, t.addr);
-            let state = phase_table::state_after(outcome, t.addr);
+            held::clear(&mut block.trbs, dropped);
+            block.held -= dropped;
+            if phase_table::is_held(outcome) {
+                control_block::store(&mut block, t);
+            }
+            block.transfer = transfer;
+            block.state = phase_table::state_after(outcome, t.addr);
             Submitted {
                 answer,
                 records,
-                block: ControlBlock {
-                    phase: transfer.phase,
-                    state,
-                    direction: transfer.direction,
-                    request: transfer.request,
-                    collected: transfer.collected,
-                    held,
-                    trbs,
-                    ..block
-                },
+                block,
             }
         }
     }

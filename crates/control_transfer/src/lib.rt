@@ -3,7 +3,7 @@
 // `collect_transfer_data`.
 #![tactic(auto)]
 
-ghost use Rattle.std.specs.Prelude.{◌≡◌, ◌+◌, ◌*◌, ◌≤◌, true, not, ◌||◌, length};
+ghost use Rattle.std.specs.Prelude.{◌≡◌, ◌+◌, ◌*◌, ◌≤◌, true, not, ◌||◌, [], if◌then◌else◌, length};
 ghost use Rattle.buffers.specs.LittleEndian.{le_bytes};
 ghost use Rattle.buffers.specs.Patch.{patch};
 ghost use Rattle.trb.specs.Limits.{record_length, max_collected};
@@ -11,12 +11,14 @@ ghost use Rattle.guest_memory.specs.Places.{bytes_at};
 ghost use Rattle.guest_memory.specs.Lent.{seen};
 ghost use Rattle.call_log.specs.Calls.{Meets, counted};
 ghost use Rattle.control_transfer.specs.Data.{no_data, data_of, immediate_length, size_of, in_reach, bytes_of};
-ghost use Rattle.control_transfer.specs.Transfers.{request_of, begun, lengthened, grown, taken_by, held_into, transfer_after, requests_of, collects, collectable, bytes_taken};
+ghost use Rattle.control_transfer.specs.Transfers.{request_of, begun, lengthened, grown, taken_by, held_into, transfer_after, requests_of, collects, collectable};
 
 use control_block::ControlTransfer;
 use guest_memory::{GuestView, Regions};
 use phase_table::Outcome;
-use trb::{EndpointId, SetupStageTrb, SlotId, TransferTrbVariant, UsbRequest};
+use trb::{
+    ControlTransferState, EndpointId, SetupStageTrb, SlotId, TransferTrbVariant, UsbRequest,
+};
 
 // ---- The data of a TRB
 
@@ -24,21 +26,18 @@ use trb::{EndpointId, SetupStageTrb, SlotId, TransferTrbVariant, UsbRequest};
 pub const MAX_IMMEDIATE: u32 = 8;
 
 // What a DataStage or Normal TRB moves.
-#[derive(Clone, Copy)]
+#[derive(Clone, Copy, Default)]
 pub struct TrbData {
     pub data_pointer: u64,
     pub transfer_length: u32,
     pub immediate_data: bool,
 }
 
-fn no_data() -> TrbData
+// The data of a TRB that moves nothing.
+pub fn no_data() -> TrbData
     ensures { result ≡ no_data }
 {
-    TrbData {
-        data_pointer: 0,
-        transfer_length: 0,
-        immediate_data: false,
-    }
+    TrbData::default()
 }
 
 // The data that a TRB moves; of any other than a Data Stage or Normal TRB, none.
@@ -98,7 +97,7 @@ fn collect_immediate(collect: &mut [u8], at: usize, pointer: u64, count: usize)
     requires { (at + count ≤ length collect.old) × (count ≤ 8) }
     ensures { collect.new ≡ patch collect.old at (le_bytes count pointer) }
 {
-    let cells = buffers::le64_bytes(pointer);
+    let cells = pointer.to_le_bytes();
     buffers::copy_into(collect, at, &cells[..count]);
 }
 
@@ -141,16 +140,16 @@ fn request_of(setup_stage: SetupStageTrb, addr: u64) -> UsbRequest
     }
 }
 
-// A Setup TRB starts a transfer.
-fn instantiate_setup_trb(
-    transfer: ControlTransfer,
+// The transfer that a Setup TRB at `addr` starts, in this phase.
+pub fn instantiate_setup_trb(
+    phase: ControlTransferState,
     setup_stage: SetupStageTrb,
     addr: u64,
 ) -> ControlTransfer
-    ensures { result ≡ begun transfer.phase setup_stage addr }
+    ensures { result ≡ begun phase setup_stage addr }
 {
     ControlTransfer {
-        phase: transfer.phase,
+        phase,
         direction: 128 <= setup_stage.request_type,
         request: request_of(setup_stage, addr),
         collected: 0,
@@ -168,7 +167,7 @@ fn lengthen(request: UsbRequest, size: u32) -> UsbRequest
 }
 
 // `size` bytes more are asked for on IN, collected on OUT.
-fn grow(transfer: ControlTransfer, size: u32) -> ControlTransfer
+pub fn grow(transfer: ControlTransfer, size: u32) -> ControlTransfer
     requires { transfer.collected ≤ max_collected }
     ensures { result ≡ grown transfer size }
 {
@@ -191,11 +190,7 @@ fn take_into(transfer: ControlTransfer, variant: TransferTrbVariant, addr: u64) 
     ensures { result ≡ taken_by variant addr transfer }
 {
     match variant {
-        TransferTrbVariant::SetupStage(setup_stage) => instantiate_setup_trb(
-            transfer,
-            setup_stage,
-            addr,
-        ),
+        TransferTrbVariant::SetupStage(setup) => instantiate_setup_trb(transfer.phase, setup, addr),
         TransferTrbVariant::DataStage(_) | TransferTrbVariant::Normal(_) => {
             grow(transfer, size_of(data_of(variant)))
         }
@@ -259,20 +254,19 @@ pub fn is_collected(outcome: Outcome, input: bool) -> bool
     phase_table::is_held(outcome) && !input
 }
 
-// Collects the TRB's bytes just behind the `collected` ones, on OUT.
-pub fn collect_trb(
+// Collects this data of a TRB just behind the `collected` bytes, on OUT.
+pub fn collect_data(
     collect: &mut [u8],
     outcome: Outcome,
     input: bool,
     collected: usize,
-    variant: TransferTrbVariant,
+    data: TrbData,
     memory: &GuestView<'_>,
 )
-    requires { (max_collected ≤ length collect.old) × (collectable outcome input collected (data_of variant) ≡ true) }
-    ensures { collect.new ≡ patch collect.old collected (bytes_taken outcome input variant (seen memory.now)) }
+    requires { (max_collected ≤ length collect.old) × (collectable outcome input collected «data» ≡ true) }
+    ensures { collect.new ≡ patch collect.old collected (if collects outcome input then bytes_of (seen memory.now) «data» else []) }
 {
     if is_collected(outcome, input) {
-        let data = data_of(variant);
         collect_transfer_data(collect, collected, data, memory);
     }
 }

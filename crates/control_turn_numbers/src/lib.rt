@@ -1,4 +1,5 @@
-// The turn of a TRB held as the completion of a control transfer comes, as in control_turn, of a TRB that is given by numbers.
+// The turn of a TRB held as the completion of a control transfer comes, as in control_turn, of a TRB that is given by numbers: decoded
+// first it goes through memory, which on IN cost 86 of 494 instructions, 14 of 34 ns.
 #![tactic(auto)]
 
 ghost use Rattle.std.specs.Prelude.{◌+◌, ◌*◌, ◌≤◌, length};
@@ -50,6 +51,7 @@ fn realize_trb(
 }
 
 // A TRB held has its turn as the completion ends so: it is dropped, realized, or passed over.
+#[tactic(auto, using(call_log::proofs::LogLaws::logged_none))]
 pub fn next_trb(
     log: &mut [u8],
     ending: Ending,
@@ -61,12 +63,11 @@ pub fn next_trb(
     ensures { Meets (next_trb ending info progress (trb_of numbers)) progress.records log.old result log.new }
 {
     match ending {
-        Ending::KeepCollecting => progress,
+        Ending::KeepCollecting | Ending::Fail(_, _) => progress,
         Ending::ReportBadTrb(_) => {
             let t = held_bytes::trb_of(numbers);
             control_dropped::report_dropped(log, info, progress, t)
         }
-        Ending::Fail(_, _) => progress,
         Ending::Realize(input, _) => {
             realize_trb(log, ControlTd { info, input }, progress, numbers)
         }

@@ -18,7 +18,7 @@ use in_block::InBlock;
 use in_endpoint::Completed;
 use trb::{
     Answer, InTrbProcessingStatus, Refusal, TdBasedNormalSubmissionState, TransferTrb,
-    TransferTrbVariant, TrbProcessingResult,
+    TransferTrbVariant,
 };
 
 // ---- Question 11, of the TRBs held
@@ -130,16 +130,17 @@ pub fn complete_and_carry_out(
     ensures same { SameRegions memory.old memory.new }
 {
     let regions = memory.regions();
-    let asked = ask(log.len(), &block, res, data.len(), regions);
-    if asked.is_err() {
-        return Completed {
-            answer: in_endpoint::completion_answer(asked, TrbProcessingResult::Ok),
+    match ask(log.len(), &block, res, data.len(), regions) {
+        Err(refusal) => Completed {
+            answer: Err(refusal),
             records: 0,
             block,
-        };
+        },
+        Ok(()) => {
+            let done = in_completion::next_completion(log, block, res, data);
+            // What is asked of a log was asked above: it is carried out.
+            let _ = carry_out_first(log, done.records, data, memory);
+            done
+        }
     }
-    let done = in_completion::next_completion(log, block, res, data);
-    // What is asked of a log was asked above: it is carried out.
-    let _ = carry_out_first(log, done.records, data, memory);
-    done
 }

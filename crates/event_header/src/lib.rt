@@ -3,10 +3,9 @@
 
 ghost use Rattle.std.specs.Prelude.{◌≡◌};
 ghost use Rattle.capture_record.specs.Headers.{no_setup, usb_header};
-ghost use Rattle.capture_record.specs.Events.{completion, control, without_setup, rotated_right, transfer_type, submission_flag, completion_flag, in_status, error_status, setup_of, endpoint_zero, header_of};
+ghost use Rattle.capture_record.specs.Events.{completion, control, without_setup, pipe_address, submission_flag, completion_flag, in_status, error_status, setup_of, endpoint_zero, header_of};
 
-use capture_file::CaptureTime;
-use capture_record::{CaptureEvent, InPipe, TransferError, UsbDevice, UsbHeader, UsbSetup};
+use capture_record::{CaptureEvent, InPipe, Stamp, TransferError, UsbHeader, UsbSetup};
 use trb::{InTrbProcessingStatus, UsbRequest};
 
 // The event type E.
@@ -19,52 +18,28 @@ const ERROR_FLAG: u8 = b'E';
 
 const TRB_ERROR_STATUS: u32 = 4294967274;
 
-fn no_setup() -> UsbSetup
-    ensures { result ≡ no_setup }
-{
-    UsbSetup {
-        request_type: 0,
-        request: 0,
-        value: 0,
-        index: 0,
-        length: 0,
-    }
-}
-
 // What every header has: whose transfer it is of, when, and its identifier. It has no setup bytes, and all else is 0.
-fn blank(device: UsbDevice, time: CaptureTime, id: u64) -> UsbHeader
-    ensures { result ≡ usb_header device time.seconds time.microseconds id 0 0 0 without_setup 0 0 0 0 no_setup }
+fn blank(stamp: Stamp, id: u64) -> UsbHeader
+    ensures { result ≡ usb_header stamp.device stamp.time.seconds stamp.time.microseconds id 0 0 0 without_setup 0 0 0 0 no_setup }
 {
     UsbHeader {
         id,
-        event_type: 0,
-        transfer_type: 0,
-        endpoint_address: 0,
-        device_address: device.device_address,
-        bus_number: device.bus_number,
+        device_address: stamp.device.device_address,
+        bus_number: stamp.device.bus_number,
         setup_flag: WITHOUT_SETUP,
-        data_flag: 0,
-        seconds: time.seconds as u64,
-        microseconds: time.microseconds,
-        status: 0,
-        length: 0,
-        delivered: 0,
-        setup: no_setup(),
+        seconds: stamp.time.seconds as u64,
+        microseconds: stamp.time.microseconds,
+        ..UsbHeader::default()
     }
 }
 
 // ---- Codes
 
-fn rotated_right(byte: u8) -> u8
-    ensures { result ≡ rotated_right byte }
+// The id's low bit is the direction. Ports `endpoint_address`.
+fn pipe_address(pipe: InPipe) -> u8
+    ensures { result ≡ pipe_address pipe }
 {
-    byte.rotate_right(1)
-}
-
-fn transfer_type(pipe: InPipe) -> u8
-    ensures { result ≡ transfer_type pipe }
-{
-    if pipe.interrupt { 1 } else { 3 }
+    pipe.endpoint_id.0.rotate_right(1)
 }
 
 fn submission_flag(to_host: bool) -> u8
@@ -85,13 +60,14 @@ fn endpoint_zero(to_host: bool) -> u8
     if to_host { 128 } else { 0 }
 }
 
+// A table: each status has a number of its own.
 fn in_status(status: InTrbProcessingStatus) -> u32
     ensures { result ≡ in_status status }
 {
     match status {
-        InTrbProcessingStatus::Disconnect => 4294967277,
-        InTrbProcessingStatus::Stall => 4294967264,
-        InTrbProcessingStatus::TransactionError => 4294967225,
+        InTrbProcessingStatus::Disconnect => capture_record::DISCONNECTED,
+        InTrbProcessingStatus::Stall => capture_record::STALLED,
+        InTrbProcessingStatus::TransactionError => capture_record::TRANSACTION_FAILED,
         InTrbProcessingStatus::Success => 0,
     }
 }
@@ -100,9 +76,9 @@ fn error_status(error: TransferError) -> u32
     ensures { result ≡ error_status error }
 {
     match error {
-        TransferError::Disconnect => 4294967277,
-        TransferError::Stall => 4294967264,
-        TransferError::TransactionError => 4294967225,
+        TransferError::Disconnect => capture_record::DISCONNECTED,
+        TransferError::Stall => capture_record::STALLED,
+        TransferError::TransactionError => capture_record::TRANSACTION_FAILED,
     }
 }
 
@@ -115,63 +91,49 @@ fn setup_of(request: UsbRequest) -> UsbSetup
         request: request.request,
         value: request.value,
         index: request.index,
-        length: (request.length % 65536) as u16,
+        length: (request.length & 0xffff) as u16,
     }
 }
 
 // ---- Headers
 
-fn in_submission_header(
-    device: UsbDevice,
-    time: CaptureTime,
-    pipe: InPipe,
-    id: u64,
-    length: u32,
-) -> UsbHeader
-    ensures { result ≡ header_of device time.seconds time.microseconds (CaptureEvent.InSubmission pipe id length) 0 }
+fn in_submission_header(stamp: Stamp, pipe: InPipe, id: u64, length: u32) -> UsbHeader
+    ensures { result ≡ header_of stamp.device stamp.time.seconds stamp.time.microseconds (CaptureEvent.InSubmission pipe id length) 0 }
 {
-    let endpoint = pipe.endpoint_id.0;
     UsbHeader {
         event_type: capture_record::SUBMISSION,
-        transfer_type: transfer_type(pipe),
-        endpoint_address: rotated_right(endpoint),
-        data_flag: submission_flag(capture_record::is_odd(endpoint)),
+        transfer_type: u8::from(pipe.transfer_type),
+        endpoint_address: pipe_address(pipe),
+        data_flag: submission_flag(capture_record::is_odd(pipe.endpoint_id.0)),
         length,
-        ..blank(device, time, id)
+        ..blank(stamp, id)
     }
 }
 
 fn in_completion_header(
-    device: UsbDevice,
-    time: CaptureTime,
+    stamp: Stamp,
     pipe: InPipe,
     id: u64,
     status: InTrbProcessingStatus,
     count: u32,
 ) -> UsbHeader
-    ensures { result ≡ header_of device time.seconds time.microseconds (CaptureEvent.InCompletion pipe id status) count }
+    ensures { result ≡ header_of stamp.device stamp.time.seconds stamp.time.microseconds (CaptureEvent.InCompletion pipe id status) count }
 {
-    let endpoint = pipe.endpoint_id.0;
-    let input = capture_record::is_odd(endpoint);
+    let input = capture_record::is_odd(pipe.endpoint_id.0);
     UsbHeader {
         event_type: capture_record::COMPLETION,
-        transfer_type: transfer_type(pipe),
-        endpoint_address: rotated_right(endpoint),
+        transfer_type: u8::from(pipe.transfer_type),
+        endpoint_address: pipe_address(pipe),
         data_flag: completion_flag(input),
         status: in_status(status),
         length: count,
         delivered: if input { count } else { 0 },
-        ..blank(device, time, id)
+        ..blank(stamp, id)
     }
 }
 
-fn control_submission_header(
-    device: UsbDevice,
-    time: CaptureTime,
-    request: UsbRequest,
-    count: u32,
-) -> UsbHeader
-    ensures { result ≡ header_of device time.seconds time.microseconds (CaptureEvent.ControlSubmission request) count }
+fn control_submission_header(stamp: Stamp, request: UsbRequest, count: u32) -> UsbHeader
+    ensures { result ≡ header_of stamp.device stamp.time.seconds stamp.time.microseconds (CaptureEvent.ControlSubmission request) count }
 {
     let input = capture_record::to_host(request);
     UsbHeader {
@@ -183,20 +145,19 @@ fn control_submission_header(
         length: if input { request.length } else { 0 },
         delivered: if input { 0 } else { count },
         setup: setup_of(request),
-        ..blank(device, time, request.address)
+        ..blank(stamp, request.address)
     }
 }
 
 // Of a control transfer that ended well.
 fn control_completion_header(
-    device: UsbDevice,
-    time: CaptureTime,
+    stamp: Stamp,
     to_host: bool,
     id: u64,
     length: u32,
     delivered: u32,
 ) -> UsbHeader
-    ensures { result ≡ usb_header device time.seconds time.microseconds id completion control (endpoint_zero to_host) without_setup (completion_flag to_host) 0 length delivered no_setup }
+    ensures { result ≡ usb_header stamp.device stamp.time.seconds stamp.time.microseconds id completion control (endpoint_zero to_host) without_setup (completion_flag to_host) 0 length delivered no_setup }
 {
     UsbHeader {
         event_type: capture_record::COMPLETION,
@@ -205,19 +166,18 @@ fn control_completion_header(
         data_flag: completion_flag(to_host),
         length,
         delivered,
-        ..blank(device, time, id)
+        ..blank(stamp, id)
     }
 }
 
 fn control_error_header(
-    device: UsbDevice,
-    time: CaptureTime,
+    stamp: Stamp,
     to_host: bool,
     error: TransferError,
     request: UsbRequest,
     collected: u32,
 ) -> UsbHeader
-    ensures { result ≡ header_of device time.seconds time.microseconds (CaptureEvent.ControlError to_host error request collected) 0 }
+    ensures { result ≡ header_of stamp.device stamp.time.seconds stamp.time.microseconds (CaptureEvent.ControlError to_host error request collected) 0 }
 {
     UsbHeader {
         event_type: FAILURE,
@@ -228,45 +188,45 @@ fn control_error_header(
         status: error_status(error),
         length: collected,
         setup: setup_of(request),
-        ..blank(device, time, request.address)
+        ..blank(stamp, request.address)
     }
 }
 
-fn trb_error_header(device: UsbDevice, time: CaptureTime, id: u64) -> UsbHeader
-    ensures { result ≡ header_of device time.seconds time.microseconds (CaptureEvent.TrbError id) 0 }
+fn trb_error_header(stamp: Stamp, id: u64) -> UsbHeader
+    ensures { result ≡ header_of stamp.device stamp.time.seconds stamp.time.microseconds (CaptureEvent.TrbError id) 0 }
 {
     UsbHeader {
         event_type: FAILURE,
         transfer_type: capture_record::CONTROL,
         data_flag: ERROR_FLAG,
         status: TRB_ERROR_STATUS,
-        ..blank(device, time, id)
+        ..blank(stamp, id)
     }
 }
 
 // The usbmon header of an event with a payload of `count` bytes; ports `log_packet`.
-pub fn header_of(device: UsbDevice, time: CaptureTime, event: CaptureEvent, count: u32) -> UsbHeader
-    ensures { result ≡ header_of device time.seconds time.microseconds event count }
+pub fn header_of(stamp: Stamp, event: CaptureEvent, count: u32) -> UsbHeader
+    ensures { result ≡ header_of stamp.device stamp.time.seconds stamp.time.microseconds event count }
 {
     match event {
         CaptureEvent::InSubmission(pipe, id, length) => {
-            in_submission_header(device, time, pipe, id, length)
+            in_submission_header(stamp, pipe, id, length)
         }
         CaptureEvent::InCompletion(pipe, id, status) => {
-            in_completion_header(device, time, pipe, id, status, count)
+            in_completion_header(stamp, pipe, id, status, count)
         }
         CaptureEvent::ControlSubmission(request) => {
-            control_submission_header(device, time, request, count)
+            control_submission_header(stamp, request, count)
         }
         CaptureEvent::ControlCompletionIn(id) => {
-            control_completion_header(device, time, true, id, count, count)
+            control_completion_header(stamp, true, id, count, count)
         }
         CaptureEvent::ControlCompletionOut(id, length) => {
-            control_completion_header(device, time, false, id, length, 0)
+            control_completion_header(stamp, false, id, length, 0)
         }
         CaptureEvent::ControlError(to_host, error, request, collected) => {
-            control_error_header(device, time, to_host, error, request, collected)
+            control_error_header(stamp, to_host, error, request, collected)
         }
-        CaptureEvent::TrbError(id) => trb_error_header(device, time, id),
+        CaptureEvent::TrbError(id) => trb_error_header(stamp, id),
     }
 }

@@ -121,8 +121,8 @@ impl GuestMemory<'_> {
 
 // ---- Places
 
-// Where a range lies: outside, or in one of the regions from this index of its bytes on. Three cases and no Option of two: who asks where it lies takes
-// each of the three.
+// Where a range lies: outside, or in one of the regions from this index of its bytes on. Three cases and no Option of two: who asks where
+// it lies takes each of the three.
 #[derive(Clone, Copy)]
 pub enum Place {
     Outside,

@@ -11,64 +11,24 @@ pub fn header_bytes(header: UsbHeader) -> [u8; capture_file::USB_HEADER_LENGTH]
     ensures { result ≡ header_bytes header }
 {
     let setup = header.setup;
-    let [i0, i1, i2, i3, i4, i5, i6, i7] = header.id.to_le_bytes();
-    let [b0, b1] = header.bus_number.to_le_bytes();
-    let [s0, s1, s2, s3, s4, s5, s6, s7] = header.seconds.to_le_bytes();
-    let [m0, m1, m2, m3] = header.microseconds.to_le_bytes();
-    let [e0, e1, e2, e3] = header.status.to_le_bytes();
-    let [n0, n1, n2, n3] = header.length.to_le_bytes();
-    let [d0, d1, d2, d3] = header.delivered.to_le_bytes();
-    let [v0, v1] = setup.value.to_le_bytes();
-    let [x0, x1] = setup.index.to_le_bytes();
-    let [w0, w1] = setup.length.to_le_bytes();
-    [
-        i0,
-        i1,
-        i2,
-        i3,
-        i4,
-        i5,
-        i6,
-        i7,
-        header.event_type,
-        header.transfer_type,
-        header.endpoint_address,
-        header.device_address,
-        b0,
-        b1,
-        header.setup_flag,
-        header.data_flag,
-        s0,
-        s1,
-        s2,
-        s3,
-        s4,
-        s5,
-        s6,
-        s7,
-        m0,
-        m1,
-        m2,
-        m3,
-        e0,
-        e1,
-        e2,
-        e3,
-        n0,
-        n1,
-        n2,
-        n3,
-        d0,
-        d1,
-        d2,
-        d3,
-        setup.request_type,
-        setup.request,
-        v0,
-        v1,
-        x0,
-        x1,
-        w0,
-        w1,
-    ]
+    let mut cells = [0; capture_file::USB_HEADER_LENGTH];
+    cells[0..8].copy_from_slice(&header.id.to_le_bytes());
+    cells[8] = header.event_type;
+    cells[9] = header.transfer_type;
+    cells[10] = header.endpoint_address;
+    cells[11] = header.device_address;
+    cells[12..14].copy_from_slice(&header.bus_number.to_le_bytes());
+    cells[14] = header.setup_flag;
+    cells[15] = header.data_flag;
+    cells[16..24].copy_from_slice(&header.seconds.to_le_bytes());
+    cells[24..28].copy_from_slice(&header.microseconds.to_le_bytes());
+    cells[28..32].copy_from_slice(&header.status.to_le_bytes());
+    cells[32..36].copy_from_slice(&header.length.to_le_bytes());
+    cells[36..40].copy_from_slice(&header.delivered.to_le_bytes());
+    cells[40] = setup.request_type;
+    cells[41] = setup.request;
+    cells[42..44].copy_from_slice(&setup.value.to_le_bytes());
+    cells[44..46].copy_from_slice(&setup.index.to_le_bytes());
+    cells[46..48].copy_from_slice(&setup.length.to_le_bytes());
+    cells
 }

@@ -66,7 +66,7 @@ pub fn is_sound(kind: EndpointKind, t: TransferTrb) -> bool
     supports(kind, t.variant) && trb::transfer_length(t.variant) <= trb::MAX_TRANSFER_LENGTH
 }
 
-// Are all of these TRBs?
+// Is each of these TRBs sound?
 pub fn are_sound(kind: EndpointKind, trbs: &[TransferTrb]) -> bool
     ensures { result ≡ held_sound kind trbs.now }
 {

@@ -1,7 +1,7 @@
 // A TRB by numbers, and the place of a TRB in an endpoint block that lies in a lent row of bytes: what both endpoints in place share.
 #![tactic(auto)]
 
-ghost use Rattle.std.specs.Prelude.{◌≡◌, ◌+◌, ◌*◌, ◌<◌, ◌≤◌, length, drop, replicate};
+ghost use Rattle.std.specs.Prelude.{◌≡◌, ◌+◌, ◌<◌, ◌≤◌, length, drop, replicate};
 ghost use Rattle.buffers.specs.Patch.{patch};
 ghost use Rattle.trb.specs.declared.TransferTrbVariant.TheVariants.{SetupStage};
 ghost use Rattle.held_bytes.specs.Numbers.{bit_of, normal_of, setup_stage_of, data_stage_of, event_data_of, no_op_of, variant_of, trb_of, flags_of, setup_value, SetupFits, numbers_of};
@@ -20,8 +20,7 @@ pub const IN_LAYOUT: u8 = 1;
 
 pub const CONTROL_LAYOUT: u8 = 2;
 
-// A TRB by numbers: xHCI's type, the flags (by weight: 1 cycle bit, 2 chain, 4 interrupt on completion, 8 interrupt on short, 16
-// immediate data, 32 direction), the address, the data pointer, event data or setup bytes, and the transfer length.
+// A TRB by numbers: xHCI's type, the flags, the address, the data pointer, event data or setup bytes, and the transfer length.
 #[derive(Clone, Copy)]
 pub struct TrbNumbers {
     pub kind: u8,
@@ -31,9 +30,24 @@ pub struct TrbNumbers {
     pub transfer_length: u32,
 }
 
+// ---- Flags, by weight
+
+pub const CYCLE: u8 = 1;
+
+pub const CHAIN: u8 = 2;
+
+pub const INTERRUPT_ON_COMPLETION: u8 = 4;
+
+pub const INTERRUPT_ON_SHORT: u8 = 8;
+
+pub const IMMEDIATE_DATA: u8 = 16;
+
+pub const DIRECTION: u8 = 32;
+
 // ---- From numbers
 
-// Is the bit of this weight on? By division, since the weight may be any number but 0: of one that is no power of two a mask says something else.
+// Is the bit of this weight on? By division, since the weight may be any number but 0: of one that is no power of two a mask says something
+// else.
 pub fn bit(n: u8, weight: u8) -> bool
     requires { 0 < weight }
     ensures { result ≡ bit_of n weight }
@@ -48,10 +62,10 @@ pub fn normal(numbers: TrbNumbers) -> NormalTrb
     NormalTrb {
         data_pointer: numbers.value,
         transfer_length: numbers.transfer_length,
-        interrupt_on_short: bit(numbers.flags, 8),
-        chain: bit(numbers.flags, 2),
-        interrupt_on_completion: bit(numbers.flags, 4),
-        immediate_data: bit(numbers.flags, 16),
+        interrupt_on_short: bit(numbers.flags, INTERRUPT_ON_SHORT),
+        chain: bit(numbers.flags, CHAIN),
+        interrupt_on_completion: bit(numbers.flags, INTERRUPT_ON_COMPLETION),
+        immediate_data: bit(numbers.flags, IMMEDIATE_DATA),
     }
 }
 
@@ -66,7 +80,7 @@ pub fn setup_stage(numbers: TrbNumbers) -> SetupStageTrb
         value: (bytes >> 16 & 0xffff) as u16,
         index: (bytes >> 32 & 0xffff) as u16,
         length: (bytes >> 48) as u16,
-        interrupt_on_completion: bit(numbers.flags, 4),
+        interrupt_on_completion: bit(numbers.flags, INTERRUPT_ON_COMPLETION),
     }
 }
 
@@ -77,11 +91,11 @@ pub fn data_stage(numbers: TrbNumbers) -> DataStageTrb
     DataStageTrb {
         data_pointer: numbers.value,
         transfer_length: numbers.transfer_length,
-        chain: bit(numbers.flags, 2),
-        interrupt_on_completion: bit(numbers.flags, 4),
-        interrupt_on_short: bit(numbers.flags, 8),
-        immediate_data: bit(numbers.flags, 16),
-        direction: bit(numbers.flags, 32),
+        chain: bit(numbers.flags, CHAIN),
+        interrupt_on_completion: bit(numbers.flags, INTERRUPT_ON_COMPLETION),
+        interrupt_on_short: bit(numbers.flags, INTERRUPT_ON_SHORT),
+        immediate_data: bit(numbers.flags, IMMEDIATE_DATA),
+        direction: bit(numbers.flags, DIRECTION),
     }
 }
 
@@ -91,8 +105,8 @@ pub fn event_data(numbers: TrbNumbers) -> EventDataTrb
 {
     EventDataTrb {
         event_data: numbers.value,
-        chain: bit(numbers.flags, 2),
-        interrupt_on_completion: bit(numbers.flags, 4),
+        chain: bit(numbers.flags, CHAIN),
+        interrupt_on_completion: bit(numbers.flags, INTERRUPT_ON_COMPLETION),
     }
 }
 
@@ -101,8 +115,8 @@ pub fn no_op(flags: u8) -> NoOpTrb
     ensures { result ≡ no_op_of flags }
 {
     NoOpTrb {
-        chain: bit(flags, 2),
-        interrupt_on_completion: bit(flags, 4),
+        chain: bit(flags, CHAIN),
+        interrupt_on_completion: bit(flags, INTERRUPT_ON_COMPLETION),
     }
 }
 
@@ -115,9 +129,9 @@ fn variant(numbers: TrbNumbers) -> TransferTrbVariant
         raw_trb::SETUP_STAGE => TransferTrbVariant::SetupStage(setup_stage(numbers)),
         raw_trb::DATA_STAGE => TransferTrbVariant::DataStage(data_stage(numbers)),
         raw_trb::STATUS_STAGE => TransferTrbVariant::StatusStage(StatusStageTrb {
-            chain: bit(numbers.flags, 2),
-            interrupt_on_completion: bit(numbers.flags, 4),
-            direction: bit(numbers.flags, 32),
+            chain: bit(numbers.flags, CHAIN),
+            interrupt_on_completion: bit(numbers.flags, INTERRUPT_ON_COMPLETION),
+            direction: bit(numbers.flags, DIRECTION),
         }),
         raw_trb::ISOCH => TransferTrbVariant::Isoch,
         raw_trb::EVENT_DATA => TransferTrbVariant::EventData(event_data(numbers)),
@@ -133,7 +147,7 @@ pub fn trb_of(numbers: TrbNumbers) -> TransferTrb
     TransferTrb {
         variant: variant(numbers),
         addr: numbers.addr,
-        cycle_bit: bit(numbers.flags, 1),
+        cycle_bit: bit(numbers.flags, CYCLE),
     }
 }
 
@@ -150,21 +164,21 @@ fn flags_of(
     ensures { result ≡ flags_of cycle chain completion short immediate direction }
 {
     cycle as u8
-        + 2 * chain as u8
-        + 4 * completion as u8
-        + 8 * short as u8
-        + 16 * immediate as u8
-        + 32 * direction as u8
+        | (chain as u8) << 1
+        | (completion as u8) << 2
+        | (short as u8) << 3
+        | (immediate as u8) << 4
+        | (direction as u8) << 5
 }
 
 fn setup_value(t: SetupStageTrb) -> u64
     ensures { (result ≡ setup_value t) × SetupFits (SetupStage t) }
 {
     t.request_type as u64
-        + 256 * (t.request as u64)
-        + 65536 * (t.value as u64)
-        + 4294967296 * (t.index as u64)
-        + 281474976710656 * (t.length as u64)
+        | (t.request as u64) << 8
+        | (t.value as u64) << 16
+        | (t.index as u64) << 32
+        | (t.length as u64) << 48
 }
 
 // The numbers of a TRB.
@@ -268,7 +282,7 @@ pub fn numbers_of(t: TransferTrb) -> TrbNumbers
 
 // ---- Places
 
-// The numbers in the place that starts at `at`.
+// The numbers in the place that starts at `at`: of its transfer length 17 bits count.
 pub fn numbers_at(block: &[u8], at: usize) -> TrbNumbers
     requires { at + place_length ≤ length block.now }
     ensures { result ≡ numbers_at (drop at block.now) }
@@ -278,7 +292,7 @@ pub fn numbers_at(block: &[u8], at: usize) -> TrbNumbers
         flags: block[at + 21],
         addr: buffers::le64(block, at),
         value: buffers::le64(block, at + 8),
-        transfer_length: buffers::le32(block, at + 16) % (trb::MAX_TRANSFER_LENGTH + 1),
+        transfer_length: buffers::le32(block, at + 16) & trb::MAX_TRANSFER_LENGTH,
     }
 }
 
@@ -303,6 +317,7 @@ pub fn put_place(block: &mut [u8], at: usize, numbers: TrbNumbers)
 }
 
 // The `count` bytes from index `at` on become zero: blank places, where they are places.
+#[tactic(auto, unfolding(buffers::specs::Patch::patch))]
 pub fn blank_bytes(block: &mut [u8], at: usize, count: usize)
     requires { at + count ≤ length block.old }
     ensures { block.new ≡ patch block.old at (replicate count 0) }

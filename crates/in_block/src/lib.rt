@@ -22,7 +22,7 @@ pub struct InBlock {
     pub slot_id: SlotId,
     pub mode: InMode,
     pub state: TdBasedNormalSubmissionState,
-    // Of the places, the first so many are held. Places and their count, with no heap: a script makes blocks that say any count, and question 2 asks for the bound.
+    // Of the places, the first so many are held. Places and their count, since there is no heap; question 2 asks any block for the bound.
     pub held: usize,
     pub trbs: [TransferTrb; trb::MAX_HELD],
 }
@@ -56,25 +56,21 @@ pub fn with_state(block: InBlock, state: TdBasedNormalSubmissionState) -> InBloc
 }
 
 // One TRB more is held. `control_block` has the same: what the two share is the store to a place, which is one line.
-pub fn store(block: InBlock, t: TransferTrb) -> InBlock
-    requires { block.held < max_held }
-    ensures { result ≡ stored block t }
+pub fn store(block: &mut InBlock, t: TransferTrb)
+    requires { block.old.held < max_held }
+    ensures { block.new ≡ stored block.old t }
 {
-    let mut next = block;
-    next.trbs[block.held] = t;
-    next.held += 1;
-    next
+    block.trbs[block.held] = t;
+    block.held += 1;
 }
 
-// Nothing is held any more.
-pub fn empty(block: InBlock, state: TdBasedNormalSubmissionState) -> InBlock
-    ensures { result ≡ emptied block state }
+// Nothing is held any more, and the block is in this state.
+pub fn empty(block: &mut InBlock, state: TdBasedNormalSubmissionState)
+    ensures { block.new ≡ emptied block.old state }
 {
-    let mut next = block;
-    next.state = state;
-    held::clear(&mut next.trbs, next.held);
-    next.held = 0;
-    next
+    block.state = state;
+    held::clear(&mut block.trbs, block.held);
+    block.held = 0;
 }
 
 // Is a submission due in this state?
@@ -125,7 +121,7 @@ pub fn test_trb(so_far: HeldTest, t: TransferTrb) -> HeldTest
     }
 }
 
-// What it asks of these TRBs.
+// Tests these TRBs, from the first on.
 pub fn test_held(trbs: &[TransferTrb]) -> HeldTest
     ensures { result ≡ held_test trbs.now }
 {

@@ -3,15 +3,16 @@
 use Prim.Native.Nat.{ℕ, zero, suc, ◌+◌, ◌*◌, ◌%◌, ◌<◌, ◌≤◌}
 use mathlib.Core.Path.{◌≡◌, refl, sym, ap, ◌∙◌}
 use mathlib.Core.Bool.{Bool, true, false, cond, not, ◌&&◌}
-use mathlib.Core.List.{List}
+use mathlib.Core.List.{List, [], ◌∷◌, map}
 use native.Mathlib.Nat.{zero-add}
 use native.Mathlib.Numerals.{add-one}
 use native.Mathlib.Omega.{arith}
 use lib.Dec.{eqb}
 use lib.ListN.{length, take, drop, get_or, drop_of_length-le}
-use lib.Seq.{drop-cons, get_or-take, length-take-le}
-use borrow.Author.Tests.{le-leb, eq-eqb, ne_eqb}
-use Rattle.std.specs.List.{list_all, range_with_len}
+use lib.Seq.{drop-cons, get_or-take}
+use borrow.Author.Tests.{le-leb, ne_eqb}
+use Rattle.std.specs.List.{list_all}
+use Rattle.std.specs.Simd.{first_chunks}
 use Rattle.trb.specs.Limits.{max_held, max_transfer_length}
 use Rattle.held.specs.Places.{past_end}
 use Rattle.held.specs.Sound.{sound_trb}
@@ -25,6 +26,7 @@ use Rattle.in_block.specs.Facts.{in_sound}
 use Rattle.raw_trb.specs.Layouts.{normal_type, event_data_type, no_op_type}
 use Rattle.held_bytes.specs.Numbers.{variant_of}
 use Rattle.held_bytes.specs.Places.{place_length, place_of, places_of}
+use Rattle.held_bytes.proofs.ByteLaws.{take-drop-take}
 use Rattle.held_bytes.proofs.PlaceLaws.{length-places_of, take-places_of, place_at}
 use Rattle.in_bytes.specs.Layout.{head_length, places}
 
@@ -87,37 +89,65 @@ requested-few b n h =
     rw (take-places_of In n max_held (drop head_length b) h)
     (omega (arith, rw e at (requested-sound (places_of In n (drop head_length b)) (sound-places n (drop head_length b)))))
 
--- ---- A loop over the first n places
+-- ---- The places by their bytes
+
+-- a place is its first 24 bytes
+place-take : (l : List ℕ) → place_of In (take place_length l) ≡ place_of In l
+unfolding place_of
+place-take l =
+    rw (
+      take-drop-take 8 0 place_length l (omega arith),
+      take-drop-take 8 8 place_length l (omega arith),
+      take-drop-take 4 16 place_length l (omega arith),
+      get_or-take place_length l 20 0 (omega arith),
+      get_or-take place_length l 21 0 (omega arith),
+    )
+
+chunked : (n m : ℕ) (l : List ℕ) → n ≤ m → map (place_of In) (take n (first_chunks place_length m l)) ≡ places_of In n l
+unfolding places_of
+chunked zero m l h = refl
+chunked (suc n) zero l h = absurd (omega (arith, h))
+chunked (suc n) (suc m) l h = λ i. place-take l i ∷ chunked n m (drop place_length l) (omega (arith, h)) i
+
+pub held-chunks : (b : List ℕ) (n m : ℕ) → n ≤ max_held → n ≤ m → map (place_of In) (take n (first_chunks place_length m (drop head_length b))) ≡ take n (places b)
+held-chunks b n m few h = chunked n m (drop head_length b) h ∙ sym (take-places_of In n max_held (drop head_length b) few)
+
+-- the next place, and those behind it
+cells-next : (cells : List (List ℕ)) (i : ℕ) → i < length cells → map (place_of In) (drop i cells) ≡ place_of In (get_or cells i []) ∷ map (place_of In) (drop (i + 1) cells)
+cells-next cells i h = rw add-one (ap (map (place_of In)) (drop-cons cells i [] h))
+
+-- how many Normals the places hold
+abbrev pub normals-in : List (List ℕ) → ℕ
+normals-in cells = normals (map (place_of In) cells)
+
+pub normals-next : (cells : List (List ℕ)) (i : ℕ) → i < length cells
+    → normals-in (drop i cells) ≡ normal_count (place_of In (get_or cells i [])).variant + normals-in (drop (i + 1) cells)
+normals-next cells i h = ap normals (cells-next cells i h)
+
+pub normals-none : (cells : List (List ℕ)) (i : ℕ) → length cells ≤ i → normals-in (drop i cells) ≡ 0
+normals-none cells i h = ap normals-in (drop_of_length-le cells {i = i} h)
+
+-- what they request
+abbrev pub requested-in : List (List ℕ) → ℕ
+requested-in cells = requested (map (place_of In) cells)
+
+pub requested-next : (cells : List (List ℕ)) (i : ℕ) → i < length cells
+    → requested-in (drop i cells) ≡ length_of (normal_of (place_of In (get_or cells i [])).variant) + requested-in (drop (i + 1) cells)
+requested-next cells i h = ap requested (cells-next cells i h)
+
+pub requested-none : (cells : List (List ℕ)) (i : ℕ) → length cells ≤ i → requested-in (drop i cells) ≡ 0
+requested-none cells i h = ap requested-in (drop_of_length-le cells {i = i} h)
+
+-- is the TRB of these bytes no Normal?
+abbrev pub other : List ℕ → Bool
+other l = not (is_normal (place_of In l).variant)
 
 -- a Normal more: is the sum 0?
 one-more : (x : Bool) (rest : ℕ) → (not x && eqb rest 0) ≡ eqb (cond x 1 0 + rest) 0
 one-more true rest = sym (ne_eqb (1 + rest) 0 (λ e. omega (arith, e)))
 one-more false rest = ap (λ (x : ℕ). eqb x 0) (sym (zero-add rest))
 
-module _ (b : List ℕ) (n : ℕ) (few : n ≤ max_held) where
-  -- the TRB that a turn reads, and the rest
-  pub normals-turn : (i : ℕ) → i < n
-      → normals (drop i (take n (places b))) ≡ normal_count (place_of In (drop (head_length + place_length * i) b)).variant + normals (drop (i + 1) (take n (places b)))
-  normals-turn i more =
-      let len : length (take n (places b)) ≡ n = length-take-le n (places b) (few-places b n few) in
-      rw (add-one, ← placed b i (omega arith), ← get_or-take n (places b) i past_end more) (ap normals (drop-cons (take n (places b)) i past_end (omega arith)))
-
-  pub normals-end : (i : ℕ) → n ≤ i → normals (drop i (take n (places b))) ≡ 0
-  normals-end i h =
-      let len : length (take n (places b)) ≡ n = length-take-le n (places b) (few-places b n few) in
-      ap normals (drop_of_length-le (take n (places b)) {i = i} (omega arith))
-
-  -- is the TRB in place i no Normal?
-  abbrev pub other-at : ℕ → Bool
-  other-at i = not (is_normal (place_of In (drop (head_length + place_length * i) b)).variant)
-
-  none-from : (k i : ℕ) → i + k ≡ n → list_all other-at (range_with_len i k) ≡ eqb (normals (drop i (take n (places b)))) 0
-  none-from zero i e = sym (eq-eqb _ _ (normals-end i (omega arith)))
-  none-from (suc k) i e =
-      let at : Bool = is_normal (place_of In (drop (head_length + place_length * i) b)).variant in
-      let rest : ℕ = normals (drop (i + 1) (take n (places b))) in
-      ap (λ (x : Bool). other-at i && x) (none-from k (i + 1) (omega arith)) ∙ one-more at rest ∙ ap (λ (x : ℕ). eqb x 0) (sym (normals-turn i (omega arith)))
-
-  -- none of the n is a Normal
-  pub none-normal : list_all other-at (range_with_len 0 n) ≡ eqb (normals (take n (places b))) 0
-  none-normal = none-from n 0 (zero-add n)
+-- none of them is a Normal
+pub none-normal : (cells : List (List ℕ)) → list_all other cells ≡ eqb (normals-in cells) 0
+none-normal [] = refl
+none-normal (l ∷ cells) = ap (λ (x : Bool). other l && x) (none-normal cells) ∙ one-more (is_normal (place_of In l).variant) (normals-in cells)

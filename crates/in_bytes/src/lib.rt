@@ -2,7 +2,7 @@
 // bytes are.
 #![tactic(auto)]
 
-ghost use Rattle.std.specs.Prelude.{◌≡◌, true, cond, [], ◌∷◌, ◌+◌, ◌*◌, ◌≤◌, ◌%◌, ◌/◌, eqb, length, drop, take, set, replicate};
+ghost use Rattle.std.specs.Prelude.{◌≡◌, true, cond, [], ◌∷◌, ◌+◌, ◌*◌, ◌≤◌, ◌%◌, ◌/◌, eqb, length, map, drop, take, set, replicate};
 ghost use Rattle.trb.specs.Limits.{max_held, max_transfer_length};
 ghost use Rattle.buffers.specs.Patch.{patch};
 ghost use Rattle.buffers.specs.LittleEndian.{le_bytes, le_field};
@@ -17,8 +17,8 @@ use held_bytes::TrbNumbers;
 use in_td::InMode;
 use trb::{EndpointId, SlotId, TdBasedNormalSubmissionState, TransferTrb, TransferTrbVariant};
 
-// Bytes before the places, and bytes of a block. It is lent as a slice, and each function asks that the slice is long enough: an array would say so by its
-// type, but what a call promises is said of all bytes that were lent, of which the array would be the front alone.
+// Bytes before the places, and bytes of a block. It is lent as a slice, and each function asks that the slice is long enough: an array
+// would say so by its type, but what a call promises is said of all bytes that were lent, of which the array would be the front alone.
 pub const HEAD: usize = 16;
 
 pub const BLOCK: usize = HEAD + held_bytes::PLACE * trb::MAX_HELD;
@@ -99,6 +99,7 @@ fn held_variant(numbers: TrbNumbers) -> TransferTrbVariant
 }
 
 // The TRB in the place that starts at `at`.
+#[tactic(auto, unfolding(held_bytes::specs::Places::place_of))]
 pub fn trb_from(block: &[u8], at: usize) -> TransferTrb
     requires { at + place_length ≤ length block.now }
     ensures { result ≡ place_of In (drop at block.now) }
@@ -124,15 +125,23 @@ pub fn length_at(block: &[u8], at: usize) -> u32
     requires { at + place_length ≤ length block.now }
     ensures { result ≡ le_field 16 4 (drop at block.now) % (max_transfer_length + 1) }
 {
-    buffers::le32(block, at + 16) % (trb::MAX_TRANSFER_LENGTH + 1)
+    buffers::le32(block, at + 16) & trb::MAX_TRANSFER_LENGTH
 }
 
-// Is the TRB in place number i a Normal?
-fn normal_at(block: &[u8], i: usize) -> bool
-    requires { head_length + place_length * (i + 1) ≤ length block.now }
-    ensures { result ≡ is_normal (place_of In (drop (head_length + place_length * i) block.now)).variant }
+// The first `held` places, each by its bytes.
+pub fn held_places(block: &[u8], held: usize) -> &[[u8; held_bytes::PLACE]]
+    requires { (held ≤ max_held) × (block_length ≤ length block.now) }
+    ensures trbs { map (place_of In) result.now ≡ take held (places block.now) }
+    ensures count { length result.now ≡ held }
 {
-    block[HEAD + held_bytes::PLACE * i + 20] == raw_trb::NORMAL
+    &block[HEAD..].as_chunks().0[..held]
+}
+
+// Is the TRB in this place a Normal?
+fn is_normal(place: &[u8; held_bytes::PLACE]) -> bool
+    ensures { result ≡ is_normal (place_of In place.now).variant }
+{
+    place[20] == raw_trb::NORMAL
 }
 
 // Is none of the first `held` TRBs a Normal? The first Normal ends the search.
@@ -140,7 +149,9 @@ fn no_normal(block: &[u8], held: usize) -> bool
     requires { (held ≤ max_held) × (block_length ≤ length block.now) }
     ensures { result ≡ eqb (normals (take held (places block.now))) 0 }
 {
-    (0..held).all(|i| !normal_at(block, i))
+    held_places(block, held)
+        .iter()
+        .all(|place| !is_normal(place))
 }
 
 // 0 where none of the first `held` TRBs is a Normal, else 1. Where this is not asked, 0 without a look.
@@ -151,47 +162,46 @@ pub fn normals_seen(asked: bool, block: &[u8], held: usize) -> usize
     (asked && !no_normal(block, held)) as usize
 }
 
-// How many of the first `held` TRBs are Normals. A place is 24 bytes, and no element of a slice: so this loop and the next go over its
-// number.
+// How many of the first `held` TRBs are Normals.
 pub fn count_normals(block: &[u8], held: usize) -> usize
     requires { (held ≤ max_held) × (block_length ≤ length block.now) }
     ensures { result ≡ normals (take held (places block.now)) }
 {
     let mut count = 0;
-    for i in 0..held {
-        count += normal_at(block, i) as usize;
+    for place in held_places(block, held) {
+        count += is_normal(place) as usize;
     }
     count
 }
 
-// The length of the TRB in place number i, if it is a Normal; of any other TRB 0.
-fn normal_length_at(block: &[u8], i: usize) -> u32
-    requires { head_length + place_length * (i + 1) ≤ length block.now }
-    ensures { result ≡ length_of (normal_of (place_of In (drop (head_length + place_length * i) block.now)).variant) }
+// The length of the TRB in this place, if it is a Normal; of any other TRB 0.
+fn normal_length(place: &[u8; held_bytes::PLACE]) -> u32
+    ensures { result ≡ length_of (normal_of (place_of In place.now).variant) }
 {
-    if normal_at(block, i) {
-        length_at(block, HEAD + held_bytes::PLACE * i)
+    if is_normal(place) {
+        length_at(place, 0)
     } else {
         0
     }
 }
 
-// S, the sum of the Normal lengths of the first `held` TRBs.
+// S, the sum of the Normal lengths of the first `held` TRBs. By value `in_request::requested_length`; here a place's type and length alone
+// are read, and no TRB is made.
 pub fn requested_length(block: &[u8], held: usize) -> u32
     requires { (held ≤ max_held) × (block_length ≤ length block.now) }
     ensures { result ≡ requested (take held (places block.now)) }
 {
     let mut sum = 0;
-    for i in 0..held {
-        sum += normal_length_at(block, i);
+    for place in held_places(block, held) {
+        sum += normal_length(place);
     }
     sum
 }
 
 // ---- Storing
 
-// Stores the numbers of a TRB in place number i. Of a control block this is `control_bytes::put_trb`: what both store is `put_place`'s, and what they promise is
-// of two layouts.
+// Stores the numbers of a TRB in place number i. Of a control block this is `control_bytes::put_trb`: what both store is `put_place`'s, and
+// what they promise is of two layouts.
 pub fn put_trb(block: &mut [u8], i: usize, numbers: TrbNumbers)
     requires { head_length + place_length * (i + 1) ≤ length block.old }
     ensures { block.new ≡ patch block.old (head_length + place_length * i) (place_bytes numbers) }

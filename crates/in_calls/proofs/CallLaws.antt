@@ -124,7 +124,7 @@ module _ (b : InBlock) (bytes log : List ℕ) (m : Memory) where
   pub bad-call : (call : Call) → ((t : TransferTrb) → call ≡ Submit t → ⊥) → ((s : DeviceStatus) (n : ℕ) → call ≡ CompleteWithResult s n → ⊥) → ((n : ℕ) → call ≡ CompleteWithout n → ⊥) → (call ≡ Cancel → ⊥)
       → ((t : TransferTrb) → call ≡ Hold t → ⊥) → ((state : TdBasedNormalSubmissionState) → call ≡ MakeUpIn state → ⊥) → in_call b call bytes log m ≡ called (bad_said b) log m
   unfolding in_call
-  bad-call (Window a b c d) submit with_result without cancel hold make_up = refl
+  bad-call (Window window) submit with_result without cancel hold make_up = refl
   bad-call (Buffers l c) submit with_result without cancel hold make_up = refl
   bad-call (CreateIn e s mode) submit with_result without cancel hold make_up = refl
   bad-call (CreateControl e s release) submit with_result without cancel hold make_up = refl

@@ -19,8 +19,8 @@ use row_walk::TdResult;
 use text::Text;
 use trb::{EndpointId, InTrbProcessingStatus, SlotId, TdBasedNormalSubmissionState, TransferTrb};
 
-// A row that was written down: TRBs and results, and how many there are of each. A count stands beside its places, and is no slice's length: without a heap
-// the places are fixed memory, and a row of more TRBs than they hold is refused by its count.
+// A row that was written down: TRBs and results, and how many there are of each. A count stands beside its places, and is no slice's
+// length: without a heap the places are fixed memory, and a row of more TRBs than they hold is refused by its count.
 #[derive(Clone, Copy)]
 pub struct Row {
     pub trbs: [TransferTrb; trb::MAX_ROW],
@@ -132,13 +132,15 @@ fn cancel(text: &mut Text<'_>, block: InBlock) -> Ran<InBlock>
     answered(text, in_endpoint::cancel(block), 0)
 }
 
-fn hold(block: InBlock, t: TransferTrb) -> Ran<InBlock>
+#[tactic(auto, unfolding(crate::specs::Calls::hold_call))]
+fn hold(mut block: InBlock, t: TransferTrb) -> Ran<InBlock>
     ensures { result ≡ ran_of (hold_call block t) }
 {
     if trb::MAX_HELD <= block.held {
         return call_answer::bad(block);
     }
-    call_answer::silent(in_block::store(block, t))
+    in_block::store(&mut block, t);
+    call_answer::silent(block)
 }
 
 fn make_up(block: InBlock, state: TdBasedNormalSubmissionState) -> Ran<InBlock>

@@ -1,4 +1,5 @@
-// The IN endpoint: what its calls are, by definition; creation, cancel, and what a completion answers and reports; ports `TdBasedInEndpointHandle`.
+// The IN endpoint: what its calls are, by definition; creation, cancel, and what a completion answers and reports; ports
+// `TdBasedInEndpointHandle`.
 #![tactic(auto)]
 
 ghost use Rattle.std.specs.Prelude.{◌≡◌, [], ◌∷◌, ◌≤◌, length};
@@ -69,8 +70,9 @@ pub fn completion_answer(asked: Answer, res: TrbProcessingResult) -> CompletionA
 // ---- Cancel
 
 // Nothing is held any more, whatever the block held, and a submission is due; ports `cancel`.
-pub fn cancel(block: InBlock) -> InBlock
+pub fn cancel(mut block: InBlock) -> InBlock
     ensures { result ≡ cancelled block }
 {
-    in_block::empty(block, TdBasedNormalSubmissionState::SubmissionDue)
+    in_block::empty(&mut block, TdBasedNormalSubmissionState::SubmissionDue);
+    block
 }

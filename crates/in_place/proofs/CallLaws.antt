@@ -1,12 +1,14 @@
 -- What a completion in place comes to, by its answer and what it stored. Assumes nothing.
 use Rattle.std.specs.Prelude.{Err, None, Ok, Option}
-use Prim.Native.Nat.{ℕ, ◌<◌, ◌≤◌}
+use Prim.Native.Nat.{ℕ, zero, suc, ◌<◌, ◌≤◌}
+use lib.Dec.{leb}
 use mathlib.Core.Path.{◌≡◌, refl, sym, ap, ◌∙◌, subst}
 use mathlib.Core.Bool.{Bool, true, false}
 use mathlib.Core.List.{List}
+use Rattle.std.specs.Bool.{then_some}
 use native.Mathlib.Omega.{arith}
 use lib.ListN.{length, take, get_or}
-use borrow.Author.Tests.{eqb-false, ne_eqb, le-leb}
+use borrow.Author.Tests.{eqb-false, ne_eqb, le-leb, lt-leb}
 use Rattle.trb.specs.Answers.{number_of, is_accepted, refusal_of}
 use Rattle.trb.specs.Limits.{min_log, max_data}
 use Rattle.trb.specs.Refusals.{refusal_number}
@@ -37,7 +39,7 @@ use Rattle.in_endpoint.specs.Completion as completions
 use Rattle.account.specs.Guest.{Account}
 use Rattle.in_endpoint.specs.Returned.{Completed}
 use Rattle.in_endpoint.proofs.CompletionLaws.{accounted-completion, completion-number, completion_answer-refused, process_td-counts}
-use Rattle.answer_numbers.specs.Numbers.{completed_with, completion_answered}
+use Rattle.answer_numbers.specs.Numbers.{completed_with, completion_answered, status_of}
 use Rattle.answer_numbers.specs.declared.CompletionAnswered.{CompletionAnswered}
 use Rattle.in_bytes.specs.Layout.{block_length, endpoint_of, slot_of, mode_of, state_of, held_count, places, block_of}
 use Rattle.in_place_store.specs.Becomes.{Becomes}
@@ -75,10 +77,10 @@ module _ (s : Option InTrbProcessingStatus) (n : ℕ) (l b : List ℕ) where
   -- demand 3
   account-in-place : {r : CompletionAnswered} {l' : List ℕ} → Meets (completed_numbers (completions.completion (length l) (block_of b) s n)) 0 l r l'
       → AccountedInPlace (block_of b) n r (records_in r.records l')
-  account-in-place {r} {l'} m waits zero distinct isp last =
+  account-in-place {r} {l'} m waits nought distinct isp last =
       let o = completions.completion (length l) (block_of b) s n in
       let parts = answer-parts o.state.answer o.state.records in
-      let accepted = accepted-zero o.state.answer (sym parts.0 ∙ sym (ap (λ (x : CompletionAnswered). x.number) m.state) ∙ zero) in
+      let accepted = accepted-zero o.state.answer (sym parts.0 ∙ sym (ap (λ (x : CompletionAnswered). x.number) m.state) ∙ nought) in
       let count : o.state.records ≡ r.records = sym parts.1 ∙ sym (ap (λ (x : CompletionAnswered). x.records) m.state) in
       subst (λ (c : ℕ). Account n (held_of (block_of b)) (records_in c l')) count
       (accounted-completion l l' (block_of b) s n o.state (record { state = refl; log = m.log; fits = m.fits }) waits accepted distinct isp last)
@@ -122,6 +124,14 @@ module _ (s : Option InTrbProcessingStatus) (n : ℕ) (l b : List ℕ) where
 
 pub none-given : (n : ℕ) → 4 ≤ n → result_of n ≡ None
 none-given n h = simp (ne_eqb n 0 (λ e. omega (arith, e, h)), ne_eqb n 1 (λ e. omega (arith, e, h)), ne_eqb n 2 (λ e. omega (arith, e, h)), ne_eqb n 3 (λ e. omega (arith, e, h)))
+
+-- a device result by its number
+pub result-by : (n : ℕ) → result_of n ≡ then_some (leb n 3) (status_of n)
+result-by zero = refl
+result-by (suc zero) = refl
+result-by (suc (suc zero)) = refl
+result-by (suc (suc (suc zero))) = refl
+result-by (suc (suc (suc (suc n)))) = rw (lt-leb (suc (suc (suc (suc n)))) 3 (omega arith)) (none-given (suc (suc (suc (suc n)))) (omega arith))
 
 pub goes_on : (b : List ℕ) (k : ℕ) (s : Option InTrbProcessingStatus) (n : ℕ) → SoundIn 1 b → min_log ≤ k → n ≤ max_data → s ≡ None → GoesOn k s n b
 unfolding block_of completion_questions first_no
@@ -170,5 +180,5 @@ completes-short s n l b {r} short e =
       met = record { state = e; log = sym (logged_none l 0); fits = tt };
       becomes = becomes-same b;
       unchanged = λ h. refl;
-      account = λ waits zero distinct isp last. absurd (omega (arith, zero, ap (λ (x : CompletionAnswered). x.number) e));
+      account = λ waits nought distinct isp last. absurd (omega (arith, nought, ap (λ (x : CompletionAnswered). x.number) e));
     })

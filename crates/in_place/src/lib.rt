@@ -52,17 +52,11 @@ pub fn complete(
     }
 }
 
-// The device result by its number, as `next_completion` takes it.
+// The device result by its number, as `next_completion` takes it: 0 to 3 as `status_of` has them; any other number, no device result.
 pub fn result_of(status: u8) -> Option<InTrbProcessingStatus>
     ensures { result ≡ result_of status }
 {
-    match status {
-        0 => Some(InTrbProcessingStatus::Success),
-        1 => Some(InTrbProcessingStatus::Stall),
-        2 => Some(InTrbProcessingStatus::TransactionError),
-        3 => Some(InTrbProcessingStatus::Disconnect),
-        _ => None,
-    }
+    (status <= 3).then_some(answer_numbers::status_of(status))
 }
 
 // Is a TD collected, no device result given, and does every question say yes? So it is behind every TRB of a TD but the last.
@@ -86,6 +80,7 @@ pub fn next_completion(
 ) -> CompletionAnswered
     ensures { CompletesInPlace (lent_log log.old block.old) (result_of status) data_length log.old block.old result log.new block.new }
 {
+    // By hand, since what C reads is no Result that `?` could give back.
     if block.len() < in_bytes::BLOCK {
         return answer_numbers::completed_as(Err(Refusal::BufferTooShort), 0);
     }
@@ -98,8 +93,9 @@ pub fn next_completion(
 
 // ---- Creation and cancel
 
-// The bytes become a fresh block for this endpoint of this slot; mode 0 as ported, any other strict. Where an id is refused, both are 0; where the
-// bytes are too few for a block, they stay.
+// The bytes become a fresh block for this endpoint of this slot; mode 0 as ported, any other strict. Where an id is refused, both are 0;
+// where the bytes are too few for a block, they stay.
+#[tactic(auto, unfolding(trb::specs::Questions::first_no, in_endpoint::specs::Creation::creation))]
 pub fn create(block: &mut [u8], endpoint_id: u8, slot_id: u8, mode: u8) -> Answer
     ensures { CreatesInPlace (record { 0 = endpoint_id }) (record { 0 = slot_id }) (mode_of mode) block.old (number_of result) block.new }
 {
@@ -113,6 +109,7 @@ pub fn create(block: &mut [u8], endpoint_id: u8, slot_id: u8, mode: u8) -> Answe
 }
 
 // Nothing is held any more, whatever the block held, and a submission is due; ports `cancel`. Bytes that are too few for a block stay.
+#[tactic(auto, unfolding(trb::specs::Questions::first_no))]
 pub fn cancel(block: &mut [u8]) -> Answer
     ensures { CancelsInPlace block.old (number_of result) block.new }
 {

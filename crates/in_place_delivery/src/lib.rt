@@ -23,9 +23,9 @@ fn writes_inside(block: &[u8], held: usize, given: u32, regions: Regions) -> boo
     ensures { result ≡ writes_inside regions given (take held (places block.now)) }
 {
     let mut left = given;
-    // A loop that a no ends, as in `delivery`; an index, since a place is read by its number in the block's bytes.
-    for i in 0..held {
-        let one = in_bytes::trb_at(block, i);
+    // A loop that a no ends, as in `delivery`.
+    for place in in_bytes::held_places(block, held) {
+        let one = in_bytes::trb_from(place, 0);
         let count = delivery::bytes_taken(one.variant, left);
         if !delivery::write_inside(one.variant, count, regions) {
             return false;
@@ -98,6 +98,7 @@ pub fn complete_and_carry_out(
     ensures delivered { DeliversInPlace (lent_log log.old block.old) (result_of status) «data».now log.old block.old (lent memory.old) result log.new block.new (lent memory.new) }
     ensures same { SameRegions memory.old memory.new }
 {
+    // By hand, since what C reads is no Result that `?` could give back.
     if block.len() < in_bytes::BLOCK {
         return answer_numbers::completed_as(Err(Refusal::BufferTooShort), 0);
     }

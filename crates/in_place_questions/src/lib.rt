@@ -24,8 +24,8 @@ pub fn state_of(block: &[u8]) -> TdBasedNormalSubmissionState
     in_bytes::state_of(block[6], buffers::le64(block, 8))
 }
 
-// What the questions ask about. Of the TRBs held it is enough to know whether a block that awaits the device has a Normal: so the facts are given one by one, and not
-// by `in_block::facts_of` of a block.
+// What the questions ask about. Of the TRBs held it is enough to know whether a block that awaits the device has a Normal: so the facts are
+// given one by one, and not by `in_block::facts_of` of a block.
 pub fn facts_of(block: &[u8], state: TdBasedNormalSubmissionState) -> BlockFacts
     requires { (block_length ≤ length block.now) × (state ≡ (block_of block.now).state) }
     ensures { SameFacts result (facts_of (block_of block.now)) }

@@ -1,5 +1,5 @@
-// Each change of an IN block that lies in a lent row of bytes: a TRB more is held, the TRBs held are dropped or freed, the turn goes back, a
-// fresh block is made.
+// Each change of an IN block that lies in a lent row of bytes: a TRB more is held, the TRBs held are dropped or freed, the turn goes back,
+// a fresh block is made.
 #![tactic(auto)]
 
 ghost use Rattle.std.specs.Prelude.{◌≡◌, true, ◌≤◌, ◌<◌, length};

@@ -89,8 +89,8 @@ fn share_none(regions: Regions) -> bool
     regions.high.len == 0 || !guest_memory::share_an_address(regions)
 }
 
-// Is it a Normal with chain on, and does every question say yes? So it is of every TRB of a long TD but the last, in a few tests. They stand one behind the
-// other: as one condition its proof would take five joins apart, one inside the other.
+// Is it a Normal with chain on, and does every question say yes? So it is of every TRB of a long TD but the last, in a few tests. They
+// stand one behind the other: as one condition its proof would take five joins apart, one inside the other.
 fn is_collected(log_length: usize, block: &[u8], numbers: TrbNumbers, regions: Regions) -> bool
     requires { block_length ≤ length block.now }
     ensures { result ≡ true → Collected log_length block.now (trb_of numbers) regions }
@@ -124,6 +124,7 @@ pub fn submit_trb(
 ) -> Answered
     ensures { SubmitsInPlace (lent_log log.old block.old) (trb_of numbers) regions log.old block.old result log.new block.new }
 {
+    // By hand, since what C reads is no Result that `?` could give back.
     if block.len() < in_bytes::BLOCK {
         return answer_numbers::answered_as(Err(Refusal::BufferTooShort), 0);
     }

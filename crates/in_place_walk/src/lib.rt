@@ -20,6 +20,7 @@ pub fn walk(log: &mut [u8], block: &[u8], held: usize, td: InTd) -> TdProcessed
 }
 
 // The TD of the block, with this status and so many bytes.
+#[tactic(auto, unfolding(in_bytes::specs::Layout::block_of))]
 pub fn td_of(block: &[u8], status: InTrbProcessingStatus, data_length: u32) -> InTd
     requires { block_length ≤ length block.now }
     ensures { result ≡ in_td (endpoint_of block.now) (slot_of block.now) (block_of block.now).mode status data_length }

@@ -9,7 +9,7 @@ ghost use Rattle.in_row.specs.Completion.{CompletesTds};
 use guest_memory::GuestView;
 use in_block::InBlock;
 use row_walk::TdResult;
-use trb::{CompletionAnswer, TransferTrb, TrbProcessingResult};
+use trb::{CompletionAnswer, TransferTrb};
 
 // What a row comes to: the failing result, else Ok; TDs finished well; records.
 #[derive(Clone, Copy)]
@@ -21,7 +21,8 @@ pub struct TdsCompleted {
 }
 
 // Completes a row of `count` TRBs, whole TDs with a result for each and the data joined, on an endpoint that holds nothing. Of the data and
-// of guest memory only lengths and bases are read. The counts stand beside the places, since a row of more than there are is refused.
+// of guest memory only lengths and bases are read. The counts stand beside the places: with no heap, a row of more TRBs than there are
+// places, as a script may ask for, is there by its count alone, and is refused by it.
 pub fn complete_tds(
     log: &mut [u8],
     block: InBlock,
@@ -42,26 +43,28 @@ pub fn complete_tds(
         test = row_questions::test_trb(test, *t, results[test.tds], regions);
     }
     let asked = row_questions::ask_row(log.len(), regions, facts, count, test, tds, data.len());
-    if asked.is_err() {
-        return TdsCompleted {
-            answer: in_endpoint::completion_answer(asked, TrbProcessingResult::Ok),
+    match asked {
+        Err(refusal) => TdsCompleted {
+            answer: Err(refusal),
             finished: 0,
             records: 0,
             block,
-        };
-    }
-    let walked = row_walk::walk_row(
-        log,
-        block.endpoint_id,
-        block.slot_id,
-        block.mode,
-        &row[..count],
-        &results[..tds],
-    );
-    TdsCompleted {
-        answer: in_endpoint::completion_answer(asked, walked.result),
-        finished: walked.finished,
-        records: walked.records,
-        block,
+        },
+        Ok(()) => {
+            let walked = row_walk::walk_row(
+                log,
+                block.endpoint_id,
+                block.slot_id,
+                block.mode,
+                &row[..count],
+                &results[..tds],
+            );
+            TdsCompleted {
+                answer: Ok(walked.result),
+                finished: walked.finished,
+                records: walked.records,
+                block,
+            }
+        }
     }
 }

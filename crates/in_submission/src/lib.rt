@@ -24,8 +24,8 @@ fn log_request(log: &mut [u8], trbs: &[TransferTrb], endpoint_id: EndpointId, sl
     call_log::put_record(log, 0, request);
 }
 
-// Takes a TRB; ports `submit_trb`. Of guest memory only the regions' bases and lengths are read. The block is changed where it lies: copies of it
-// are most of what a call costs.
+// Takes a TRB; ports `submit_trb`. Of guest memory only the regions' bases and lengths are read. The block is changed where it lies: copies
+// of it are most of what a call costs.
 pub fn submit_trb(
     log: &mut [u8],
     mut block: InBlock,
@@ -37,36 +37,32 @@ pub fn submit_trb(
     let facts = in_block::facts_of(&block);
     let regions = memory.regions();
     let answer = in_questions::ask_submission(log.len(), facts, t, regions);
-    if answer.is_err() {
-        return Submitted {
+    match answer {
+        Err(_) => Submitted {
             answer,
             records: 0,
             block,
-        };
-    }
-    let outcome = in_block::outcome_of(facts.found, t);
-    block.state = in_block::state_after(outcome, t.addr);
-    let mut records = 0;
-    match outcome {
-        Outcome::Drop => {
-            held::clear(&mut block.trbs, block.held);
-            block.held = 0;
+        },
+        Ok(()) => {
+            let outcome = in_block::outcome_of(facts.found, t);
+            let state = in_block::state_after(outcome, t.addr);
+            block.state = state;
+            let mut records = 0;
+            match outcome {
+                Outcome::Drop => in_block::empty(&mut block, state),
+                Outcome::Collect | Outcome::CompleteLocally => in_block::store(&mut block, t),
+                Outcome::Request => {
+                    in_block::store(&mut block, t);
+                    let td = in_block::held_of(&block);
+                    log_request(log, td, block.endpoint_id, block.slot_id);
+                    records = 1;
+                }
+            }
+            Submitted {
+                answer,
+                records,
+                block,
+            }
         }
-        Outcome::Collect | Outcome::CompleteLocally => {
-            block.trbs[block.held] = t;
-            block.held += 1;
-        }
-        Outcome::Request => {
-            block.trbs[block.held] = t;
-            block.held += 1;
-            let td = &block.trbs[..block.held];
-            log_request(log, td, block.endpoint_id, block.slot_id);
-            records = 1;
-        }
-    }
-    Submitted {
-        answer,
-        records,
-        block,
     }
 }

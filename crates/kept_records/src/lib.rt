@@ -25,8 +25,8 @@ fn same_endpoint_writes(first: Record, second: Record) -> bool
 {
     first.kind == call_log::KIND_WRITE
         && second.kind == call_log::KIND_WRITE
-        && first.endpoint_id.0 == second.endpoint_id.0
-        && first.slot_id.0 == second.slot_id.0
+        && first.endpoint_id == second.endpoint_id
+        && first.slot_id == second.slot_id
 }
 
 // Does the second write go on where the first ends, in guest address and in data start? No sum leaves its 64 bits.

@@ -32,11 +32,11 @@ module _ {k : ℕ} (n : ℕ) (l : List ℕ) (e : k ≡ min n (length l)) where
 
 -- a call whose log and regions were lent, as far as there is so much
 module _ {B : Type 0} (o : Called B) (l : Lent) (log low high : List ℕ) {a b c : ℕ} {log' low' high' : List ℕ}
-    (la : a ≡ min l.log (length log)) (lb : b ≡ min l.low (length low)) (lc : c ≡ min l.high (length high)) where
-  pub leaves : log' ≡ o.log → memory_of l.low_base low' l.high_base high' ≡ o.memory
+    (la : a ≡ min l.log (length log)) (lb : b ≡ min l.window.low.len (length low)) (lc : c ≡ min l.window.high.len (length high)) where
+  pub leaves : log' ≡ o.log → memory_of l.window.low.start_addr low' l.window.high.start_addr high' ≡ o.memory
       → Leaves o l log (log' ++ drop a log) low (low' ++ drop b low) high (high' ++ drop c high)
   leaves e m = record {
     log = rw (e, drop-least l.log log la);
-    low = rw (drop-least l.low low lb) (ap (λ (x : Memory). x.low ++ drop l.low low) m);
-    high = rw (drop-least l.high high lc) (ap (λ (x : Memory). x.high ++ drop l.high high) m);
+    low = rw (drop-least l.window.low.len low lb) (ap (λ (x : Memory). x.low ++ drop l.window.low.len low) m);
+    high = rw (drop-least l.window.high.len high lc) (ap (λ (x : Memory). x.high ++ drop l.window.high.len high) m);
   }

@@ -10,7 +10,7 @@ use Rattle.lent_calls.specs.declared.Lent.{Lent}
 
 -- guest memory: as much of both buffers as the regions have
 abbrev pub lent_memory : Lent → List ℕ → List ℕ → Memory
-lent_memory l low high = memory_of l.low_base (take l.low low) l.high_base (take l.high high)
+lent_memory l low high = memory_of l.window.low.start_addr (take l.window.low.len low) l.window.high.start_addr (take l.window.high.len high)
 
 -- the buffer xs with ys in place of its first n bytes, which were lent
 abbrev pub behind_lent : ℕ → List ℕ → List ℕ → List ℕ
@@ -19,8 +19,8 @@ behind_lent n xs ys = ys ++ drop n xs
 -- a call that was to come to o made g' of the log g, and a' and b' of the bytes a and b of guest memory
 pub record Leaves {B : Type 0} (o : Called B) (l : Lent) (g g' a a' b b' : List ℕ) : Type 0 where
   pub log : g' ≡ behind_lent l.log g o.log
-  pub low : a' ≡ behind_lent l.low a o.memory.low
-  pub high : b' ≡ behind_lent l.high b o.memory.high
+  pub low : a' ≡ behind_lent l.window.low.len a o.memory.low
+  pub high : b' ≡ behind_lent l.window.high.len b o.memory.high
 
 -- of a call on an IN endpoint
 pub record RunsLent (o : Called InBlock) (l : Lent) (t : Text) (r : Ran InBlock) (t' : Text) (log log' low low' high high' : List ℕ) : Type 0 where

@@ -12,26 +12,23 @@ ghost use Rattle.lent_calls.specs.Lent.{lent_memory, RunsLent, RunsControlLent};
 use call_answer::Ran;
 use call_script::Call;
 use control_block::ControlBlock;
-use guest_memory::GuestMemory;
+use guest_memory::{GuestMemory, Regions};
 use in_block::InBlock;
 use in_calls::Row;
 use text::Text;
 
-// How much is lent: bytes of the log and of the collect buffer, and the bases and lengths of the regions.
+// How much is lent: bytes of the log and of the collect buffer, and the regions of guest memory.
 #[derive(Clone, Copy)]
 pub struct Lent {
     pub log: usize,
     pub collect: usize,
-    pub low_base: u64,
-    pub low: usize,
-    pub high_base: u64,
-    pub high: usize,
+    pub window: Regions,
 }
 
-// A call on an IN endpoint. Like the two below it takes slices, and no struct of them: of a field of a struct that is lent `split_at_mut` gets no proof, nor
-// does a reborrow of the field into a variable. The three cut log and regions alike: a method that gives both would lend three slices at once, which no clause
-// says; a function that does it for a closure is proved, but its callers find nothing of the call in what is inferred of the closure, and a contract written
-// at each closure says all that stands here.
+// A call on an IN endpoint. Like the two below it takes slices, and no struct of them: of a field of a struct that is lent `split_at_mut`
+// gets no proof, nor does a reborrow of the field into a variable. The three cut log and regions alike: a method that gives both would lend
+// three slices at once, which no clause says; a function that does it for a closure is proved, but its callers find nothing of the call in
+// what is inferred of the closure, and a contract written at each closure says all that stands here.
 pub fn run_in(
     text: &mut Text<'_>,
     lent: Lent,
@@ -47,14 +44,14 @@ pub fn run_in(
     ensures { RunsLent (in_call block call «data».now (take lent.log log.old) (lent_memory lent low.old high.old)) lent text.old result text.new log.old log.new low.old low.new high.old high.new }
 {
     let log_end = lent.log.min(log.len());
-    let low_end = lent.low.min(low.len());
-    let high_end = lent.high.min(high.len());
+    let low_end = lent.window.low.len.min(low.len());
+    let high_end = lent.window.high.len.min(high.len());
     let (low_lent, _) = low.split_at_mut(low_end);
     let (high_lent, _) = high.split_at_mut(high_end);
     let mut memory = GuestMemory {
-        low_base: lent.low_base,
+        low_base: lent.window.low.start_addr,
         low: low_lent,
-        high_base: lent.high_base,
+        high_base: lent.window.high.start_addr,
         high: high_lent,
     };
     in_calls::run(text, &mut log[..log_end], block, call, data, &mut memory)
@@ -77,15 +74,15 @@ pub fn run_row(
     ensures { RunsLent (row_call block row (take bytes «data».now) (take lent.log log.old) (lent_memory lent low.old high.old)) lent text.old result text.new log.old log.new low.old low.new high.old high.new }
 {
     let log_end = lent.log.min(log.len());
-    let low_end = lent.low.min(low.len());
-    let high_end = lent.high.min(high.len());
+    let low_end = lent.window.low.len.min(low.len());
+    let high_end = lent.window.high.len.min(high.len());
     let given = bytes.min(data.len());
     let (low_lent, _) = low.split_at_mut(low_end);
     let (high_lent, _) = high.split_at_mut(high_end);
     let mut memory = GuestMemory {
-        low_base: lent.low_base,
+        low_base: lent.window.low.start_addr,
         low: low_lent,
-        high_base: lent.high_base,
+        high_base: lent.window.high.start_addr,
         high: high_lent,
     };
     in_calls::complete_row(
@@ -115,14 +112,14 @@ pub fn run_control(
     ensures { RunsControlLent (control_call block call «data».now lent.collect collect.old (take lent.log log.old) (lent_memory lent low.old high.old)) (collect_behind block call lent.collect collect.old (take lent.log log.old) (lent_memory lent low.old high.old)) lent text.old result text.new log.old log.new collect.new low.old low.new high.old high.new }
 {
     let log_end = lent.log.min(log.len());
-    let low_end = lent.low.min(low.len());
-    let high_end = lent.high.min(high.len());
+    let low_end = lent.window.low.len.min(low.len());
+    let high_end = lent.window.high.len.min(high.len());
     let (low_lent, _) = low.split_at_mut(low_end);
     let (high_lent, _) = high.split_at_mut(high_end);
     let mut memory = GuestMemory {
-        low_base: lent.low_base,
+        low_base: lent.window.low.start_addr,
         low: low_lent,
-        high_base: lent.high_base,
+        high_base: lent.window.high.start_addr,
         high: high_lent,
     };
     control_calls::run(

@@ -22,7 +22,8 @@ pub fn lent_again<T, R, F: FnOnce(&mut [T]) -> R>(row: &mut [T], callee: F) -> R
     callee(row)
 }
 
-// The layer of a completion: it ensures whatever the callee ensures, with the block of the answer left in the place of the one that was lent.
+// The layer of a completion: it ensures whatever the callee ensures, with the block of the answer left in the place of the one that was
+// lent.
 pub fn completion_layer<A, B: Copy, X, F: FnOnce(&mut [u8], B, X, &[u8]) -> Returned<A, B>>(
     log: &mut [u8],
     block: &mut B,

@@ -22,26 +22,14 @@ fn joins_last(log: &[u8], kept: usize, record: Record) -> bool
     0 < kept && kept_records::joins(call_log::read_record(log, kept - 1), record)
 }
 
-// The bytes of row number `index`.
-#[tactic(auto, unfolding(kept_records::specs::Rows::row_at))]
-fn row_at(log: &[u8], index: usize) -> [u8; 32]
-    requires { record_length * (index + 1) ≤ length log.now }
-    ensures { result ≡ row_at log.now index }
-{
-    let start = trb::RECORD_LENGTH * index;
-    let end = start + trb::RECORD_LENGTH;
-    let mut row = [0u8; 32];
-    row.copy_from_slice(&log[start..end]);
-    row
-}
-
 // Writes row number `from` as row number `to` too.
+#[tactic(auto, unfolding(buffers::specs::Patch::patch, kept_records::specs::Rows::row_at))]
 fn copy_row(log: &mut [u8], from: usize, to: usize)
     requires { (to ≤ from) × (record_length * (from + 1) ≤ length log.old) }
     ensures { log.new ≡ patch log.old (record_length * to) (row_at log.old from) }
 {
-    let row = row_at(log, from);
-    buffers::copy_into(log, trb::RECORD_LENGTH * to, &row);
+    let start = trb::RECORD_LENGTH * from;
+    log.copy_within(start..start + trb::RECORD_LENGTH, trb::RECORD_LENGTH * to);
 }
 
 // Makes `count` the length of row number `index`.

@@ -1,7 +1,7 @@
 // Compacts the log that it is given on standard input, and writes the records that are kept (R-9).
 #![tactic(auto)]
 
-ghost use Rattle.std.specs.Prelude.{◌≡◌, ◌+◌, ◌<◌, ◌≤◌, length, take, OnOk};
+ghost use Rattle.std.specs.Prelude.{◌<◌, ◌≤◌, length, take, OnOk};
 ghost use Rattle.input_bytes.specs.Outputs.{WritesFor};
 ghost use Rattle.log_print.specs.LogText.{refused_text};
 ghost use Rattle.log_compactor.specs.Output.{max_log, output_of, Leads};
@@ -13,13 +13,9 @@ use std::io::{Read, Write};
 const MAX_LOG: usize = 1048576;
 
 // Room for the longest log and one byte, by which a longer one is noticed.
-fn log_buffer() -> [u8; MAX_LOG + 1]
-    ensures { length result ≡ max_log + 1 }
-{
-    [0u8; MAX_LOG + 1]
-}
+const BUFFER: usize = MAX_LOG + 1;
 
-// Writes the line of a log that is refused.
+// Writes the line of a log that is refused: bytes and how many, since the buffer that the log lies in is no `Text`.
 fn put_refused(buffer: &mut [u8]) -> usize
     requires { max_log < length buffer.old }
     ensures { Leads refused_text result buffer.new }
@@ -29,7 +25,8 @@ fn put_refused(buffer: &mut [u8]) -> usize
     refused.len()
 }
 
-// Leaves at the buffer's start what is written for the log in its first `read` bytes, and returns how many bytes that is.
+// Leaves at the buffer's start what is written for the log in its first `read` bytes, and returns how many bytes that is. The buffer is
+// passed whole, and no slice of the log: the line of a log that is refused may be longer than the log.
 fn put_output(buffer: &mut [u8], read: usize) -> usize
     requires max_log_in_bounds { max_log < length buffer.old }
     requires read_in_bounds { read ≤ length buffer.old }
@@ -48,7 +45,7 @@ fn put_output(buffer: &mut [u8], read: usize) -> usize
 fn compact_input<R: Read, W: Write>(reader: &mut R, writer: &mut W) -> io::Result<()>
     ensures { OnOk result (WritesFor output_of (R.remaining reader.old) (W.contents writer.old) (W.contents writer.new)) }
 {
-    let mut buffer = log_buffer();
+    let mut buffer = input_bytes::zeros::<BUFFER>();
     let read = input_bytes::read_full(reader, &mut buffer)?;
     let end = put_output(&mut buffer, read);
     writer.write_all(&buffer[..end])

@@ -1,7 +1,7 @@
 // The text of a log, printed into a lent buffer.
 #![tactic(auto)]
 
-ghost use Rattle.std.specs.Prelude.{◌≡◌, length};
+ghost use Rattle.std.specs.Prelude.{◌≡◌};
 ghost use Rattle.text.specs.Wrote.{HasRoom, Wrote};
 ghost use Rattle.log_text.specs.Widths.{max_text};
 ghost use Rattle.log_print.specs.LogText.{refused_text, printable, log_text, Prints};
@@ -9,7 +9,8 @@ ghost use Rattle.log_print.specs.LogText.{refused_text, printable, log_text, Pri
 use text::Text;
 use trb::Refusal;
 
-// Writes what a log that is refused prints.
+// Writes what a log that is refused prints. One word here and in `control_shapes`: a function for both would print the number by its
+// digits.
 #[tactic(auto, unfolding(numerals::specs::Digits::digit_char, numerals::specs::Digits::digits, numerals::specs::Digits::trimmed, numerals::specs::Digits::decimal_of, crate::specs::LogText::refused_text))]
 fn put_refused(text: &mut Text<'_>)
     requires { HasRoom max_text text.old }
@@ -36,13 +37,6 @@ fn put_log(text: &mut Text<'_>, log: &[u8])
     } else {
         put_refused(text);
     }
-}
-
-// Room for the text of any log.
-pub fn text_buffer() -> [u8; log_text::MAX_TEXT]
-    ensures { length result ≡ max_text }
-{
-    [0u8; log_text::MAX_TEXT]
 }
 
 // Prints a log into a text buffer of at least MAX_TEXT bytes, and returns how long its text is.

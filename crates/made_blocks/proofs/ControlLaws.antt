@@ -42,7 +42,7 @@ use Rattle.control_block.specs.declared.ControlBlock.{ControlBlock}
 use Rattle.control_block.specs.declared.ControlTransfer.{ControlTransfer}
 use Rattle.control_block.specs.declared.Ending.{Ending}
 use Rattle.control_block.specs.declared.Ending.TheVariants.{KeepCollecting, ReportBadTrb, Fail, Realize}
-use Rattle.control_block.specs.Blocks.{fresh_block, transfer_of, held_of, stored, emptied}
+use Rattle.control_block.specs.Blocks.{fresh_block, held_of, stored, emptied}
 use Rattle.control_block.specs.Endings.{ending_of, phase_behind}
 use Rattle.control_block.specs.Facts.{submission_due, awaits_device, facts_of, sound_block}
 use Rattle.control_transfer.specs.Data.{data_of, size_of}
@@ -88,9 +88,9 @@ abbrev OfInput : ControlTransfer → List TransferTrb → ℕ → Type 0
 OfInput w ts n = w.direction ≡ true → Asked ts w.request.length n
 
 pub record Kept (b : ControlBlock) (n : ℕ) : Type 0 where
-  pub collecting : is_collecting b.state ≡ true → expects_setup b.phase ≡ false
-  pub nothing-held : submission_due b.state ≡ true → expects_setup b.phase ≡ true → b.held ≡ 0
-  pub input : OfInput (transfer_of b) (held_of b) n
+  pub collecting : is_collecting b.state ≡ true → expects_setup b.transfer.phase ≡ false
+  pub nothing-held : submission_due b.state ≡ true → expects_setup b.transfer.phase ≡ true → b.held ≡ 0
+  pub input : OfInput b.transfer (held_of b) n
 
 -- ---- What two questions tell of a call that passes them
 
@@ -209,16 +209,16 @@ collects-on outcome.Unrecognized a phase e = absurd (true≢false (sym e))
 
 module _ (b : ControlBlock) (n : ℕ) (k : Kept b n) where
   -- the TRBs held before a Setup outside ExpectSetupStageTrb are dropped
-  input-dropped : (restart : Bool) → OfInput (transfer_of b) (held_of (cond restart (emptied b) b)) n
+  input-dropped : (restart : Bool) → OfInput b.transfer (held_of (cond restart (emptied b) b)) n
   unfolding all
   input-dropped true input = record { from-memory = refl; few = omega arith; summed = (k.input input).summed }
   input-dropped false input = k.input input
 
   -- a Setup finds nothing held, where a submission is due
   setup-first : submission_due b.state ≡ true → (v : TransferTrbVariant) (s : SetupStageTrb) → v ≡ SetupStage s
-      → (submitting.dropped_before (trb_outcome b.phase v) b).held ≡ 0
+      → (submitting.dropped_before (trb_outcome b.transfer.phase v) b).held ≡ 0
   unfolding trb_outcome
-  setup-first due v s e = rw e (by b.phase (k.nothing-held due))
+  setup-first due v s e = rw e (by b.transfer.phase (k.nothing-held due))
     where
       by : (phase : ControlTransferState) → (expects_setup phase ≡ true → b.held ≡ 0) → (submitting.dropped_before (setup_stage_outcome phase) b).held ≡ 0
       by ExpectSetupStageTrb none = none refl
@@ -227,22 +227,22 @@ module _ (b : ControlBlock) (n : ℕ) (k : Kept b n) where
       by ExpectStatusStageTrb none = refl
       by ExpectFinalEventDataTrb none = refl
 
-  module _ (t : TransferTrb) (o : Outcome) (same : o ≡ trb_outcome b.phase t.variant) (due : submission_due b.state ≡ true)
-      (flag : holds o ≡ true → b.direction ≡ true → (data_of t.variant).immediate_data ≡ false) where
+  module _ (t : TransferTrb) (o : Outcome) (same : o ≡ trb_outcome b.transfer.phase t.variant) (due : submission_due b.state ≡ true)
+      (flag : holds o ≡ true → b.transfer.direction ≡ true → (data_of t.variant).immediate_data ≡ false) where
     abbrev dropped : ControlBlock
     dropped = submitting.dropped_before o b
 
     input-held : (hold : Bool) → holds o ≡ hold
-        → OfInput (cond hold (taken_by t.variant t.addr (transfer_of b)) (transfer_of b)) (held_of (cond hold (stored dropped t) dropped)) (cond hold (asked_by t.variant n) n)
+        → OfInput (cond hold (taken_by t.variant t.addr b.transfer) b.transfer) (held_of (cond hold (stored dropped t) dropped)) (cond hold (asked_by t.variant n) n)
     input-held true h =
-        input-taken (transfer_of b) dropped.trbs dropped.held n t.variant t.addr t.cycle_bit
+        input-taken b.transfer dropped.trbs dropped.held n t.variant t.addr t.cycle_bit
         (λ s e. ap (λ (x : Outcome). (submitting.dropped_before x b).held) same ∙ setup-first due t.variant s e) (flag h) (input-dropped (restarts o))
     input-held false h = input-dropped (restarts o)
 
     kept-taken : Kept (submitting.block_after o b t) (cond (holds o) (asked_by t.variant n) n)
     unfolding submitting.block_after transfer_after
     kept-taken = record {
-      collecting = collects-on o t.addr b.phase;
+      collecting = collects-on o t.addr b.transfer.phase;
       nothing-held = λ now phase. absurd (true≢false (sym now ∙ not-due o t.addr));
       input = input-held (holds o) refl;
     }
@@ -254,14 +254,14 @@ module _ (b : ControlBlock) (n : ℕ) (k : Kept b n) where
       (submitting.questions_of l c b t regions) (submitting.refused b) (submitting.accepted o b t) (λ m. k) (λ none. kept-taken t o refl (submission-due l c (facts_of b) o t regions none) (flag none))
     where
       o : Outcome
-      o = trb_outcome b.phase t.variant
+      o = trb_outcome b.transfer.phase t.variant
 
-      flag : first_no (submission_questions l c (facts_of b) o t regions) ≡ 0 → holds o ≡ true → b.direction ≡ true → (data_of t.variant).immediate_data ≡ false
+      flag : first_no (submission_questions l c (facts_of b) o t regions) ≡ 0 → holds o ≡ true → b.transfer.direction ≡ true → (data_of t.variant).immediate_data ≡ false
       flag none h input = not-true _ (rw (h, input) at (submission-questions.passed (facts_of b) o t regions l c none).from-memory)
 
   -- ---- Completion
 
-  input-behind : (x : Ending) → OfInput (transfer_of b) (held_of (completing.held_behind x b)) n
+  input-behind : (x : Ending) → OfInput b.transfer (held_of (completing.held_behind x b)) n
   input-behind KeepCollecting = k.input
   input-behind (ReportBadTrb a) = input-dropped true
   input-behind (Fail c r) = input-dropped true
@@ -269,8 +269,8 @@ module _ (b : ControlBlock) (n : ℕ) (k : Kept b n) where
 
   -- where a Setup is expected behind it, nothing is held
   none-behind : (s : ControlSubmissionState) (r : Option ControlRequestProcessingResult) (m : ℕ) → agree (is_given r) (awaits_device s) ≡ true
-      → (is_collecting s ≡ true → expects_setup b.phase ≡ false) → (submission_due s ≡ true → expects_setup b.phase ≡ true → b.held ≡ 0)
-      → expects_setup (phase_behind s b.phase) ≡ true → (completing.held_behind (ending_of s r m) b).held ≡ 0
+      → (is_collecting s ≡ true → expects_setup b.transfer.phase ≡ false) → (submission_due s ≡ true → expects_setup b.transfer.phase ≡ true → b.held ≡ 0)
+      → expects_setup (phase_behind s b.transfer.phase) ≡ true → (completing.held_behind (ending_of s r m) b).held ≡ 0
   none-behind NoTrbSubmitted r m agreed collecting none phase = none refl phase
   none-behind CollectingTd r m agreed collecting none phase = absurd (true≢false (sym phase ∙ collecting refl))
   none-behind (ParserError a) r m agreed collecting none phase = refl

@@ -136,7 +136,7 @@ holds_immediate =
     advanced (stored (stored (stored (fresh_block endpoint slot Release4) (setup 0x80)) immediate) status)
     (input_transfer ExpectSetupStageTrb (size_of (data_of immediate.variant))) AwaitingControlRequest
 
-pub immediate-asked : holds_immediate.request.length ≡ 8
+pub immediate-asked : holds_immediate.transfer.request.length ≡ 8
 immediate-asked = refl
 
 pub immediate-written : written holds_immediate 12 ≡ 12
@@ -182,9 +182,9 @@ last_written : written (run last (counted (max_transfer_length * 2 ^ 15 % 2 ^ 32
 unfolding run written
 last_written = refl
 
-pub wrapped-asked : (made endpoint slot Release4 (wrapping (2 ^ 15))).request.length ≡ 98303
+pub wrapped-asked : (made endpoint slot Release4 (wrapping (2 ^ 15))).transfer.request.length ≡ 98303
 unfolding run
-wrapped-asked = ap (λ (b : ControlBlock). b.request.length) (made-wrapping (2 ^ 15))
+wrapped-asked = ap (λ (b : ControlBlock). b.transfer.request.length) (made-wrapping (2 ^ 15))
 
 pub wrapped-written : written (made endpoint slot Release4 (wrapping (2 ^ 15))) max_transfer_length ≡ max_transfer_length
 wrapped-written = ap (λ (b : ControlBlock). written b max_transfer_length) (made-wrapping (2 ^ 15)) ∙ last_written

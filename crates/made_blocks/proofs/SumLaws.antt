@@ -62,7 +62,7 @@ asked-submission l c t regions b n =
     (refused b) (accepted o b t) (λ q. omega arith) (λ none. by (holds o) (short-enough l c (facts_of b) o t regions none))
   where
     o : Outcome
-    o = trb_outcome b.phase t.variant
+    o = trb_outcome b.transfer.phase t.variant
 
     by : (hold : Bool) → transfer_length t.variant ≤ max_transfer_length → cond hold (asked_by t.variant n) n ≤ n + max_transfer_length
     by true short = omega (arith, asked_by-length t.variant n)

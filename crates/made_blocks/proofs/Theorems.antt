@@ -68,27 +68,27 @@ module _ (e : EndpointId) (s : SlotId) (release : GuestRelease) (cs : List Contr
   kept-made = kept-calls cs (creation e s release).block 0 (kept-creation e s release)
 
   -- in an IN transfer no TRB held has immediate data
-  pub control-from-memory : (made e s release cs).direction ≡ true → all from_memory (held_of (made e s release cs)) ≡ true
+  pub control-from-memory : (made e s release cs).transfer.direction ≡ true → all from_memory (held_of (made e s release cs)) ≡ true
   control-from-memory input = (kept-made.input input).from-memory
 
   -- where the plain sum has not passed 2^32, the lengths held add up to at most what the request asks for
-  pub held-asked : (made e s release cs).direction ≡ true → asked e s release cs < 2 ^ 32 → lengths (held_of (made e s release cs)) ≤ (made e s release cs).request.length
+  pub held-asked : (made e s release cs).transfer.direction ≡ true → asked e s release cs < 2 ^ 32 → lengths (held_of (made e s release cs)) ≤ (made e s release cs).transfer.request.length
   held-asked input below =
-      let k : Asked (held_of (made e s release cs)) (made e s release cs).request.length (asked e s release cs) = kept-made.input input in
+      let k : Asked (held_of (made e s release cs)) (made e s release cs).transfer.request.length (asked e s release cs) = kept-made.input input in
       omega arith
 
   -- and no more bytes are written, whichever number n of them comes
-  pub realized-asked : (made e s release cs).direction ≡ true → asked e s release cs < 2 ^ 32 → (n : ℕ)
-      → write_lengths (realize_chain (input_td (made e s release cs).endpoint_id (made e s release cs).slot_id n) (held_of (made e s release cs))).records ≤ (made e s release cs).request.length
+  pub realized-asked : (made e s release cs).transfer.direction ≡ true → asked e s release cs < 2 ^ 32 → (n : ℕ)
+      → write_lengths (realize_chain (input_td (made e s release cs).endpoint_id (made e s release cs).slot_id n) (held_of (made e s release cs))).records ≤ (made e s release cs).transfer.request.length
   realized-asked input below n =
-      let k : Asked (held_of (made e s release cs)) (made e s release cs).request.length (asked e s release cs) = kept-made.input input in
+      let k : Asked (held_of (made e s release cs)) (made e s release cs).transfer.request.length (asked e s release cs) = kept-made.input input in
       omega (arith, writes-chain (input_td (made e s release cs).endpoint_id (made e s release cs).slot_id n) at_start (held_of (made e s release cs)))
 
   -- the same of a call
-  pub completed-asked : (made e s release cs).direction ≡ true → asked e s release cs < 2 ^ 32
-      → (l n : ℕ) → write_lengths (completion l (made e s release cs) (Some SuccessfulControlIn) n).records ≤ (made e s release cs).request.length
+  pub completed-asked : (made e s release cs).transfer.direction ≡ true → asked e s release cs < 2 ^ 32
+      → (l n : ℕ) → write_lengths (completion l (made e s release cs) (Some SuccessfulControlIn) n).records ≤ (made e s release cs).transfer.request.length
   completed-asked input below l n =
-      let k : Asked (held_of (made e s release cs)) (made e s release cs).request.length (asked e s release cs) = kept-made.input input in
+      let k : Asked (held_of (made e s release cs)) (made e s release cs).transfer.request.length (asked e s release cs) = kept-made.input input in
       omega (arith, writes-held l (made e s release cs) n)
 
   -- which 32,768 calls do not reach

@@ -54,7 +54,7 @@ asked_by Unrecognized n = n
 -- a TRB is taken where its submission is accepted and the phase table takes it
 abbrev pub asked_after : ControlCall → ControlBlock → ℕ → ℕ
 asked_after (submit l c t regions) b n =
-    cond (is_accepted (submission l c b t regions).state.answer && holds (trb_outcome b.phase t.variant)) (asked_by t.variant n) n
+    cond (is_accepted (submission l c b t regions).state.answer && holds (trb_outcome b.transfer.phase t.variant)) (asked_by t.variant n) n
 asked_after (complete l r m) b n = n
 asked_after cancel b n = n
 

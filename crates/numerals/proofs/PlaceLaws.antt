@@ -1,11 +1,18 @@
 -- Laws of the digit at a place: what subtracting a power of the base leaves, and where the first digit stands. Assumes nothing.
 use Prim.Native.Nat.{ℕ, zero, suc, ◌+◌, ◌-◌, ◌*◌, ◌/◌, ◌%◌, ◌<◌, ◌≤◌, ◌^◌}
+use mathlib.Core.Bool.{Bool, true, false, cond}
+use mathlib.Core.Logic.{⊎_elim}
 use mathlib.Core.Path.{◌≡◌, refl, sym, ap, ◌∙◌}
 use mathlib.Core.List.{List, [], ◌∷◌, map}
-use native.Mathlib.Nat.{add-zero, zero-add, add-suc, suc-add, pow-succ', pow-le-pow_right, one-le-pow, mod-lt, mod-eq_of_lt, div-eq_of_lt, zero-mod, add-mul, one-mul, zero-mul, lt_of_mul-lt-mul_right}
+use native.Mathlib.Nat.{add-zero, zero-add, add-suc, add_comm, suc-add, pow-succ', pow-le-pow_right, one-le-pow, mod-lt, mod-eq_of_lt, div-eq_of_lt, zero-mod, add-mul, one-mul, zero-mul, lt_of_mul-lt-mul_right}
+use native.Mathlib.Numerals.{add-one}
 use native.Mathlib.Omega.{arith}
 use lib.Arith.{digits_div, digits_mod, mod-mul}
-use lib.ListN.{get_or}
+use lib.Dec.{leb}
+use lib.ListN.{length, get_or}
+use Rattle.std.specs.List.{prefix_len, take_while}
+use Rattle.std.proofs.lemmas.List.Folds.{length-prefix_len}
+use Rattle.std.proofs.lemmas.Bool.{leb-true, leb-false, cases_lt}
 use Rattle.numerals.specs.Digits.{digit_char, digits, trimmed, FirstPlace, decimal_of}
 use Rattle.numerals.specs.Widths.{decimal_places}
 use Rattle.numerals.proofs.DigitLaws.{length_digits, trimmed-zero, trimmed-nonzero}
@@ -99,6 +106,43 @@ decimal_of-first p = ap (map digit_char) p.digits
 abbrev pub powers_from : ℕ → ℕ → List ℕ
 powers_from i zero = []
 powers_from i (suc m) = 10 ^ i ∷ powers_from (suc i) m
+
+-- the first k of the m powers from place i on go into n, and no other does
+abbrev Reaches : ℕ → ℕ → ℕ → ℕ → Type 0
+Reaches i m n k = (k ≤ m) × ((0 < k → 10 ^ (i + k - 1) ≤ n) × (k < m → n < 10 ^ (i + k)))
+
+reaches-by : (b : Bool) (i m n k : ℕ) → leb (10 ^ i) n ≡ b → Reaches (suc i) m n k → Reaches i (suc m) n (cond b (1 + k) 0)
+reaches-by true i m n zero e r =
+    let here : i + (1 + zero) - 1 ≡ i = omega arith in
+    let next : i + (1 + zero) ≡ suc i + zero = omega arith in
+    (omega arith, (λ h. rw here (leb-true (10 ^ i) n e), λ h. rw next (r.1.1 (omega arith))))
+reaches-by true i m n (suc k) e r =
+    let here : i + (1 + suc k) - 1 ≡ suc i + suc k - 1 = omega arith in
+    let next : i + (1 + suc k) ≡ suc i + suc k = omega arith in
+    (omega (arith, r.0), (λ h. rw here (r.1.0 (omega arith)), λ h. rw next (r.1.1 (omega arith))))
+reaches-by false i m n k e r =
+    let here : i + 0 ≡ i = omega arith in
+    (omega arith, (λ h. absurd (omega arith), λ h. rw here (leb-false (10 ^ i) n e)))
+
+reaches : (i m n : ℕ) → Reaches i m n (prefix_len (λ p. leb p n) (powers_from i m))
+reaches i zero n = (omega arith, (λ h. absurd (omega arith), λ h. absurd (omega arith)))
+reaches i (suc m) n = reaches-by (leb (10 ^ i) n) i m n (prefix_len (λ p. leb p n) (powers_from (suc i) m)) refl (reaches (suc i) m n)
+
+-- it is the place of n's first digit
+first-place-below : (k n : ℕ) → Reaches 1 9 n k → n < 2 ^ 32 → FirstPlace n k
+first-place-below k n r w =
+    let here : 1 + k - 1 ≡ k = omega arith in
+    let below : n < 10 ^ suc k = ⊎_elim
+    (λ (l : k < 9). rw (← add-one k, add_comm k 1) (r.1.1 l))
+    (λ (g : 9 ≤ k). let last : k ≡ 9 = omega (arith, r.0) in rw last (omega arith))
+    (cases_lt k 9) in
+    first-place k n (omega (arith, r.0)) below (λ h. rw here at (r.1.0 h))
+
+-- so the first digit's place is how many powers above 1 go into n
+pub first-place-reached : (n : ℕ) → n < 2 ^ 32 → FirstPlace n (length (take_while (λ p. leb p n) (powers_from 1 9)))
+first-place-reached n w =
+    let k = prefix_len (λ p. leb p n) (powers_from 1 9) in
+    rw (length-prefix_len (λ p. leb p n) (powers_from 1 9)) (first-place-below k n (reaches 1 9 n) w)
 
 pub get_or-powers_from : (i m k : ℕ) → k < m → get_or (powers_from i m) k 0 ≡ 10 ^ (i + k)
 get_or-powers_from i zero k h = absurd (omega arith)

@@ -1,7 +1,7 @@
 // The digits of a number in decimal and in hex. `written_numbers` writes them.
 #![tactic(auto)]
 
-ghost use Rattle.std.specs.Prelude.{◌≡◌, ◌*◌, ◌/◌, ◌%◌, ◌<◌, ◌≤◌, ◌^◌, eqb, length, drop};
+ghost use Rattle.std.specs.Prelude.{◌≡◌, ◌*◌, ◌/◌, ◌%◌, ◌<◌, ◌≤◌, ◌^◌, eqb, leb, length, drop};
 ghost use Rattle.std.specs.List.{take_while};
 ghost use Rattle.numerals.specs.Digits.{digit_char, trimmed, FirstPlace};
 ghost use Rattle.numerals.specs.Widths.{decimal_places, width_table};
@@ -75,16 +75,18 @@ pub fn power_of_ten(place: usize) -> u32
     POWERS_OF_TEN[place]
 }
 
-// The place of a number's first digit, leading zeros left out.
+// How many of these powers, from the first on, go into a number.
+fn powers_within(powers: &[u32], n: u32) -> usize
+    ensures { result ≡ length (take_while (λ power. leb power n) powers.now) }
+{
+    powers.iter().take_while(|power| **power <= n).count()
+}
+
+// The place of a number's first digit, leading zeros left out: how many of the powers above 1 go into it.
 pub fn first_place(n: u32) -> usize
     ensures { FirstPlace n result }
 {
-    for place in 0..DECIMAL_PLACES - 1 {
-        if n < power_of_ten(place + 1) {
-            return place;
-        }
-    }
-    DECIMAL_PLACES - 1
+    powers_within(&POWERS_OF_TEN[1..], n)
 }
 
 // The digit that a number has at a place, and what is left of the number below that place.

@@ -3,7 +3,7 @@
 #![tactic(auto)]
 
 ghost use Rattle.std.specs.Prelude.{◌≡◌};
-ghost use Rattle.phase_table.specs.Table.{kind_of, data_taken, status_taken, outcome_of, trb_outcome};
+ghost use Rattle.phase_table.specs.Table.{data_taken, status_taken, outcome_of, trb_outcome};
 ghost use Rattle.phase_table.specs.Outcomes.{holds, restarts, requests, phase_after, state_after};
 
 use trb::{ControlSubmissionState, ControlTransferState, TransferTrbVariant};
@@ -44,18 +44,23 @@ pub enum Outcome {
 }
 
 // The kind by which the phase table asks for a TRB.
-pub fn kind_of(variant: TransferTrbVariant) -> TrbKind
-    ensures { result ≡ kind_of variant }
-{
-    match variant {
-        TransferTrbVariant::SetupStage(_) => TrbKind::SetupStage,
-        TransferTrbVariant::DataStage(_) => TrbKind::DataStage,
-        TransferTrbVariant::StatusStage(_) => TrbKind::StatusStage,
-        TransferTrbVariant::Normal(_) => TrbKind::Normal,
-        TransferTrbVariant::EventData(_) => TrbKind::EventData,
-        TransferTrbVariant::NoOp(_) => TrbKind::NoOp,
-        TransferTrbVariant::Isoch => TrbKind::Isoch,
-        TransferTrbVariant::Unrecognized => TrbKind::Unrecognized,
+impl From<TransferTrbVariant> for TrbKind {
+    ghost use Rattle.std.specs.Prelude.{◌≡◌};
+    ghost use Rattle.phase_table.specs.Table.{kind_of};
+
+    ghost from_gives = { λ variant kind. kind ≡ kind_of variant };
+
+    fn from(variant: TransferTrbVariant) -> TrbKind {
+        match variant {
+            TransferTrbVariant::SetupStage(_) => TrbKind::SetupStage,
+            TransferTrbVariant::DataStage(_) => TrbKind::DataStage,
+            TransferTrbVariant::StatusStage(_) => TrbKind::StatusStage,
+            TransferTrbVariant::Normal(_) => TrbKind::Normal,
+            TransferTrbVariant::EventData(_) => TrbKind::EventData,
+            TransferTrbVariant::NoOp(_) => TrbKind::NoOp,
+            TransferTrbVariant::Isoch => TrbKind::Isoch,
+            TransferTrbVariant::Unrecognized => TrbKind::Unrecognized,
+        }
     }
 }
 
@@ -108,7 +113,7 @@ pub fn outcome_of(phase: ControlTransferState, kind: TrbKind, chain: bool) -> Ou
 pub fn trb_outcome(phase: ControlTransferState, variant: TransferTrbVariant) -> Outcome
     ensures { result ≡ trb_outcome phase variant }
 {
-    outcome_of(phase, kind_of(variant), trb::chain_of(variant))
+    outcome_of(phase, TrbKind::from(variant), trb::chain_of(variant))
 }
 
 // Is the TRB held?

@@ -1,5 +1,5 @@
-// The walk over a TD whose TRBs lie in places of lent bytes: of a block, and of a row. One function, so that a TRB's turn is compiled into its
-// loop, and into no other.
+// The walk over a TD whose TRBs lie in places of lent bytes: of a block, and of a row. One function, so that a TRB's turn is compiled into
+// its loop, and into no other.
 #![tactic(auto)]
 
 ghost use Rattle.std.specs.Prelude.{◌≡◌, true, false, ◌+◌, ◌*◌, ◌≤◌, length, take, drop};
@@ -42,30 +42,17 @@ fn is_silent_normal(places: &[u8], at: usize, left: u32) -> bool
         && in_bytes::length_at(places, at) <= left
 }
 
-fn full_walked(
-    start: u32,
-    edtla: u32,
-    state: TdProcessingState,
-    records: usize,
-    normals_left: usize,
-    count: usize,
-) -> FullWalked
-    ensures { result ≡ record { processed = going_on normals_left (record { start = start; edtla = edtla; state = state; records = records }); count = count } }
+fn full_walked(progress: TdProgress, normals_left: usize, count: usize) -> FullWalked
+    ensures { result ≡ record { processed = going_on normals_left progress; count = count } }
 {
-    let progress = TdProgress {
-        start,
-        edtla,
-        state,
-        records,
-    };
     FullWalked {
         processed: in_td::going_on(normals_left, progress),
         count,
     }
 }
 
-// Walks the TRBs that a TD begins with, as long as each is a full Normal that reports nothing and not the TD's last: each has its write and no
-// more, so that the loop is short.
+// Walks the TRBs that a TD begins with, as long as each is a full Normal that reports nothing and not the TD's last: each has its write and
+// no more, so that the loop is short.
 fn walk_full(
     log: &mut [u8],
     places: &[u8],
@@ -78,36 +65,42 @@ fn walk_full(
     ensures { (result.count ≤ count) × Reached td from (take count (places_of In max_held (drop at places.now))) log.old log.new result.processed result.count }
 {
     let info = td.info;
-    let progress = from.progress;
-    let state = progress.state;
-    if !is_default(state) {
+    let mut progress = from.progress;
+    if !is_default(progress.state) {
         return FullWalked {
             processed: from,
             count: 0,
         };
     }
-    let mut start = progress.start;
-    let mut edtla = progress.edtla;
-    let mut records = progress.records;
     let mut normals_left = from.normals_left;
+    // An index: how many places were walked is given back, since the walk goes on behind them.
     for j in 0..count {
         let place = at + held_bytes::PLACE * j;
         if normals_left == 1 {
-            return full_walked(start, edtla, state, records, normals_left, j);
+            return full_walked(progress, normals_left, j);
         }
-        if !is_silent_normal(places, place, info.data_length - start) {
-            return full_walked(start, edtla, state, records, normals_left, j);
+        if !is_silent_normal(places, place, info.data_length - progress.start) {
+            return full_walked(progress, normals_left, j);
         }
         let length = in_bytes::length_at(places, place);
         let pointer = buffers::le64(places, place + 8);
-        let write = call_log::guest_write(pointer, length, start, info.endpoint_id, info.slot_id);
-        call_log::put_record(log, records, write);
-        start += length;
-        edtla = td_part::edtla_after(edtla, length);
-        records += 1;
+        let write = call_log::guest_write(
+            pointer,
+            length,
+            progress.start,
+            info.endpoint_id,
+            info.slot_id,
+        );
+        call_log::put_record(log, progress.records, write);
+        progress = TdProgress {
+            start: progress.start + length,
+            edtla: td_part::edtla_after(progress.edtla, length),
+            records: progress.records + 1,
+            ..progress
+        };
         normals_left = in_td::one_less(normals_left);
     }
-    full_walked(start, edtla, state, records, normals_left, count)
+    full_walked(progress, normals_left, count)
 }
 
 // ---- Any TRBs

@@ -34,9 +34,9 @@ pub extern "C" fn polvihe_control_create(
     trb::number_of(created) as u32
 }
 
-// Takes a TRB, given by numbers: xHCI's type, the flags (by weight: 1 cycle bit, 2 chain, 4 interrupt on completion, 8 interrupt on short, 16
-// immediate data, 32 direction), its address, its data pointer, event data or setup bytes, and its length. Guest memory is `low`'s bytes at
-// `low_base` and `high`'s at `high_base`.
+// Takes a TRB, given by numbers: xHCI's type, the flags (by weight: 1 cycle bit, 2 chain, 4 interrupt on completion, 8 interrupt on short,
+// 16 immediate data, 32 direction), its address, its data pointer, event data or setup bytes, and its length. Guest memory is `low`'s bytes
+// at `low_base` and `high`'s at `high_base`.
 #[unsafe(no_mangle)]
 pub extern "C" fn polvihe_control_submit<'a>(
     log: &mut [u8],
@@ -96,8 +96,8 @@ pub extern "C" fn polvihe_control_submit_raw<'a>(
 }
 
 // Completes what was submitted last. Status: 0 a successful IN transfer, 1 Stall, 2 a transaction error, 3 a disconnect, 4 a successful OUT
-// transfer; any other number, no device result is given. Of the device's data only the length is asked for. The answer is handed on field by
-// field, as by `polvihe_in_complete`.
+// transfer; any other number, no device result is given. Of the device's data only the length is asked for. The answer is handed on field
+// by field, as by `polvihe_in_complete`.
 #[unsafe(no_mangle)]
 pub extern "C" fn polvihe_control_complete(
     log: &mut [u8],

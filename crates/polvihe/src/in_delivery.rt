@@ -7,9 +7,9 @@ ghost use Rattle.in_place_delivery.specs.Delivering.{DeliversInPlace};
 use answer_numbers::CompletionAnswered;
 use guest_memory::GuestMemory;
 
-// Completes what was submitted last, as `polvihe_in_complete` does, and carries its log out on guest memory, `low`'s bytes at `low_base` and
-// `high`'s at `high_base`: at the event that the guest relies on, the device's bytes are at their places. The number: 0, or 1, 13, 2, 3, 8,
-// 9, 11 with block, log and guest memory as they were.
+// Completes what was submitted last, as `polvihe_in_complete` does, and carries its log out on guest memory, `low`'s bytes at `low_base`
+// and `high`'s at `high_base`: at the event that the guest relies on, the device's bytes are at their places. The number: 0, or 1, 13, 2,
+// 3, 8, 9, 11 with block, log and guest memory as they were.
 #[unsafe(no_mangle)]
 pub extern "C" fn polvihe_in_complete_and_carry_out(
     log: &mut [u8],

@@ -415,7 +415,8 @@ pub extern "C" fn polvihe_read_capture(input: &[u8]) -> Answered
     capture_numbers::read_capture(input)
 }
 
-// Reads the record that starts at byte `at` of a capture, from 24 on. The number: 0, or 22 where none that the calls above write starts there, all else being 0.
+// Reads the record that starts at byte `at` of a capture, from 24 on. The number: 0, or 22 where none that the calls above write starts
+// there, all else being 0.
 #[unsafe(no_mangle)]
 pub extern "C" fn polvihe_read_record(input: &[u8], at: usize) -> RecordRead
     ensures { record_by result ≡ read_at input.now at }
@@ -472,8 +473,8 @@ pub extern "C" fn polvihe_in_submit(
 }
 
 // Completes what was submitted last, with so many bytes of the device's data. Status: 0 Success, 1 Stall, 2 a transaction error, 3 a
-// disconnect; any other number, no device result is given. The answer is handed on field by field: copied whole it is stored in parts that cut a
-// field in two, and the caller waits for them where it reads that field.
+// disconnect; any other number, no device result is given. The answer is handed on field by field: copied whole it is stored in parts that
+// cut a field in two, and the caller waits for them where it reads that field.
 #[unsafe(no_mangle)]
 pub extern "C" fn polvihe_in_complete(
     log: &mut [u8],

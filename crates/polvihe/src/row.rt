@@ -5,9 +5,9 @@ ghost use Rattle.in_place_row.specs.InPlaceRow.{CompletesTdsInPlace};
 
 use in_place_row::RowAnswered;
 
-// Completes a row of whole TDs on an endpoint that holds nothing, with a result for each TD and so many bytes of joined data. A TRB of the row
-// has 24 bytes, a result 8 (specs/Layout.antt of row_bytes). The number: 0, or 1, 13, 2, 3, 15, 4, 21, 6, 9 with the log as it was. The block
-// stays as it is.
+// Completes a row of whole TDs on an endpoint that holds nothing, with a result for each TD and so many bytes of joined data. A TRB of the
+// row has 24 bytes, a result 8 (specs/Layout.antt of row_bytes). The number: 0, or 1, 13, 2, 3, 15, 4, 21, 6, 9 with the log as it was. The
+// block stays as it is.
 #[unsafe(no_mangle)]
 pub extern "C" fn polvihe_in_complete_row(
     log: &mut [u8],

@@ -24,8 +24,8 @@ pub fn decode_trb(raw: [u8; 16], addr: u64) -> TrbNumbers
 // Bytes of a raw TRB.
 const RAW: usize = 16;
 
-// Encodes a TRB into the 16 bytes that `raw` starts with, where they are enough and the TRB passes questions 23 and 4; else `raw` stays. Of its address no byte is
-// written.
+// Encodes a TRB into the 16 bytes that `raw` starts with, where they are enough and the TRB passes questions 23 and 4; else `raw` stays. Of
+// its address no byte is written.
 pub fn encode_trb(numbers: TrbNumbers, raw: &mut [u8]) -> Answer
     ensures { Encodes (room_questions (trb_of numbers) raw.old) (trb_of numbers) raw.old (number_of result) raw.new }
 {

@@ -1,11 +1,14 @@
 -- Laws of dwords and of their fields. Assumes nothing.
-use Prim.Native.Nat.{ℕ, ◌/◌, ◌%◌, ◌<◌, ◌≤◌, ◌^◌}
+use Prim.Native.Nat.{ℕ, ◌+◌, ◌*◌, ◌/◌, ◌%◌, ◌<◌, ◌≤◌, ◌^◌}
 use mathlib.Core.Bool.{Bool, true, false, ◌&&◌}
 use mathlib.Core.List.{List, [], ◌∷◌}
 use mathlib.Core.Path.{◌≡◌, refl}
+use mir.Val.{bool_byte}
 use lib.Dec.{eqb, lit≤}
+use native.Mathlib.Nat.{mod-eq_of_lt}
 use native.Mathlib.Omega.{arith}
 use borrow.Author.Tests.{eqb-true, eqb-false}
+use Rattle.std.specs.Int.Bits.{bit_or, or_shifted_r}
 use Rattle.buffers.proofs.LittleEndianLaws.{le_number-le_bytes}
 use Rattle.trb.proofs.TestLaws.{and_left, and_right}
 use Rattle.raw_trb.specs.declared.Dwords.{Dwords}
@@ -49,6 +52,15 @@ number-of-set k l d = by_number (field_of (bits k l 1) d) (omega arith)
 
     by_number : (n : ℕ) → n < 2 → bit_number (eqb n 1) ≡ n
     by_number n h = by-test n (eqb n 1) refl h
+
+-- a bool as a number, in code
+pub byte-of-bit : (b : Bool) → bool_byte b ≡ bit_number b
+byte-of-bit true = refl
+byte-of-bit false = refl
+
+-- a number that is put, by bits, above another one is added to it
+pub or-above : (m k a b : ℕ) → b < 2 ^ k → a * 2 ^ k < m → bit_or b (a * 2 ^ k % m) ≡ b + a * 2 ^ k
+or-above m k a b low fits = rw (mod-eq_of_lt fits, or_shifted_r a k b low) (omega arith)
 
 -- ---- A pointer
 

@@ -4,8 +4,8 @@
 
 use trb::TransferTrbVariant;
 
-// ---- TRB types by number (xHCI 1.2, table 6-91): constants and no enum, since a TRB comes with any number as its type, and each TRB would be matched
-// a second time to make the enum
+// ---- TRB types by number (xHCI 1.2, table 6-91): constants and no enum, since a TRB comes with any number as its type, and each TRB would
+// be matched a second time to make the enum
 
 pub const NORMAL: u8 = 1;
 

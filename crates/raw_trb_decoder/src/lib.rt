@@ -19,13 +19,13 @@ use trb::{
 fn pointer(d: Dwords) -> u64
     ensures { result ≡ pointer_of d }
 {
-    d.d0 as u64 + 4294967296 * d.d1 as u64
+    d.d0 as u64 | (d.d1 as u64) << 32
 }
 
 fn normal_clear(d: Dwords) -> bool
     ensures { result ≡ all_zero (reserved_of normal_table) d }
 {
-    d.d3 / 128 % 4 == 0 && d.d3 / 65536 % 65536 == 0
+    d.d3 >> 7 & 3 == 0 && d.d3 >> 16 == 0
 }
 
 fn normal(d: Dwords) -> NormalTrb
@@ -33,40 +33,37 @@ fn normal(d: Dwords) -> NormalTrb
 {
     NormalTrb {
         data_pointer: pointer(d),
-        transfer_length: d.d2 % 131072,
-        interrupt_on_short: d.d3 / 4 % 2 == 1,
-        chain: d.d3 / 16 % 2 == 1,
-        interrupt_on_completion: d.d3 / 32 % 2 == 1,
-        immediate_data: d.d3 / 64 % 2 == 1,
+        transfer_length: d.d2 & 0x1ffff,
+        interrupt_on_short: d.d3 >> 2 & 1 == 1,
+        chain: d.d3 >> 4 & 1 == 1,
+        interrupt_on_completion: d.d3 >> 5 & 1 == 1,
+        immediate_data: d.d3 >> 6 & 1 == 1,
     }
 }
 
 fn setup_stage_clear(d: Dwords) -> bool
     ensures { result ≡ all_zero (reserved_of setup_stage_table) d }
 {
-    d.d2 / 131072 % 32 == 0
-        && d.d3 / 2 % 16 == 0
-        && d.d3 / 128 % 8 == 0
-        && d.d3 / 262144 % 16384 == 0
+    d.d2 >> 17 & 0x1f == 0 && d.d3 >> 1 & 0xf == 0 && d.d3 >> 7 & 7 == 0 && d.d3 >> 18 == 0
 }
 
 fn setup_stage(d: Dwords) -> SetupStageTrb
     ensures { result ≡ setup_stage_of d }
 {
     SetupStageTrb {
-        request_type: (d.d0 % 256) as u8,
-        request: (d.d0 / 256 % 256) as u8,
-        value: (d.d0 / 65536 % 65536) as u16,
-        index: (d.d1 % 65536) as u16,
-        length: (d.d1 / 65536 % 65536) as u16,
-        interrupt_on_completion: d.d3 / 32 % 2 == 1,
+        request_type: (d.d0 & 0xff) as u8,
+        request: (d.d0 >> 8 & 0xff) as u8,
+        value: (d.d0 >> 16) as u16,
+        index: (d.d1 & 0xffff) as u16,
+        length: (d.d1 >> 16) as u16,
+        interrupt_on_completion: d.d3 >> 5 & 1 == 1,
     }
 }
 
 fn data_stage_clear(d: Dwords) -> bool
     ensures { result ≡ all_zero (reserved_of data_stage_table) d }
 {
-    d.d3 / 128 % 8 == 0 && d.d3 / 131072 % 32768 == 0
+    d.d3 >> 7 & 7 == 0 && d.d3 >> 17 == 0
 }
 
 fn data_stage(d: Dwords) -> DataStageTrb
@@ -74,12 +71,12 @@ fn data_stage(d: Dwords) -> DataStageTrb
 {
     DataStageTrb {
         data_pointer: pointer(d),
-        transfer_length: d.d2 % 131072,
-        chain: d.d3 / 16 % 2 == 1,
-        interrupt_on_completion: d.d3 / 32 % 2 == 1,
-        interrupt_on_short: d.d3 / 4 % 2 == 1,
-        immediate_data: d.d3 / 64 % 2 == 1,
-        direction: d.d3 / 65536 % 2 == 1,
+        transfer_length: d.d2 & 0x1ffff,
+        chain: d.d3 >> 4 & 1 == 1,
+        interrupt_on_completion: d.d3 >> 5 & 1 == 1,
+        interrupt_on_short: d.d3 >> 2 & 1 == 1,
+        immediate_data: d.d3 >> 6 & 1 == 1,
+        direction: d.d3 >> 16 & 1 == 1,
     }
 }
 
@@ -88,26 +85,26 @@ fn status_stage_clear(d: Dwords) -> bool
 {
     d.d0 == 0
         && d.d1 == 0
-        && d.d2 % 4194304 == 0
-        && d.d3 / 4 % 4 == 0
-        && d.d3 / 64 % 16 == 0
-        && d.d3 / 131072 % 32768 == 0
+        && d.d2 & 0x3fffff == 0
+        && d.d3 >> 2 & 3 == 0
+        && d.d3 >> 6 & 0xf == 0
+        && d.d3 >> 17 == 0
 }
 
 fn status_stage(d: Dwords) -> StatusStageTrb
     ensures { result ≡ status_stage_of d }
 {
     StatusStageTrb {
-        chain: d.d3 / 16 % 2 == 1,
-        interrupt_on_completion: d.d3 / 32 % 2 == 1,
-        direction: d.d3 / 65536 % 2 == 1,
+        chain: d.d3 >> 4 & 1 == 1,
+        interrupt_on_completion: d.d3 >> 5 & 1 == 1,
+        direction: d.d3 >> 16 & 1 == 1,
     }
 }
 
 fn event_data_clear(d: Dwords) -> bool
     ensures { result ≡ all_zero (reserved_of event_data_table) d }
 {
-    d.d2 % 4194304 == 0 && d.d3 / 4 % 4 == 0 && d.d3 / 64 % 8 == 0 && d.d3 / 65536 % 65536 == 0
+    d.d2 & 0x3fffff == 0 && d.d3 >> 2 & 3 == 0 && d.d3 >> 6 & 7 == 0 && d.d3 >> 16 == 0
 }
 
 fn event_data(d: Dwords) -> EventDataTrb
@@ -115,8 +112,8 @@ fn event_data(d: Dwords) -> EventDataTrb
 {
     EventDataTrb {
         event_data: pointer(d),
-        chain: d.d3 / 16 % 2 == 1,
-        interrupt_on_completion: d.d3 / 32 % 2 == 1,
+        chain: d.d3 >> 4 & 1 == 1,
+        interrupt_on_completion: d.d3 >> 5 & 1 == 1,
     }
 }
 
@@ -125,18 +122,18 @@ fn no_op_clear(d: Dwords) -> bool
 {
     d.d0 == 0
         && d.d1 == 0
-        && d.d2 % 4194304 == 0
-        && d.d3 / 4 % 4 == 0
-        && d.d3 / 64 % 16 == 0
-        && d.d3 / 65536 % 65536 == 0
+        && d.d2 & 0x3fffff == 0
+        && d.d3 >> 2 & 3 == 0
+        && d.d3 >> 6 & 0xf == 0
+        && d.d3 >> 16 == 0
 }
 
 fn no_op(d: Dwords) -> NoOpTrb
     ensures { result ≡ no_op_of d }
 {
     NoOpTrb {
-        chain: d.d3 / 16 % 2 == 1,
-        interrupt_on_completion: d.d3 / 32 % 2 == 1,
+        chain: d.d3 >> 4 & 1 == 1,
+        interrupt_on_completion: d.d3 >> 5 & 1 == 1,
     }
 }
 
@@ -147,7 +144,7 @@ fn no_op(d: Dwords) -> NoOpTrb
 fn variant(d: Dwords) -> TransferTrbVariant
     ensures { result ≡ variant_of d }
 {
-    let kind = (d.d3 / 1024 % 64) as u8;
+    let kind = (d.d3 >> 10 & 0x3f) as u8;
     match kind {
         raw_trb::NORMAL => where_clear(normal_clear(d), TransferTrbVariant::Normal(normal(d))),
         raw_trb::SETUP_STAGE => where_clear(
@@ -201,6 +198,6 @@ pub fn decode(bytes: [u8; 16]) -> DecodedTrb
     let d = dwords_of(bytes);
     DecodedTrb {
         variant: variant(d),
-        cycle_bit: d.d3 % 2 == 1,
+        cycle_bit: d.d3 & 1 == 1,
     }
 }

@@ -27,20 +27,20 @@ fn control(
     ensures { result ≡ control_dword cycle_bit interrupt_on_short chain interrupt_on_completion immediate_data kind direction }
 {
     cycle_bit as u32
-        + interrupt_on_short as u32 * 4
-        + chain as u32 * 16
-        + interrupt_on_completion as u32 * 32
-        + immediate_data as u32 * 64
-        + kind as u32 * 1024
-        + direction as u32 * 65536
+        | (interrupt_on_short as u32) << 2
+        | (chain as u32) << 4
+        | (interrupt_on_completion as u32) << 5
+        | (immediate_data as u32) << 6
+        | (kind as u32) << 10
+        | (direction as u32) << 16
 }
 
 fn normal_dwords(t: NormalTrb, cycle_bit: bool) -> Dwords
     ensures { EncodedAs (Normal t) cycle_bit result }
 {
     Dwords {
-        d0: (t.data_pointer % 4294967296) as u32,
-        d1: (t.data_pointer / 4294967296) as u32,
+        d0: (t.data_pointer & 0xffff_ffff) as u32,
+        d1: (t.data_pointer >> 32) as u32,
         d2: t.transfer_length,
         d3: control(
             cycle_bit,
@@ -58,8 +58,8 @@ fn setup_stage_dwords(t: SetupStageTrb, cycle_bit: bool) -> Dwords
     ensures { EncodedAs (SetupStage t) cycle_bit result }
 {
     Dwords {
-        d0: (t.request_type as u32) + (t.request as u32) * 256 + (t.value as u32) * 65536,
-        d1: (t.index as u32) + (t.length as u32) * 65536,
+        d0: t.request_type as u32 | (t.request as u32) << 8 | (t.value as u32) << 16,
+        d1: t.index as u32 | (t.length as u32) << 16,
         d2: 8,
         d3: control(
             cycle_bit,
@@ -77,8 +77,8 @@ fn data_stage_dwords(t: DataStageTrb, cycle_bit: bool) -> Dwords
     ensures { EncodedAs (DataStage t) cycle_bit result }
 {
     Dwords {
-        d0: (t.data_pointer % 4294967296) as u32,
-        d1: (t.data_pointer / 4294967296) as u32,
+        d0: (t.data_pointer & 0xffff_ffff) as u32,
+        d1: (t.data_pointer >> 32) as u32,
         d2: t.transfer_length,
         d3: control(
             cycle_bit,
@@ -115,8 +115,8 @@ fn event_data_dwords(t: EventDataTrb, cycle_bit: bool) -> Dwords
     ensures { EncodedAs (EventData t) cycle_bit result }
 {
     Dwords {
-        d0: (t.event_data % 4294967296) as u32,
-        d1: (t.event_data / 4294967296) as u32,
+        d0: (t.event_data & 0xffff_ffff) as u32,
+        d1: (t.event_data >> 32) as u32,
         d2: 0,
         d3: control(
             cycle_bit,

@@ -80,18 +80,12 @@ fn run_input<R: Read, W: Write>(
 // Bytes of the text that is not yet written out.
 const TEXT: usize = 65536;
 
-fn text_buffer() -> [u8; TEXT]
-    ensures { length result ≡ 65536 }
-{
-    [0u8; TEXT]
-}
-
 fn main(rt: HostRuntime) -> io::Result<()> {
     let mut reader = rt.stdin();
     let mut writer = rt.stdout();
-    let mut bytes = script_lines::input_buffer();
+    let mut bytes = [0u8; script_lines::PIECE];
     let mut input = Input::new(&mut bytes);
-    let mut text_bytes = text_buffer();
+    let mut text_bytes = [0u8; TEXT];
     let mut text = Text {
         bytes: &mut text_bytes,
         end: 0,

@@ -154,8 +154,8 @@ module _ (b : ControlBlock) where
   unfolding control_submitting.records_of
   records-ids o =
       all_append b.endpoint_id b.slot_id (cond (restarts o) (successes b.endpoint_id b.slot_id (held_control b)) [])
-      (requests_of o b.request b.endpoint_id b.slot_id) (by-restart (restarts o))
-      (when-ids b.endpoint_id b.slot_id (requests o) (control_request b.request b.endpoint_id b.slot_id) refl refl)
+      (requests_of o b.transfer.request b.endpoint_id b.slot_id) (by-restart (restarts o))
+      (when-ids b.endpoint_id b.slot_id (requests o) (control_request b.transfer.request b.endpoint_id b.slot_id) refl refl)
     where
       by-restart : (r : Bool) → OwnControl (cond r (successes b.endpoint_id b.slot_id (held_control b)) [])
       by-restart true = successes-ids b.endpoint_id b.slot_id (held_control b)
@@ -165,7 +165,7 @@ module _ (b : ControlBlock) where
   unfolding control_submitting.submission control_submitting.accepted
   control-submission-ids log collect t regions =
       after-ids b.endpoint_id b.slot_id (control_submitting.questions_of log collect b t regions) (control_submitting.refused b)
-      (control_submitting.accepted (trb_outcome b.phase t.variant) b t) (λ n. refl) (records-ids (trb_outcome b.phase t.variant))
+      (control_submitting.accepted (trb_outcome b.transfer.phase t.variant) b t) (λ n. refl) (records-ids (trb_outcome b.transfer.phase t.variant))
 
   ending-ids : (x : ending.Ending) (a : ℕ) → OwnControl (ending_records x a b.endpoint_id b.slot_id (held_control b))
   unfolding ending_records

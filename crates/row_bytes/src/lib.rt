@@ -1,4 +1,5 @@
-// A row of TRBs, and what the device gave for its TDs, as lent bytes: each is read where it lies. specs/Layout.antt says what any bytes are.
+// A row of TRBs, and what the device gave for its TDs, as lent bytes: each is read where it lies. specs/Layout.antt says what any bytes
+// are.
 #![tactic(auto)]
 
 ghost use Rattle.std.specs.Prelude.{◌≡◌, ◌+◌, ◌<◌, ◌≤◌, length, drop, get_or};

@@ -11,8 +11,8 @@ use in_row::TdsCompleted;
 use row_walk::TdResult;
 use trb::TransferTrb;
 
-// Completes a row of `count` TRBs, as `complete_tds` does, and carries its log out on guest memory. Its questions are those of the row; the log of an accepted
-// row is one that carry-out accepts, and after a no it has no record.
+// Completes a row of `count` TRBs, as `complete_tds` does, and carries its log out on guest memory. Its questions are those of the row; the
+// log of an accepted row is one that carry-out accepts, and after a no it has no record.
 pub fn complete_tds_and_carry_out(
     log: &mut [u8],
     block: InBlock,

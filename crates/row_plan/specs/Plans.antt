@@ -1,20 +1,18 @@
--- What the entry for a lent row does on its way: the questions, and the answer. Assumes nothing.
-use Rattle.std.specs.Prelude.{ℕ, Err, None, Ok, Option, Some}
-use Rattle.trb.specs.Answers.{refusal_of, CompletionAnswer}
+-- What the entry for a lent row does ahead of the walk: the questions, and the plan that they leave. Assumes nothing.
+use Rattle.std.specs.Prelude.{ℕ, Err, None, Ok, Option, Result, Some}
+use Rattle.trb.specs.Answers.{refusal_of}
 use Rattle.trb.specs.Questions.{after_questions}
 use Rattle.trb.specs.declared.EndpointId.{EndpointId}
 use Rattle.trb.specs.declared.InTrbProcessingStatus.{InTrbProcessingStatus}
 use Rattle.trb.specs.declared.InTrbProcessingStatus.TheVariants.{Success}
+use Rattle.trb.specs.declared.Refusal.{Refusal}
 use Rattle.trb.specs.declared.SlotId.{SlotId}
 use Rattle.trb.specs.declared.TdBasedNormalSubmissionState.TheVariants.{AwaitingRealTransfer}
 use Rattle.in_block.specs.declared.BlockFacts.{BlockFacts}
 use Rattle.in_block.specs.declared.HeldTest.{HeldTest}
 use Rattle.in_questions.specs.Questions.{completion_questions}
-use Rattle.in_endpoint.specs.Completion.{completion_answer}
 use Rattle.in_td.specs.Td.{in_td, unprocessed}
 use Rattle.in_td.specs.declared.InMode.{InMode}
-use Rattle.in_td.specs.declared.TdProcessed.{TdProcessed}
-use Rattle.trb.specs.declared.Logged.{Logged}
 use Rattle.row_plan.specs.declared.RowPlan.{RowPlan}
 
 -- ---- The questions
@@ -28,20 +26,11 @@ abbrev pub status_of : Option InTrbProcessingStatus → InTrbProcessingStatus
 status_of None = Success
 status_of (Some st) = st
 
--- nothing is walked
-abbrev pub refused_plan : EndpointId → SlotId → InMode → ℕ → RowPlan
-refused_plan e s mode n = record { asked = Err (refusal_of n); td = in_td e s mode Success 0; start = unprocessed 0; count = 0 }
-
 -- every TRB of the row is walked
 abbrev pub accepted_plan : EndpointId → SlotId → InMode → ℕ → HeldTest → InTrbProcessingStatus → ℕ → RowPlan
-accepted_plan e s mode k found st n = record { asked = Ok tt; td = in_td e s mode st n; start = unprocessed found.normals; count = k }
+accepted_plan e s mode k found st n = record { td = in_td e s mode st n; start = unprocessed found.normals; count = k }
 
 -- with a log of l bytes, a row of k TRBs and n bytes of data
-unfoldable pub row_plan : ℕ → EndpointId → SlotId → InMode → ℕ → HeldTest → Option InTrbProcessingStatus → ℕ → RowPlan
+unfoldable pub row_plan : ℕ → EndpointId → SlotId → InMode → ℕ → HeldTest → Option InTrbProcessingStatus → ℕ → Result RowPlan Refusal
 row_plan l e s mode k found r n =
-    after_questions (completion_questions l (row_facts e s k found) r n) (refused_plan e s mode) (accepted_plan e s mode k found (status_of r) n)
-
--- ---- The answer
-
-abbrev pub row_answer : RowPlan → TdProcessed → Logged CompletionAnswer
-row_answer plan p = record { answer = completion_answer plan.asked p.result; records = p.progress.records }
+    after_questions (completion_questions l (row_facts e s k found) r n) (λ no. Err (refusal_of no)) (Ok (accepted_plan e s mode k found (status_of r) n))

@@ -1,20 +1,16 @@
-// What the entry for a lent row of TRBs does beside walking the row: the questions and the answer.
+// What the entry for a lent row of TRBs does ahead of walking the row: the questions, and what they leave to be walked.
 #![tactic(auto)]
 
 ghost use Rattle.std.specs.Prelude.{◌≡◌};
-ghost use Rattle.row_plan.specs.Plans.{status_of, row_plan, row_answer};
+ghost use Rattle.row_plan.specs.Plans.{status_of, row_plan};
 
 use in_block::{BlockFacts, HeldTest};
 use in_td::{InMode, InTd, TdProcessed};
-use trb::{
-    Answer, CompletionAnswer, EndpointId, InTrbProcessingStatus, Logged, SlotId,
-    TdBasedNormalSubmissionState,
-};
+use trb::{EndpointId, InTrbProcessingStatus, Refusal, SlotId, TdBasedNormalSubmissionState};
 
-// What is to be done: how many TRBs of the row are walked, as which TD, and from which start.
+// What is to be walked: how many TRBs of the row, as which TD, and from which start.
 #[derive(Clone, Copy)]
 pub struct RowPlan {
-    pub asked: Answer,
     pub td: InTd,
     pub start: TdProcessed,
     pub count: usize,
@@ -37,7 +33,7 @@ pub fn ask(
     found: HeldTest,
     res: Option<InTrbProcessingStatus>,
     data_length: usize,
-) -> RowPlan
+) -> Result<RowPlan, Refusal>
     ensures { result ≡ row_plan log_length endpoint_id slot_id mode row_length found res data_length }
 {
     // A row by itself has no block whose facts these were.
@@ -48,41 +44,11 @@ pub fn ask(
         held: row_length,
         found,
     };
-    let asked = in_questions::ask_completion(log_length, facts, res, data_length);
-    if asked.is_err() {
-        return RowPlan {
-            asked,
-            td: in_td::td_of(
-                endpoint_id,
-                slot_id,
-                mode,
-                InTrbProcessingStatus::Success,
-                0,
-            ),
-            start: in_td::unprocessed(0),
-            count: 0,
-        };
-    }
-    RowPlan {
-        asked,
-        td: in_td::td_of(
-            endpoint_id,
-            slot_id,
-            mode,
-            status_of(res),
-            data_length as u32,
-        ),
+    in_questions::ask_completion(log_length, facts, res, data_length)?;
+    let status = status_of(res);
+    Ok(RowPlan {
+        td: in_td::td_of(endpoint_id, slot_id, mode, status, data_length as u32),
         start: in_td::unprocessed(found.normals),
         count: row_length,
-    }
-}
-
-// The answer: the refusal, or what the walk came to. (A row that is refused is not walked.)
-pub fn answer(plan: RowPlan, processed: TdProcessed) -> Logged<CompletionAnswer>
-    ensures { result ≡ row_answer plan processed }
-{
-    Logged {
-        answer: in_endpoint::completion_answer(plan.asked, processed.result),
-        records: processed.progress.records,
-    }
+    })
 }

@@ -1,4 +1,5 @@
-// The questions asked of a row of TDs, in the order of document 02, over facts of the block, what one loop over the row finds, and plain values.
+// The questions asked of a row of TDs, in the order of document 02, over facts of the block, what one loop over the row finds, and plain
+// values.
 #![tactic(auto)]
 
 ghost use Rattle.std.specs.Prelude.{◌≡◌, ◌+◌, ◌*◌, ◌≤◌, ◌^◌, min};
@@ -15,8 +16,9 @@ use in_block::BlockFacts;
 use row_walk::TdResult;
 use trb::{Answer, InTrbProcessingStatus, Refusal, TransferTrb, TransferTrbVariant};
 
-// What one loop over a row finds, all of it whatever is refused: the first no of questions 4, 21, 5 and 6; TRBs of a TD that has not ended; whether every kind is
-// supported; TDs that have ended; whether the one that has not has a Normal; whether each was given what it may be; bytes given.
+// What one loop over a row finds, all of it whatever is refused: the first no of questions 4, 21, 5 and 6; TRBs of a TD that has not ended;
+// whether every kind is supported; TDs that have ended; whether the one that has not has a Normal; whether each was given what it may be;
+// bytes given.
 #[derive(Clone, Copy)]
 pub struct RowTest {
     pub asked: Answer,
@@ -28,7 +30,7 @@ pub struct RowTest {
     pub given: u64,
 }
 
-// TRBs that are tested: no more than there are places.
+// TRBs of a row that are tested: no more than there are places. `held::places_held` is that of a block, whose limit is another.
 pub fn places(count: usize) -> usize
     ensures { result ≡ min count max_row }
 {
@@ -114,8 +116,8 @@ fn is_due(facts: BlockFacts) -> bool
     in_block::submission_due(facts.state) && facts.held == 0
 }
 
-// Questions 1, 13, 2, 3, 15, then 4, 21, 5 and 6 TRB by TRB, last 9: of a row of `count` TRBs, of which this was found, with so many results
-// and so many bytes of data.
+// Questions 1, 13, 2, 3, 15, then 4, 21, 5 and 6 TRB by TRB, last 9: of a row of `count` TRBs, of which this was found, with so many
+// results and so many bytes of data.
 #[tactic(auto, unfolding(trb::specs::Questions::first_no, crate::specs::Tests::asked_as))]
 pub fn ask_row(
     log_length: usize,

@@ -34,7 +34,7 @@ pub struct RowProgress {
 }
 
 // What a TD asks of the device, as far as it was looked at: S, and its Normals.
-#[derive(Clone, Copy)]
+#[derive(Clone, Copy, Default)]
 pub struct TdAsk {
     pub length: u32,
     pub normals: usize,
@@ -51,10 +51,7 @@ pub struct TdLooked {
 pub fn nothing_asked() -> TdAsk
     ensures { result ≡ nothing_asked }
 {
-    TdAsk {
-        length: 0,
-        normals: 0,
-    }
+    TdAsk::default()
 }
 
 // 1 for a Normal, 0 for another TRB.

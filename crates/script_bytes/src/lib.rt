@@ -10,7 +10,8 @@ ghost use Rattle.script_bytes.specs.Bytes.{guest_byte, device_byte, guest_bytes,
 fn guest_byte(base: u64, k: usize) -> u8
     ensures { result ≡ guest_byte base k }
 {
-    ((base % 256 * 7 + (k % 256) as u64 * 7 + 13) % 256) as u8
+    let address = base.wrapping_add(k as u64);
+    ((address & 0xff) as u8).wrapping_mul(7).wrapping_add(13)
 }
 
 // Fills guest memory, whose first byte is at guest address `base`.
@@ -27,7 +28,7 @@ pub fn fill_guest(window: &mut [u8], base: u64)
 fn device_byte(k: usize) -> u8
     ensures { result ≡ device_byte k }
 {
-    ((k % 256 * 11 + 5) % 256) as u8
+    ((k & 0xff) as u8).wrapping_mul(11).wrapping_add(5)
 }
 
 // Fills a buffer with the device's bytes.

@@ -1,7 +1,7 @@
 // The lines of an input, each ended by a line feed, and the text that answers them.
 #![tactic(auto)]
 
-ghost use Rattle.std.specs.Prelude.{◌≡◌, ◌+◌, ◌-◌, ◌≤◌, ◌<◌, min, not, eqb, [], ◌++◌, length, take, drop, IfOk, OnOk};
+ghost use Rattle.std.specs.Prelude.{◌≡◌, ◌+◌, ◌-◌, ◌≤◌, ◌<◌, not, eqb, [], ◌++◌, length, take, IfOk, OnOk};
 ghost use Rattle.std.specs.List.{take_while};
 ghost use Rattle.std.specs.Io.KnownBytes.{Appends, Consumes, IsAtEnd};
 ghost use Rattle.script_lines.specs.Lines.{max_line, line_feed, LineEnd, MakesRoom, KeepsText, bad_line_text, counted};
@@ -22,14 +22,8 @@ pub const MAX_LINE: usize = 3 + numerals::HEX_PLACES + call_number::RAW_PLACES;
 // Bytes of the input that one read may give.
 pub const PIECE: usize = 65536;
 
-pub fn input_buffer() -> [u8; PIECE]
-    ensures { length result ≡ 65536 }
-{
-    [0u8; PIECE]
-}
-
-// What was found: a line, which stands from an index up to another one; a piece of input; its end; or a line that is too long or that no line feed ends.
-// Each is taken for itself.
+// What was found: a line, which stands from an index up to another one; a piece of input; its end; or a line that is too long or that no
+// line feed ends. Each is taken for itself.
 #[derive(Clone, Copy)]
 pub enum Found {
     Line(usize, usize),
@@ -38,8 +32,8 @@ pub enum Found {
     Unfinished,
 }
 
-// What was read behind an unfinished line: a piece; or nothing, since the input has ended there, or ended in the line, or the line is too long. Three cases
-// and no Option: each is taken for itself.
+// What was read behind an unfinished line: a piece; or nothing, since the input has ended there, or ended in the line, or the line is too
+// long. Three cases and no Option: each is taken for itself.
 #[derive(Clone, Copy)]
 pub enum Refilled {
     Piece,
@@ -110,6 +104,7 @@ fn at_end(held: usize) -> Refilled
 }
 
 // Reads a piece of input behind the bytes of an unfinished line, which then stand at the front.
+#[tactic(auto, using(crate::proofs::LineLaws::piece_read))]
 pub fn refill<R: Read>(reader: &mut R, input: &mut Input<'_>) -> io::Result<Refilled>
     ensures same { input.new.bytes.ghost_name ≡ input.old.bytes.ghost_name }
     ensures refills { IfOk result (λ r. Refills r input.old input.new) }

@@ -10,8 +10,8 @@ ghost use Rattle.script_pieces.specs.Pieces.{TakesLines};
 use session::{LentBuffers, Session};
 use text::Text;
 
-// What was taken: the session behind it, the index of the first byte that was not, how many lines, and whether every line was good: the others are there either
-// way.
+// What was taken: the session behind it, the index of the first byte that was not, how many lines, and whether every line was good: the
+// others are there either way.
 #[derive(Clone, Copy)]
 pub struct Taken {
     pub session: Session,
@@ -20,7 +20,8 @@ pub struct Taken {
     pub good: bool,
 }
 
-// Takes the whole lines of the input from index `from` on, as long as they are good and the text has room for a further answer. The text starts anew.
+// Takes the whole lines of the input from index `from` on, as long as they are good and the text has room for a further answer. The text
+// starts anew.
 pub fn take_lines(
     text: &mut Text<'_>,
     session: Session,

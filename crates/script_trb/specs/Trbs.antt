@@ -1,8 +1,8 @@
 -- A decoded TRB as a script writes it: KIND ADDR FLAGS A B. A flag or a field that the kind does not have must be 0. Assumes nothing.
-use Rattle.std.specs.Prelude.{ℕ, ◌+◌, ◌-◌, ◌/◌, ◌%◌, ◌^◌, Bool, cond, not, ◌&&◌, ◌||◌, List, [], ◌∷◌, eqb, leb, Option, Some, None}
-use Rattle.trb.specs.declared.TransferTrbVariant.{TransferTrbVariant}
-use Rattle.trb.specs.declared.TransferTrbVariant.TheVariants.{SetupStage, DataStage, StatusStage, Normal, EventData, NoOp, Isoch, Unrecognized}
+use Rattle.std.specs.Prelude.{ℕ, ◌+◌, ◌-◌, ◌^◌, Bool, false, cond, not, ◌&&◌, ◌||◌, List, [], ◌∷◌, leb, Option, Some, None}
 use Rattle.trb.specs.declared.TransferTrb.{TransferTrb}
+use Rattle.held_bytes.specs.Numbers.{bit_of, trb_numbers}
+use Rattle.held_bytes.specs.Numbers as by_numbers
 use Rattle.script_trb.specs.declared.TrbFields.{TrbFields}
 use Rattle.script_trb.specs.Tables.{row_of}
 
@@ -26,13 +26,9 @@ immediate = 16
 abbrev pub direction : ℕ
 direction = 32
 
--- is the flag of this number set?
-abbrev pub has_flag : ℕ → ℕ → Bool
-has_flag flag flags = eqb (flags / flag % 2) 1
-
 -- is the flag one that the kind has, if it is set?
 abbrev pub allows : ℕ → ℕ → ℕ → Bool
-allows flags kind_has flag = not (has_flag flag flags) || has_flag flag kind_has
+allows flags kind_has flag = not (bit_of flags flag) || bit_of kind_has flag
 
 unfoldable pub has_only_flags : ℕ → ℕ → Bool
 has_only_flags flags kind_has =
@@ -53,82 +49,45 @@ any_word = 2 ^ 32 - 1
 
 -- ---- Kinds
 
-abbrev pub with_variant : TrbFields → TransferTrbVariant → Option TransferTrb
-with_variant f v = Some (record { variant = v; addr = f.addr; cycle_bit = has_flag cycle f.flags })
+-- Normal: flags 0 to 4; A data pointer, B length
+abbrev pub normal : TrbFields → Bool
+normal f = has_only f (cycle + chain + on_completion + on_short + immediate) any_number any_word
 
--- a line that is not so is bad
-abbrev pub trb_if : Bool → TrbFields → TransferTrbVariant → Option TransferTrb
-trb_if so f v = cond so (with_variant f v) None
+-- SetupStage: flags 0 and 2; A the eight setup bytes as a little-endian number
+abbrev pub setup_stage : TrbFields → Bool
+setup_stage f = has_only f (cycle + on_completion) any_number 0
 
--- flags 0 to 4; A data pointer, B length
-unfoldable pub normal_trb : TrbFields → Option TransferTrb
-normal_trb f = trb_if (has_only f (cycle + chain + on_completion + on_short + immediate) any_number any_word) f (Normal (record {
-  data_pointer = f.a;
-  transfer_length = f.b;
-  interrupt_on_short = has_flag on_short f.flags;
-  chain = has_flag chain f.flags;
-  interrupt_on_completion = has_flag on_completion f.flags;
-  immediate_data = has_flag immediate f.flags;
-}))
+-- DataStage: flags 0 to 5; A data pointer, B length
+abbrev pub data_stage : TrbFields → Bool
+data_stage f = has_only f (cycle + chain + on_completion + on_short + immediate + direction) any_number any_word
 
--- flags 0 and 2; A the eight setup bytes as a little-endian number
-unfoldable pub setup_stage_trb : TrbFields → Option TransferTrb
-setup_stage_trb f = trb_if (has_only f (cycle + on_completion) any_number 0) f (SetupStage (record {
-  request_type = f.a % 2 ^ 8;
-  request = f.a / 2 ^ 8 % 2 ^ 8;
-  value = f.a / 2 ^ 16 % 2 ^ 16;
-  index = f.a / 2 ^ 32 % 2 ^ 16;
-  length = f.a / 2 ^ 48 % 2 ^ 16;
-  interrupt_on_completion = has_flag on_completion f.flags;
-}))
+-- StatusStage: flags 0, 1, 2, 5
+abbrev pub status_stage : TrbFields → Bool
+status_stage f = has_only f (cycle + chain + on_completion + direction) 0 0
 
--- flags 0 to 5; A data pointer, B length
-unfoldable pub data_stage_trb : TrbFields → Option TransferTrb
-data_stage_trb f = trb_if (has_only f (cycle + chain + on_completion + on_short + immediate + direction) any_number any_word) f (DataStage (record {
-  data_pointer = f.a;
-  transfer_length = f.b;
-  chain = has_flag chain f.flags;
-  interrupt_on_completion = has_flag on_completion f.flags;
-  interrupt_on_short = has_flag on_short f.flags;
-  immediate_data = has_flag immediate f.flags;
-  direction = has_flag direction f.flags;
-}))
+-- EventData: flags 0, 1, 2; A event data
+abbrev pub event_data : TrbFields → Bool
+event_data f = has_only f (cycle + chain + on_completion) any_number 0
 
--- flags 0, 1, 2, 5
-unfoldable pub status_stage_trb : TrbFields → Option TransferTrb
-status_stage_trb f = trb_if (has_only f (cycle + chain + on_completion + direction) 0 0) f (StatusStage (record {
-  chain = has_flag chain f.flags;
-  interrupt_on_completion = has_flag on_completion f.flags;
-  direction = has_flag direction f.flags;
-}))
+-- NoOp: flags 0, 1, 2
+abbrev pub no_op : TrbFields → Bool
+no_op f = has_only f (cycle + chain + on_completion) 0 0
 
--- flags 0, 1, 2; A event data
-unfoldable pub event_data_trb : TrbFields → Option TransferTrb
-event_data_trb f = trb_if (has_only f (cycle + chain + on_completion) any_number 0) f (EventData (record {
-  event_data = f.a;
-  chain = has_flag chain f.flags;
-  interrupt_on_completion = has_flag on_completion f.flags;
-}))
+-- Isoch, Unrecognized: flag 0 alone
+abbrev pub bare : TrbFields → Bool
+bare f = has_only f cycle 0 0
 
--- flags 0, 1, 2
-unfoldable pub no_op_trb : TrbFields → Option TransferTrb
-no_op_trb f = trb_if (has_only f (cycle + chain + on_completion) 0 0) f (NoOp (record {
-  chain = has_flag chain f.flags;
-  interrupt_on_completion = has_flag on_completion f.flags;
-}))
+-- KIND, as xHCI numbers the types; Unrecognized is 0
+abbrev pub kinds : List (ℕ × (TrbFields → Bool))
+kinds = (1, normal) ∷ (2, setup_stage) ∷ (3, data_stage) ∷ (4, status_stage) ∷ (5, bare) ∷ (7, event_data) ∷ (8, no_op) ∷ (0, bare) ∷ []
 
--- flag 0 alone
-unfoldable pub bare_trb : TransferTrbVariant → TrbFields → Option TransferTrb
-bare_trb v f = trb_if (has_only f cycle 0 0) f v
+abbrev pub no_kind : TrbFields → Bool
+no_kind f = false
 
--- KIND
-abbrev pub kinds : List (ℕ × (TrbFields → Option TransferTrb))
-kinds =
-    (1, normal_trb) ∷ (2, setup_stage_trb) ∷ (3, data_stage_trb) ∷ (4, status_stage_trb) ∷ (5, bare_trb Isoch) ∷ (7, event_data_trb) ∷ (8, no_op_trb)
-    ∷ (0, bare_trb Unrecognized) ∷ []
+-- nothing but what its kind has
+unfoldable pub has_only_its_own : TrbFields → Bool
+has_only_its_own f = row_of kinds no_kind f.kind f
 
-abbrev pub bad_trb : TrbFields → Option TransferTrb
-bad_trb f = None
-
+-- the TRB that the fields are by number; a line that is not so is bad
 unfoldable pub trb_of : TrbFields → Option TransferTrb
-trb_of f = row_of kinds bad_trb f.kind f
+trb_of f = cond (has_only_its_own f) (Some (by_numbers.trb_of (trb_numbers f.kind f.flags f.addr f.a f.b))) None

@@ -9,6 +9,8 @@ use Rattle.in_block.specs.declared.InBlock.{InBlock}
 use Rattle.control_block.specs.Blocks.{fresh_block as fresh_control_block}
 use Rattle.control_block.specs.declared.ControlBlock.{ControlBlock}
 use Rattle.control_block.specs.declared.GuestRelease.TheVariants.{Release4}
+use Rattle.guest_memory.specs.Regions.{guest_regions}
+use Rattle.guest_memory.specs.declared.Regions.{Regions}
 use Rattle.call_script.specs.Limits.{max_lent_log}
 use Rattle.call_answer.specs.declared.Ran.{Ran}
 use Rattle.in_calls.specs.declared.Row.{Row}
@@ -30,12 +32,7 @@ new_session = record {
   endpoint = None;
   in_block = fresh_block (record { 0 = 0 }) (record { 0 = 0 }) AsPorted;
   control_block = fresh_control_block (record { 0 = 0 }) (record { 0 = 0 }) Release4;
-  low_base = first_base;
-  low_length = first_length;
-  high_base = 0;
-  high_length = 0;
-  log_length = max_lent_log;
-  collect_length = max_collected;
+  lent = record { log = max_lent_log; collect = max_collected; window = guest_regions first_base first_length 0 0 };
   row = record { trbs = replicate max_row blank_trb; count = 0; results = replicate max_row (record { status = Success; length = 0 }); tds = 0 };
 }
 
@@ -54,14 +51,17 @@ with_in_block s b = record s { endpoint = Some In; in_block = b }
 abbrev pub with_control_block : Session → ControlBlock → Session
 with_control_block s b = record s { endpoint = Some Control; control_block = b }
 
--- other regions, by base and length
-abbrev pub with_regions : Session → ℕ → ℕ → ℕ → ℕ → Session
-with_regions s low_base low_length high_base high_length =
-    record s { low_base = low_base; low_length = low_length; high_base = high_base; high_length = high_length }
+-- so much of each buffer is lent
+abbrev pub with_lent : Session → Lent → Session
+with_lent s l = record s { lent = l }
+
+-- other regions
+abbrev pub with_window : Session → Regions → Session
+with_window s window = with_lent s (record { log = s.lent.log; collect = s.lent.collect; window = window })
 
 -- so many bytes of log and collect buffer are lent
 abbrev pub with_lengths : Session → ℕ → ℕ → Session
-with_lengths s log collect = record s { log_length = log; collect_length = collect }
+with_lengths s log collect = with_lent s (record { log = log; collect = collect; window = s.lent.window })
 
 -- another row is written down
 abbrev pub with_row : Session → Row → Session
@@ -74,17 +74,6 @@ emptied w = record w { count = 0; tds = 0 }
 -- no row is written down
 abbrev pub without_row : Session → Session
 without_row s = with_row s (emptied s.row)
-
--- how much of each buffer is lent
-abbrev pub lent_of : Session → Lent
-lent_of s = record {
-  log = s.log_length;
-  collect = s.collect_length;
-  low_base = s.low_base;
-  low = s.low_length;
-  high_base = s.high_base;
-  high = s.high_length;
-}
 
 -- ---- What a line leaves
 

@@ -3,7 +3,7 @@
 
 ghost use Rattle.std.specs.Prelude.{◌≡◌, ◌≤◌, length};
 ghost use Rattle.trb.specs.Limits.{min_row_log};
-ghost use Rattle.session.specs.Sessions.{new_session, is_in_endpoint, without_row, lent_of, in_ran, control_ran};
+ghost use Rattle.session.specs.Sessions.{new_session, is_in_endpoint, without_row, in_ran, control_ran};
 
 use call_answer::Ran;
 use control_block::{ControlBlock, GuestRelease};
@@ -28,17 +28,13 @@ pub struct Session {
     pub endpoint: Option<EndpointKind>,
     pub in_block: InBlock,
     pub control_block: ControlBlock,
-    pub low_base: u64,
-    pub low_length: usize,
-    pub high_base: u64,
-    pub high_length: usize,
-    pub log_length: usize,
-    pub collect_length: usize,
+    // How much of each buffer the script lends.
+    pub lent: Lent,
     pub row: Row,
 }
 
-// A script's buffers, of which its calls are lent the first bytes, and the data of its device. The log is no longer than that of a row: the text of an answer
-// has room for its records.
+// A script's buffers, of which its calls are lent the first bytes, and the data of its device. The log is no longer than that of a row: the
+// text of an answer has room for its records.
 #[derive(Drop)]
 pub struct LentBuffers<'a> {
     pub log: &'a mut [u8],
@@ -62,12 +58,11 @@ pub fn new_session() -> Session
         endpoint: None,
         in_block: in_block::fresh(EndpointId(0), SlotId(0), InMode::AsPorted),
         control_block: control_block::fresh(EndpointId(0), SlotId(0), GuestRelease::Release4),
-        low_base: FIRST_BASE,
-        low_length: FIRST_LENGTH,
-        high_base: 0,
-        high_length: 0,
-        log_length: call_script::MAX_LENT_LOG,
-        collect_length: trb::MAX_COLLECTED,
+        lent: Lent {
+            log: call_script::MAX_LENT_LOG,
+            collect: trb::MAX_COLLECTED,
+            window: guest_memory::guest_regions(FIRST_BASE, FIRST_LENGTH, 0, 0),
+        },
         row: Row {
             trbs: [blank; trb::MAX_ROW],
             count: 0,
@@ -122,18 +117,4 @@ pub fn without_row(session: Session) -> Session
     next.row.count = 0;
     next.row.tds = 0;
     next
-}
-
-// How much of each buffer the script lends.
-pub fn lent_of(session: Session) -> Lent
-    ensures { result ≡ lent_of session }
-{
-    Lent {
-        log: session.log_length,
-        collect: session.collect_length,
-        low_base: session.low_base,
-        low: session.low_length,
-        high_base: session.high_base,
-        high: session.high_length,
-    }
 }

@@ -9,6 +9,7 @@ use Rattle.state_text.specs.Widths.{max_answer}
 use Rattle.text.specs.declared.Text.{Text}
 use Rattle.text.specs.Wrote.{HasRoom}
 use Rattle.text.proofs.WroteLaws.{wrote-none, wrote-within}
+use Rattle.guest_memory.specs.declared.Regions.{Regions}
 use Rattle.trb.specs.declared.EndpointId.{EndpointId}
 use Rattle.trb.specs.declared.SlotId.{SlotId}
 use Rattle.in_td.specs.declared.InMode.{InMode}
@@ -21,10 +22,9 @@ use Rattle.in_calls.specs.Calls.{in_call, row_call, create_call}
 use Rattle.call_answer.specs.declared.Ran.{Ran}
 use Rattle.control_calls.specs.Calls.{control_call, collect_behind, create_call as create_control_call}
 use Rattle.lent_calls.specs.Lent.{lent_memory, RunsLent, RunsControlLent}
-use Rattle.lent_calls.specs.declared.Lent.{Lent}
-use Rattle.session.specs.Sessions.{Quiet, bad_quiet, quiet_ran, in_ran, control_ran, with_in_block, with_control_block, without_row, lent_of}
+use Rattle.session.specs.Sessions.{Quiet, bad_quiet, quiet_ran, in_ran, control_ran, with_in_block, with_control_block, without_row}
 use Rattle.held.specs.declared.EndpointKind.{EndpointKind}
-use Rattle.held.specs.declared.EndpointKind.TheVariants.{In, Control}
+use Rattle.held.specs.declared.EndpointKind.TheVariants.{Control}
 use Rattle.call_answer.specs.declared.Ran.{Ran}
 use Rattle.session.specs.declared.Session.{Session}
 use Rattle.session_lines.specs.Lines.{MovesWindow}
@@ -41,8 +41,8 @@ module _ {r : Ran Session} (s : State) {t : Text} (room : HasRoom max_answer t) 
     text = wrote-within (omega arith) (wrote-none (omega arith));
   })
 
-  pub answers-window : {a n b k : ℕ} {low' high' : List ℕ} → MovesWindow s.session a n b k r s.low low' s.high high'
-      → Answers (moving_window s a n b k) t r t (state_of r.left s.log s.collect low' high')
+  pub answers-window : {window : Regions} {low' high' : List ℕ} → MovesWindow s.session window r s.low low' s.high high'
+      → Answers (moving_window s window) t r t (state_of r.left s.log s.collect low' high')
   answers-window w = rw (w.ran, w.low, w.high) (record {
     state = refl;
     records = refl;
@@ -53,7 +53,7 @@ module _ {r : Ran Session} (s : State) {t : Text} (room : HasRoom max_answer t) 
 -- ---- Calls on an endpoint, made on the session x, with what s lends
 
 module _ (s : State) (x : Session) {r : Ran Session} {t t' : Text} {log' low' high' : List ℕ} where
-  called-in : {o : Called InBlock} {ran : Ran InBlock} → RunsLent o (lent_of s.session) t ran t' s.log log' s.low low' s.high high' → r ≡ in_ran x ran
+  called-in : {o : Called InBlock} {ran : Ran InBlock} → RunsLent o s.session.lent t ran t' s.log log' s.low low' s.high high' → r ≡ in_ran x ran
       → Answers (saying o.said (called_state s (with_in_block x o.said.block) o s.collect)) t r t' (state_of r.left log' s.collect low' high')
   called-in run e = rw (e, run.says.ran) (record {
     state = rw (run.leaves.log, run.leaves.low, run.leaves.high);
@@ -63,7 +63,7 @@ module _ (s : State) (x : Session) {r : Ran Session} {t t' : Text} {log' low' hi
   })
 
   called-control : {o : Called ControlBlock} {collect collect' : List ℕ} {ran : Ran ControlBlock}
-      → RunsControlLent o collect (lent_of s.session) t ran t' s.log log' collect' s.low low' s.high high' → r ≡ control_ran x ran
+      → RunsControlLent o collect s.session.lent t ran t' s.log log' collect' s.low low' s.high high' → r ≡ control_ran x ran
       → Answers (saying o.said (called_state s (with_control_block x o.said.block) o collect)) t r t' (state_of r.left log' collect' low' high')
   called-control run e = rw (e, run.says.ran) (record {
     state = rw (run.leaves.log, run.collected, run.leaves.low, run.leaves.high);
@@ -72,70 +72,43 @@ module _ (s : State) (x : Session) {r : Ran Session} {t t' : Text} {log' low' hi
     text = run.says.text;
   })
 
-module _ (x : Session) (log collect low high : List ℕ) {l : Lent} {t t' : Text} {log' low' high' : List ℕ} {r : Ran Session} (lent : l ≡ lent_of x) where
+module _ (x : Session) (log collect low high : List ℕ) {t t' : Text} {log' low' high' : List ℕ} {r : Ran Session} where
   pub answers-in : {ran : Ran InBlock} (bytes : List ℕ) (c : Call)
-      → RunsLent (in_call x.in_block c bytes (take l.log log) (lent_memory l low high)) l t ran t' log log' low low' high high' → r ≡ in_ran x ran
+      → RunsLent (in_call x.in_block c bytes (take x.lent.log log) (lent_memory x.lent low high)) x.lent t ran t' log log' low low' high high' → r ≡ in_ran x ran
       → Answers (in_answer bytes (state_of x log collect low high) c) t r t' (state_of r.left log' collect low' high')
   unfolding in_answer
-  answers-in {ran = ran} bytes c run e =
-      called-in (state_of x log collect low high) x
-      (subst
-      (λ (y : Lent). RunsLent (in_call x.in_block c bytes (take y.log log) (lent_memory y low high)) y t ran t' log log' low low' high high')
-      lent run) e
+  answers-in bytes c run e = called-in (state_of x log collect low high) x run e
 
   pub answers-row : {ran : Ran InBlock} {y : Session} (bytes : List ℕ) (n : ℕ)
-      → RunsLent (row_call x.in_block x.row (take n bytes) (take l.log log) (lent_memory l low high))
-      l t ran t' log log' low low' high high' → y ≡ without_row x → r ≡ in_ran y ran
+      → RunsLent (row_call x.in_block x.row (take n bytes) (take x.lent.log log) (lent_memory x.lent low high))
+      x.lent t ran t' log log' low low' high high' → y ≡ without_row x → r ≡ in_ran y ran
       → Answers (row_answer bytes (state_of x log collect low high) n) t r t' (state_of r.left log' collect low' high')
   unfolding row_answer
   answers-row {ran = ran} bytes n run emptied e =
-      called-in (state_of x log collect low high) (without_row x)
-      (subst
-      (λ (z : Lent). RunsLent (row_call x.in_block x.row (take n bytes) (take z.log log) (lent_memory z low high))
-      z t ran t' log log' low low' high high')
-      lent run)
-      (subst (λ (z : Session). r ≡ in_ran z ran) emptied e)
+      called-in (state_of x log collect low high) (without_row x) run (subst (λ (z : Session). r ≡ in_ran z ran) emptied e)
 
   pub answers-control : {ran : Ran ControlBlock} {collect' : List ℕ} (bytes : List ℕ) (c : Call)
-      → RunsControlLent (control_call x.control_block c bytes l.collect collect (take l.log log) (lent_memory l low high))
-      (collect_behind x.control_block c l.collect collect (take l.log log) (lent_memory l low high)) l t ran t' log log' collect' low low' high high'
-      → r ≡ control_ran x ran
+      → RunsControlLent (control_call x.control_block c bytes x.lent.collect collect (take x.lent.log log) (lent_memory x.lent low high))
+      (collect_behind x.control_block c x.lent.collect collect (take x.lent.log log) (lent_memory x.lent low high))
+      x.lent t ran t' log log' collect' low low' high high' → r ≡ control_ran x ran
       → Answers (control_answer bytes (state_of x log collect low high) c) t r t' (state_of r.left log' collect' low' high')
   unfolding control_answer
-  answers-control {ran = ran} {collect' = collect'} bytes c run e =
-      called-control (state_of x log collect low high) x
-      (subst
-      (λ (y : Lent). RunsControlLent (control_call x.control_block c bytes y.collect collect (take y.log log) (lent_memory y low high))
-      (collect_behind x.control_block c y.collect collect (take y.log log) (lent_memory y low high)) y t ran t' log log' collect' low low' high high')
-      lent run) e
+  answers-control bytes c run e = called-control (state_of x log collect low high) x run e
 
--- on the endpoint that there is
+-- a call on no endpoint is a bad line, and so is a row on none or on control
 module _ {e : Option EndpointKind} (bytes : List ℕ) (s : State) where
-  module _ (c : Call) where
-    pub answer-nowhere : e ≡ None → endpoint_answer e bytes s c ≡ quietly s (bad_quiet s.session)
-    unfolding endpoint_answer
-    answer-nowhere h = rw h
-
-    pub answer-in : e ≡ Some In → endpoint_answer e bytes s c ≡ in_answer bytes s c
-    unfolding endpoint_answer
-    answer-in h = rw h
-
-    pub answer-control : e ≡ Some Control → endpoint_answer e bytes s c ≡ control_answer bytes s c
-    unfolding endpoint_answer
-    answer-control h = rw h
+  pub answer-nowhere : (c : Call) → e ≡ None → endpoint_answer e bytes s c ≡ quietly s (bad_quiet s.session)
+  unfolding endpoint_answer
+  answer-nowhere c h = rw h
 
   module _ (n : ℕ) where
     pub row-nowhere : e ≡ None → endpoint_row_answer e bytes s n ≡ quietly s (bad_quiet s.session)
     unfolding endpoint_row_answer
     row-nowhere h = rw h
 
-    pub row_in : e ≡ Some In → endpoint_row_answer e bytes s n ≡ row_answer bytes s n
+    pub row-control : (k : EndpointKind) → e ≡ Some k → k ≡ Control → endpoint_row_answer e bytes s n ≡ quietly s (bad_quiet s.session)
     unfolding endpoint_row_answer
-    row_in h = rw h
-
-    pub row-control : e ≡ Some Control → endpoint_row_answer e bytes s n ≡ quietly s (bad_quiet s.session)
-    unfolding endpoint_row_answer
-    row-control h = rw h
+    row-control k h i = rw (h, i)
 
 -- ---- Creation
 

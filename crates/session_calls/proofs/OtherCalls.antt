@@ -2,6 +2,7 @@
 use Prim.Native.Nat.{ℕ}
 use mathlib.Core.Path.{◌≡◌, refl}
 use mathlib.Core.List.{List}
+use Rattle.guest_memory.specs.declared.Regions.{Regions}
 use Rattle.trb.specs.declared.EndpointId.{EndpointId}
 use Rattle.trb.specs.declared.InTrbProcessingStatus.{InTrbProcessingStatus}
 use Rattle.trb.specs.declared.SlotId.{SlotId}
@@ -10,12 +11,12 @@ use Rattle.control_block.specs.declared.GuestRelease.{GuestRelease}
 use Rattle.in_td.specs.declared.InMode.{InMode}
 use Rattle.call_script.specs.declared.Call.{Call}
 use Rattle.call_script.specs.declared.Call.TheVariants.{Window, Buffers, CreateIn, CreateControl, Submit, CompleteWithResult, CompleteWithout, Cancel, Hold, MakeUpIn, MakeUpControl, AppendTrb, AppendResult, CompleteRow, Time, Captured}
-use Rattle.call_script.specs.declared.InTransferType.{InTransferType}
+use Rattle.capture_record.specs.declared.InTransferType.{InTransferType}
 use Rattle.session_calls.specs.Answers.{State, endpoint_answer, answer_of}
 
 -- a call that is none of the session's lines, and no row
 pub record OnEndpoint (c : Call) : Type 0 where
-  pub window : (low low_length high high_length : ℕ) → c ≡ Window low low_length high high_length → ⊥
+  pub window : (window : Regions) → c ≡ Window window → ⊥
   pub buffers : (log collect : ℕ) → c ≡ Buffers log collect → ⊥
   pub create_in : (e : EndpointId) (i : SlotId) (mode : InMode) → c ≡ CreateIn e i mode → ⊥
   pub create_control : (e : EndpointId) (i : SlotId) (release : GuestRelease) → c ≡ CreateControl e i release → ⊥
@@ -28,7 +29,7 @@ pub record OnEndpoint (c : Call) : Type 0 where
 module _ (bytes : List ℕ) (s : State) where
   pub answer_of-other : (c : Call) → OnEndpoint c → answer_of bytes s c ≡ endpoint_answer s.session.endpoint bytes s c
   unfolding answer_of
-  answer_of-other (Window low n high k) h = absurd (h.window low n high k refl)
+  answer_of-other (Window window) h = absurd (h.window window refl)
   answer_of-other (Buffers l n) h = absurd (h.buffers l n refl)
   answer_of-other (CreateIn e i mode) h = absurd (h.create_in e i mode refl)
   answer_of-other (CreateControl e i release) h = absurd (h.create_control e i release refl)

@@ -3,6 +3,7 @@ use Rattle.std.specs.Prelude.{ℕ, ◌≡◌, Bool, true, List, [], take, None, 
 use Rattle.trb.specs.declared.EndpointId.{EndpointId}
 use Rattle.trb.specs.declared.SlotId.{SlotId}
 use Rattle.guest_memory.specs.Places.{Memory}
+use Rattle.guest_memory.specs.declared.Regions.{Regions}
 use Rattle.text.specs.declared.Text.{Text}
 use Rattle.text.specs.Wrote.{Wrote}
 use Rattle.state_text.specs.Widths.{max_answer}
@@ -15,7 +16,7 @@ use Rattle.in_calls.specs.Calls.{in_call, row_call, create_call}
 use Rattle.control_calls.specs.Calls.{control_call, collect_behind, create_call as create_control_call}
 use Rattle.lent_calls.specs.Lent.{lent_memory, behind_lent}
 use Rattle.session.specs.declared.LentBuffers.{LentBuffers}
-use Rattle.session.specs.Sessions.{Quiet, bad_quiet, good_quiet, with_in_block, with_control_block, with_lengths, without_row, lent_of}
+use Rattle.session.specs.Sessions.{Quiet, bad_quiet, good_quiet, with_in_block, with_control_block, with_lengths, without_row}
 use Rattle.held.specs.declared.EndpointKind.{EndpointKind}
 use Rattle.held.specs.declared.EndpointKind.TheVariants.{In, Control}
 use Rattle.call_answer.specs.declared.Ran.{Ran}
@@ -57,17 +58,17 @@ saying o s = record { state = s; text = o.text; records = o.records; good = o.go
 -- a call changes of log and guest memory what is lent
 abbrev pub called_state : {B : Type 0} → State → Session → Called B → List ℕ → State
 called_state s next o collect =
-    state_of next (behind_lent s.session.log_length s.log o.log) collect (behind_lent s.session.low_length s.low o.memory.low)
-    (behind_lent s.session.high_length s.high o.memory.high)
+    state_of next (behind_lent s.session.lent.log s.log o.log) collect (behind_lent s.session.lent.window.low.len s.low o.memory.low)
+    (behind_lent s.session.lent.window.high.len s.high o.memory.high)
 
 -- ---- Calls on an endpoint
 
 -- as much of the log, and of guest memory, as is lent
 abbrev pub lent_log : State → List ℕ
-lent_log s = take s.session.log_length s.log
+lent_log s = take s.session.lent.log s.log
 
 abbrev pub memory_of_state : State → Memory
-memory_of_state s = lent_memory (lent_of s.session) s.low s.high
+memory_of_state s = lent_memory s.session.lent s.low s.high
 
 -- with these bytes of the device's data, on an IN endpoint
 unfoldable pub in_answer : List ℕ → State → Call → Answer
@@ -86,7 +87,7 @@ row_answer bytes s n =
 unfoldable pub control_answer : List ℕ → State → Call → Answer
 control_answer bytes s c =
     let b = s.session.control_block in
-    let n = s.session.collect_length in
+    let n = s.session.lent.collect in
     let o = control_call b c bytes n s.collect (lent_log s) (memory_of_state s) in
     saying o.said
     (called_state s (with_control_block s.session o.said.block) o (collect_behind b c n s.collect (lent_log s) (memory_of_state s)))
@@ -117,11 +118,10 @@ control_creation s e i release =
 -- ---- Any call
 
 -- `w`
-abbrev pub moving_window : State → ℕ → ℕ → ℕ → ℕ → Answer
-moving_window s low_base low_length high_base high_length = record {
+abbrev pub moving_window : State → Regions → Answer
+moving_window s window = record {
   state =
-      state_of (window_moved s.session low_base low_length high_base high_length s.low s.high) s.log s.collect
-      (region_filled low_base low_length s.low) (region_filled high_base high_length s.high);
+      state_of (window_moved s.session window s.low s.high) s.log s.collect (region_filled window.low s.low) (region_filled window.high s.high);
   text = [];
   records = 0;
   good = true;
@@ -129,7 +129,7 @@ moving_window s low_base low_length high_base high_length = record {
 
 -- a call, with these bytes of the device's data
 unfoldable pub answer_of : List ℕ → State → Call → Answer
-answer_of bytes s (Window low_base low_length high_base high_length) = moving_window s low_base low_length high_base high_length
+answer_of bytes s (Window window) = moving_window s window
 answer_of bytes s (Buffers log collect) = quietly s (good_quiet (with_lengths s.session log collect))
 answer_of bytes s (CreateIn e i mode) = in_creation s e i mode
 answer_of bytes s (CreateControl e i release) = control_creation s e i release

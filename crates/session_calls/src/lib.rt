@@ -30,7 +30,7 @@ fn run_in(
 {
     let ran = lent_calls::run_in(
         text,
-        session::lent_of(session),
+        session.lent,
         session.in_block,
         call,
         buffers.log,
@@ -54,7 +54,7 @@ fn run_row(
 {
     let ran = lent_calls::run_row(
         text,
-        session::lent_of(session),
+        session.lent,
         session.in_block,
         session.row,
         bytes,
@@ -79,7 +79,7 @@ fn run_control(
 {
     let ran = lent_calls::run_control(
         text,
-        session::lent_of(session),
+        session.lent,
         session.control_block,
         call,
         buffers.log,
@@ -92,6 +92,7 @@ fn run_control(
 }
 
 // A call on the endpoint that there is.
+#[tactic(auto, unfolding(crate::specs::Answers::endpoint_answer))]
 fn run_on_endpoint(
     text: &mut Text<'_>,
     session: Session,
@@ -102,16 +103,15 @@ fn run_on_endpoint(
     ensures answer { Answers (endpoint_answer session.endpoint buffers.old.«data».now (state_in session buffers.old) call) text.old result text.new (state_in result.left buffers.new) }
     ensures same { SameBuffers buffers.old buffers.new }
 {
-    let Some(endpoint) = session.endpoint else {
-        return call_answer::bad(session);
-    };
-    match endpoint {
-        EndpointKind::In => run_in(text, session, call, buffers),
-        EndpointKind::Control => run_control(text, session, call, buffers),
+    match session.endpoint {
+        Some(EndpointKind::In) => run_in(text, session, call, buffers),
+        Some(EndpointKind::Control) => run_control(text, session, call, buffers),
+        None => call_answer::bad(session),
     }
 }
 
 // `r`, on the endpoint that there is.
+#[tactic(auto, unfolding(crate::specs::Answers::endpoint_row_answer))]
 fn run_row_on_endpoint(
     text: &mut Text<'_>,
     session: Session,
@@ -122,12 +122,10 @@ fn run_row_on_endpoint(
     ensures answer { Answers (endpoint_row_answer session.endpoint buffers.old.«data».now (state_in session buffers.old) bytes) text.old result text.new (state_in result.left buffers.new) }
     ensures same { SameBuffers buffers.old buffers.new }
 {
-    let Some(endpoint) = session.endpoint else {
-        return call_answer::bad(session);
-    };
-    match endpoint {
-        EndpointKind::In => run_row(text, session, bytes, buffers),
-        EndpointKind::Control => call_answer::bad(session),
+    match session.endpoint {
+        Some(EndpointKind::In) => run_row(text, session, bytes, buffers),
+        Some(EndpointKind::Control) => call_answer::bad(session),
+        None => call_answer::bad(session),
     }
 }
 
@@ -178,20 +176,13 @@ pub fn run_call(
     ensures same { SameBuffers buffers.old buffers.new }
 {
     match call {
-        Call::Window(low_base, low_length, high_base, high_length) => session_lines::move_window(
+        Call::Window(window) => session_lines::move_window(
             session,
-            low_base,
-            low_length,
-            high_base,
-            high_length,
+            window,
             buffers.low,
             buffers.high,
         ),
-        Call::Buffers(log_length, collect_length) => session_lines::lend_buffers(
-            session,
-            log_length,
-            collect_length,
-        ),
+        Call::Buffers(log, collect) => session_lines::lend_buffers(session, log, collect),
         Call::CreateIn(endpoint_id, slot_id, mode) => create_in(
             text,
             session,

@@ -4,75 +4,84 @@
 ghost use Rattle.std.specs.Prelude.{◌≡◌, ◌≤◌};
 ghost use Rattle.trb.specs.Limits.{max_row};
 ghost use Rattle.session.specs.Sessions.{with_lengths, quiet_ran, good_quiet};
-ghost use Rattle.session_lines.specs.Lines.{FillsRegion, MovesWindow, with_trb, append_trb, with_result, append_result};
+ghost use Rattle.session_lines.specs.Lines.{FillsRegion, MovesWindow, placed, with_trb, append_trb, with_result, append_result};
 
 use call_answer::Ran;
+use guest_memory::{Region, Regions};
 use in_calls::Row;
+use lent_calls::Lent;
 use row_walk::TdResult;
 use session::Session;
 use trb::TransferTrb;
 
 // ---- Guest memory
 
-// As many of the bytes of `memory` as a region of this length has, filled anew. Returns how many they are.
-fn fill_region(memory: &mut [u8], base: u64, length: usize) -> usize
-    ensures { FillsRegion base length result memory.old memory.new }
+// Of the bytes of `memory` as many as the region has, filled anew. Returns the region with as many as there are.
+fn fill_region(memory: &mut [u8], region: Region) -> Region
+    ensures { FillsRegion region result memory.old memory.new }
 {
-    let end = length.min(memory.len());
-    script_bytes::fill_guest(&mut memory[..end], base);
-    end
+    let len = region.len.min(memory.len());
+    script_bytes::fill_guest(&mut memory[..len], region.start_addr);
+    Region { len, ..region }
 }
 
 // `w`: guest memory from here on.
 pub fn move_window(
     session: Session,
-    low_base: u64,
-    low_length: usize,
-    high_base: u64,
-    high_length: usize,
+    window: Regions,
     low: &mut [u8],
     high: &mut [u8],
 ) -> Ran<Session>
-    ensures { MovesWindow session low_base low_length high_base high_length result low.old low.new high.old high.new }
+    ensures { MovesWindow session window result low.old low.new high.old high.new }
 {
-    let low_end = fill_region(low, low_base, low_length);
-    let high_end = fill_region(high, high_base, high_length);
-    let next = Session {
-        low_base,
-        low_length: low_end,
-        high_base,
-        high_length: high_end,
-        ..session
+    let low_region = fill_region(low, window.low);
+    let high_region = fill_region(high, window.high);
+    let filled = Regions {
+        low: low_region,
+        high: high_region,
     };
-    call_answer::silent(next)
+    let lent = Lent {
+        window: filled,
+        ..session.lent
+    };
+    call_answer::silent(Session { lent, ..session })
 }
 
 // `b`: lengths of the lent log and collect buffer from here on.
-pub fn lend_buffers(session: Session, log_length: usize, collect_length: usize) -> Ran<Session>
-    ensures { result ≡ quiet_ran (good_quiet (with_lengths session log_length collect_length)) }
+pub fn lend_buffers(session: Session, log: usize, collect: usize) -> Ran<Session>
+    ensures { result ≡ quiet_ran (good_quiet (with_lengths session log collect)) }
 {
-    let next = Session {
-        log_length,
-        collect_length,
-        ..session
+    let lent = Lent {
+        log,
+        collect,
+        ..session.lent
     };
-    call_answer::silent(next)
+    call_answer::silent(Session { lent, ..session })
 }
 
 // ---- The row that is being written down
+
+// The value goes to the place behind those taken, if there is one.
+fn placed<T: Copy>(places: [T; trb::MAX_ROW], taken: usize, value: T) -> [T; trb::MAX_ROW]
+    ensures { result ≡ placed places taken value }
+{
+    let mut next = places;
+    if taken < trb::MAX_ROW {
+        next[taken] = value;
+    }
+    next
+}
 
 // The TRB goes to its end.
 fn with_trb(row: Row, t: TransferTrb) -> Row
     requires { row.count ≤ max_row }
     ensures { result ≡ with_trb row t }
 {
-    let place = row.count;
-    let mut next = row;
-    next.count = place + 1;
-    if place < trb::MAX_ROW {
-        next.trbs[place] = t;
+    Row {
+        trbs: placed(row.trbs, row.count, t),
+        count: row.count + 1,
+        ..row
     }
-    next
 }
 
 // `q`: the TRB goes to the row's end.
@@ -92,13 +101,11 @@ fn with_result(row: Row, given: TdResult) -> Row
     requires { row.tds ≤ max_row }
     ensures { result ≡ with_result row given }
 {
-    let place = row.tds;
-    let mut next = row;
-    next.tds = place + 1;
-    if place < trb::MAX_ROW {
-        next.results[place] = given;
+    Row {
+        results: placed(row.results, row.tds, given),
+        tds: row.tds + 1,
+        ..row
     }
-    next
 }
 
 // `e`: the device result of the row's next TD.

@@ -7,8 +7,8 @@ use borrow.Author.Tests.{eqb-true, eqb-false}
 use lib.Dec.{eqb}
 use native.Mathlib.Numerals.{add-one}
 use native.Mathlib.Omega.{arith}
-use lib.ListN.{length, take, set, length-append}
-use lib.Seq.{take-suc-set, length-take-le, append_snoc}
+use lib.ListN.{length, length-append}
+use lib.Seq.{append_snoc}
 use Rattle.text.specs.declared.Text.{Text}
 use Rattle.text.specs.Wrote.{HasRoom, Wrote}
 use Rattle.text.proofs.WroteLaws.{wrote-none, wrote-append, wrote-within}
@@ -57,24 +57,17 @@ laid-cast {l = l} {m = m} h f = subst (λ (x : List ℕ). Laid x l m) (sym h) f
 pub laid-wrote : {a : List ℕ} {l m : Text} (most : ℕ) → length a ≤ most → HasRoom most l → Laid a l m → Wrote most l a m
 laid-wrote most g h f = wrote-within g (f.wrote (omega arith))
 
--- ---- One letter chosen
+-- ---- One letter more
 
--- the words us behind the first `at` letters of w and x
-module _ (w : List ℕ) (at : ℕ) (here : at < length w) where
-  chosen : (x : Letter) → take (at + 1) (set w at (byte_of x)) ≡ take at w ++ (byte_of x ∷ [])
-  chosen x = ap (λ (k : ℕ). take k (set w at (byte_of x))) (add-one at) ∙ take-suc-set w at (byte_of x) here
-
-  lines-chosen : (x : Letter) (us : List Word) → lines (take at w) (after x us) ≡ lines (take (at + 1) (set w at (byte_of x))) us
-  lines-chosen x us = lines_after (take at w) x us ∙ ap (λ (p : List ℕ). lines p us) (sym (chosen x))
-
-  pub laid-chosen : (x : Letter) (us : List Word) {l m : Text} → Laid (lines (take (at + 1) (set w at (byte_of x))) us) l m → Laid (lines (take at w) (after x us)) l m
-  laid-chosen x us f = laid-cast (lines-chosen x us) f
+-- the words us behind the letters p
+module _ (p : List ℕ) where
+  pub laid-chosen : (x : Letter) (us : List Word) {l m : Text} → Laid (lines (p ++ (byte_of x ∷ [])) us) l m → Laid (lines p (after x us)) l m
+  laid-chosen x us f = laid-cast (lines_after p x us) f
 
   -- one letter, and behind that another
   pub laid-two : (x y : Letter) (us vs : List Word) {l m k : Text}
-      → Laid (lines (take (at + 1) (set w at (byte_of x))) us) l m → Laid (lines (take (at + 1) (set w at (byte_of y))) vs) m k
-      → Laid (lines (take at w) (after x us ++ after y vs)) l k
-  laid-two x y us vs f g = laid-cast (lines-append (take at w) (after x us) (after y vs)) (laid-append (laid-chosen x us f) (laid-chosen y vs g))
+      → Laid (lines (p ++ (byte_of x ∷ [])) us) l m → Laid (lines (p ++ (byte_of y ∷ [])) vs) m k → Laid (lines p (after x us ++ after y vs)) l k
+  laid-two x y us vs f g = laid-cast (lines-append p (after x us) (after y vs)) (laid-append (laid-chosen x us f) (laid-chosen y vs g))
 
 -- ---- Phase by phase
 
@@ -98,8 +91,8 @@ module _ (p : List ℕ) {l m : Text} where
 pub lines-one : (p : List ℕ) → lines p ([] ∷ []) ≡ p ++ (line_feed ∷ [])
 lines-one p = append-nil (p ++ (line_feed ∷ []))
 
-pub length-line : (w : List ℕ) (size : ℕ) → size ≤ length w → length (lines (take size w) ([] ∷ [])) ≡ size + 1
-length-line w size h = ap length (lines-one (take size w)) ∙ length-append (take size w) (line_feed ∷ []) ∙ ap (λ (i : ℕ). i + 1) (length-take-le size w h)
+pub length-line : (p : List ℕ) → length (lines p ([] ∷ [])) ≡ length p + 1
+length-line p = ap length (lines-one p) ∙ length-append p (line_feed ∷ [])
 
 -- ---- MoreData
 
@@ -118,24 +111,23 @@ module _ (p : List ℕ) (left : ℕ) (f : left ≡ 0 → ⊥) {l m k o : Text} w
       (laid-lists p (after N (more_data (left - 1))) (after e (status_stage (left - 1)) ++ after n (status_stage (left - 1))) h i))
 
 -- the same behind one more letter
-module _ (w : List ℕ) (at : ℕ) (here : at < length w) (x : Letter) (left : ℕ) (f : left ≡ 0 → ⊥) where
+module _ (p : List ℕ) (x : Letter) (left : ℕ) (f : left ≡ 0 → ⊥) where
   abbrev behind : List Word → List ℕ
-  behind us = lines (take (at + 1) (set w at (byte_of x))) us
+  behind us = lines (p ++ (byte_of x ∷ [])) us
 
   pub laid-chained : {l m k o : Text} → Laid (behind (after E (more_data (left - 1)))) l m → Laid (behind (after N (more_data (left - 1)))) m k
-      → Laid (behind (after e (status_stage (left - 1)) ++ after n (status_stage (left - 1)))) k o → Laid (lines (take at w) (after x (more_data left))) l o
-  laid-chained g h i = laid-chosen w at here x (more_data left) (laid_more (take (at + 1) (set w at (byte_of x))) left f g h i)
+      → Laid (behind (after e (status_stage (left - 1)) ++ after n (status_stage (left - 1)))) k o → Laid (lines p (after x (more_data left))) l o
+  laid-chained g h i = laid-chosen p x (more_data left) (laid_more (p ++ (byte_of x ∷ [])) left f g h i)
 
 -- ---- The data stage, the shapes of a length, the shapes up to a length
 
-module _ (w : List ℕ) (at : ℕ) (here : at < length w) (left : ℕ) (f : left ≡ 0 → ⊥) {l m k o : Text} where
-  pub laid-data : Laid (lines (take (at + 1) (set w at (byte_of D))) (more_data (left - 1))) l m
-      → Laid (lines (take (at + 1) (set w at (byte_of T))) (final_event_data (left - 1))) m k
-      → Laid (lines (take at w) (after d (status_stage (left - 1)) ++ after t (request_made (left - 1)))) k o → Laid (lines (take at w) (data_stage left)) l o
+module _ (p : List ℕ) (left : ℕ) (f : left ≡ 0 → ⊥) {l m k o : Text} where
+  pub laid-data : Laid (lines (p ++ (byte_of D ∷ [])) (more_data (left - 1))) l m → Laid (lines (p ++ (byte_of T ∷ [])) (final_event_data (left - 1))) m k
+      → Laid (lines p (after d (status_stage (left - 1)) ++ after t (request_made (left - 1)))) k o → Laid (lines p (data_stage left)) l o
   unfolding data_stage
-  laid-data g h i = laid-left (take at w) data_stage left f
-      (laid-lists (take at w) (after D (more_data (left - 1))) (after T (final_event_data (left - 1)) ++ (after d (status_stage (left - 1)) ++ after t (request_made (left - 1)))) (laid-chosen w at here D (more_data (left - 1)) g)
-      (laid-lists (take at w) (after T (final_event_data (left - 1))) (after d (status_stage (left - 1)) ++ after t (request_made (left - 1))) (laid-chosen w at here T (final_event_data (left - 1)) h) i))
+  laid-data g h i = laid-left p data_stage left f
+      (laid-lists p (after D (more_data (left - 1))) (after T (final_event_data (left - 1)) ++ (after d (status_stage (left - 1)) ++ after t (request_made (left - 1)))) (laid-chosen p D (more_data (left - 1)) g)
+      (laid-lists p (after T (final_event_data (left - 1))) (after d (status_stage (left - 1)) ++ after t (request_made (left - 1))) (laid-chosen p T (final_event_data (left - 1)) h) i))
 
 -- where no letter is left
 module _ (p : List ℕ) (left : ℕ) (l : Text) (f : left ≡ 0) where

@@ -1,106 +1,90 @@
 // R-10: every legal control chain, as a line of letters: the phases of document 01's table up to the Status Stage TRB, in the form of
-// `shape_lines`. What is chosen and what is left fit in a shape together: a fact of the arguments of functions that call each other, and change both.
+// `shape_lines`. What is chosen and what is left fit in a shape together: a fact of the arguments of functions that call each other, and
+// change both.
 #![tactic(auto)]
 
-ghost use Rattle.std.specs.Prelude.{◌++◌, [], ◌+◌, ◌≤◌, ◌<◌, take};
+ghost use Rattle.std.specs.Prelude.{◌++◌, [], ◌+◌, ◌≤◌, ◌<◌};
 ghost use Rattle.text.specs.Wrote.{HasRoom, Wrote};
 ghost use Rattle.shapes.specs.Letters.{E, N, d, e, n, t};
 ghost use Rattle.shapes.specs.Lists.{max_shape, after, request_made, status_stage, more_data, data_stage, shapes};
+ghost use Rattle.shape_lines.specs.Chosen.{letters_of};
 ghost use Rattle.shape_lines.specs.Lines.{lines, shapes_text, max_text, Laid};
 
+use shape_lines::Chosen;
 use text::Text;
 
 // The last TRB of the data part, which is not chained: Event Data or Normal.
-fn data_end(text: &mut Text<'_>, word: [u8; shape_lines::MAX_SHAPE], chosen: usize, left: usize)
-    requires { chosen + left < max_shape }
-    ensures { Laid (lines (take chosen word) (after e (status_stage left) ++ after n (status_stage left))) text.old text.new }
+fn data_end(text: &mut Text<'_>, chosen: Chosen, left: usize)
+    requires { chosen.size + left < max_shape }
+    ensures { Laid (lines (letters_of chosen) (after e (status_stage left) ++ after n (status_stage left))) text.old text.new }
 {
-    let mut x = word;
-    x[chosen] = b'e';
-    shape_lines::status_stage(text, x, chosen + 1, left);
-    let mut y = word;
-    y[chosen] = b'n';
-    shape_lines::status_stage(text, y, chosen + 1, left);
+    shape_lines::status_stage(text, chosen.with_letter(b'e'), left);
+    shape_lines::status_stage(text, chosen.with_letter(b'n'), left);
 }
 
 // A chained Event Data TRB, and then in MoreData. A rule of the project gives the form: it and `normal` call each other.
 #[cycle(event_data_normal)]
-fn event_data(text: &mut Text<'_>, word: [u8; shape_lines::MAX_SHAPE], chosen: usize, left: usize)
-    requires { chosen + left < max_shape }
-    ensures { Laid (lines (take chosen word) (after E (more_data left))) text.old text.new }
+fn event_data(text: &mut Text<'_>, chosen: Chosen, left: usize)
+    requires { chosen.size + left < max_shape }
+    ensures { Laid (lines (letters_of chosen) (after E (more_data left))) text.old text.new }
 {
     if left == 0 {
         return;
     }
-    let mut x = word;
-    x[chosen] = b'E';
-    event_data(text, x, chosen + 1, left - 1);
-    normal(text, x, chosen + 1, left - 1);
-    data_end(text, x, chosen + 1, left - 1);
+    let next = chosen.with_letter(b'E');
+    event_data(text, next, left - 1);
+    normal(text, next, left - 1);
+    data_end(text, next, left - 1);
 }
 
 // A chained Normal TRB, and then in MoreData.
 #[cycle(event_data_normal)]
-fn normal(text: &mut Text<'_>, word: [u8; shape_lines::MAX_SHAPE], chosen: usize, left: usize)
-    requires { chosen + left < max_shape }
-    ensures { Laid (lines (take chosen word) (after N (more_data left))) text.old text.new }
+fn normal(text: &mut Text<'_>, chosen: Chosen, left: usize)
+    requires { chosen.size + left < max_shape }
+    ensures { Laid (lines (letters_of chosen) (after N (more_data left))) text.old text.new }
 {
     if left == 0 {
         return;
     }
-    let mut x = word;
-    x[chosen] = b'N';
-    event_data(text, x, chosen + 1, left - 1);
-    normal(text, x, chosen + 1, left - 1);
-    data_end(text, x, chosen + 1, left - 1);
+    let next = chosen.with_letter(b'N');
+    event_data(text, next, left - 1);
+    normal(text, next, left - 1);
+    data_end(text, next, left - 1);
 }
 
 // In MoreData.
-fn more_data(text: &mut Text<'_>, word: [u8; shape_lines::MAX_SHAPE], chosen: usize, left: usize)
-    requires { chosen + left ≤ max_shape }
-    ensures { Laid (lines (take chosen word) (more_data left)) text.old text.new }
+fn more_data(text: &mut Text<'_>, chosen: Chosen, left: usize)
+    requires { chosen.size + left ≤ max_shape }
+    ensures { Laid (lines (letters_of chosen) (more_data left)) text.old text.new }
 {
     if left == 0 {
         return;
     }
-    event_data(text, word, chosen, left - 1);
-    normal(text, word, chosen, left - 1);
-    data_end(text, word, chosen, left - 1);
+    event_data(text, chosen, left - 1);
+    normal(text, chosen, left - 1);
+    data_end(text, chosen, left - 1);
 }
 
 // In MaybeDataStageTrb, the Data Stage TRB or the Status Stage TRB not chained.
-fn unchained_stage(
-    text: &mut Text<'_>,
-    word: [u8; shape_lines::MAX_SHAPE],
-    chosen: usize,
-    left: usize,
-)
-    requires { chosen + left < max_shape }
-    ensures { Laid (lines (take chosen word) (after d (status_stage left) ++ after t (request_made left))) text.old text.new }
+fn unchained_stage(text: &mut Text<'_>, chosen: Chosen, left: usize)
+    requires { chosen.size + left < max_shape }
+    ensures { Laid (lines (letters_of chosen) (after d (status_stage left) ++ after t (request_made left))) text.old text.new }
 {
-    let mut x = word;
-    x[chosen] = b'd';
-    shape_lines::status_stage(text, x, chosen + 1, left);
-    let mut y = word;
-    y[chosen] = b't';
-    shape_lines::request_made(text, y, chosen + 1, left);
+    shape_lines::status_stage(text, chosen.with_letter(b'd'), left);
+    shape_lines::request_made(text, chosen.with_letter(b't'), left);
 }
 
 // In MaybeDataStageTrb.
-fn data_stage(text: &mut Text<'_>, word: [u8; shape_lines::MAX_SHAPE], chosen: usize, left: usize)
-    requires { chosen + left ≤ max_shape }
-    ensures { Laid (lines (take chosen word) (data_stage left)) text.old text.new }
+fn data_stage(text: &mut Text<'_>, chosen: Chosen, left: usize)
+    requires { chosen.size + left ≤ max_shape }
+    ensures { Laid (lines (letters_of chosen) (data_stage left)) text.old text.new }
 {
     if left == 0 {
         return;
     }
-    let mut x = word;
-    x[chosen] = b'D';
-    more_data(text, x, chosen + 1, left - 1);
-    let mut y = word;
-    y[chosen] = b'T';
-    shape_lines::final_event_data(text, y, chosen + 1, left - 1);
-    unchained_stage(text, word, chosen, left - 1);
+    more_data(text, chosen.with_letter(b'D'), left - 1);
+    shape_lines::final_event_data(text, chosen.with_letter(b'T'), left - 1);
+    unchained_stage(text, chosen, left - 1);
 }
 
 // The shapes of one length.
@@ -111,9 +95,7 @@ fn shapes_of(text: &mut Text<'_>, size: usize)
     if size == 0 {
         return;
     }
-    let mut word = [0u8; shape_lines::MAX_SHAPE];
-    word[0] = b's';
-    data_stage(text, word, 1, size - 1);
+    data_stage(text, Chosen::new().with_letter(b's'), size - 1);
 }
 
 // Writes the shapes up to a length, the shorter first; there is none of length 0 or 1.

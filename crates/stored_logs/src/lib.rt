@@ -3,8 +3,8 @@
 
 ghost use Rattle.std.specs.Prelude.{◌≡◌};
 ghost use Rattle.trb.specs.Questions.{first_no};
-ghost use Rattle.trb.specs.Refusals.{refusal_number};
 ghost use Rattle.log_text.specs.Widths.{max_line};
+ghost use Rattle.answer_numbers.specs.Numbers.{counted};
 ghost use Rattle.stored_logs.specs.Stored.{check_questions, Compacts, Prints};
 
 use answer_numbers::Answered;
@@ -33,20 +33,27 @@ pub fn line_room() -> usize
     log_text::MAX_LINE
 }
 
-// Writes a line for each record of a log, or of whole records of one, to the text buffer's start, and counts the characters.
-pub fn print(log: &[u8], text: &mut [u8]) -> Answered
-    ensures { Prints log.now text.old result text.new }
+// Writes a line for each record of a log, and returns how many characters, where the text buffer has room for the lines of all and the
+// log is well formed.
+fn put_lines(log: &[u8], text: &mut [u8]) -> Result<usize, Refusal>
+    ensures { Prints log.now text.old (counted result) text.new }
 {
-    if text.len() / log_text::MAX_LINE < log.len() / trb::RECORD_LENGTH {
-        return answer_numbers::counted(Err(Refusal::BufferTooShort));
-    }
-    if !log_check::well_formed(log) {
-        return answer_numbers::counted(Err(Refusal::MalformedLog));
-    }
+    trb::ask(
+        log.len() / trb::RECORD_LENGTH <= text.len() / log_text::MAX_LINE,
+        Refusal::BufferTooShort,
+    )?;
+    trb::ask(log_check::well_formed(log), Refusal::MalformedLog)?;
     let mut text = Text {
         bytes: text,
         end: 0,
     };
     log_text::put_lines(&mut text, log);
-    answer_numbers::counted(Ok(text.end))
+    Ok(text.end)
+}
+
+// Writes a line for each record of a log, or of whole records of one, to the text buffer's start, and counts the characters.
+pub fn print(log: &[u8], text: &mut [u8]) -> Answered
+    ensures { Prints log.now text.old result text.new }
+{
+    answer_numbers::counted(put_lines(log, text))
 }

@@ -1,5 +1,5 @@
-// What IN and control endpoints know alike of one TRB of a TD: bytes moved, residual, completion code, EDTLA. Ports `Edtla` and the tests of
-// `realize_dma_trb`.
+// What IN and control endpoints know alike of one TRB of a TD: bytes moved, residual, completion code, EDTLA. Ports `Edtla` and the tests
+// of `realize_dma_trb`.
 #![tactic(auto)]
 
 ghost use Rattle.std.specs.Prelude.{◌≡◌};
@@ -15,7 +15,8 @@ pub enum TdProcessingState {
     ShortTransfer(u32),
 }
 
-// What stays the same over a TD. The device's data is `data_length` bytes.
+// What stays the same over a TD. The device's data is `data_length` bytes. The two ids stand side by side here and wherever they go, and
+// are no pair: each constructor of an event takes both, adjacent (01, Expected forms by place), and would take a pair apart.
 #[derive(Clone, Copy)]
 pub struct TdInfo {
     pub endpoint_id: EndpointId,
@@ -23,8 +24,11 @@ pub struct TdInfo {
     pub data_length: u32,
 }
 
-// What each TRB changes: where in the device's data the next write starts, the EDTLA, and the number of records logged. A turn asks for room in the log behind
-// these records, and uses it up: so that is a fact of each turn, and no invariant of a log and its records.
+// What each TRB changes: where in the device's data the next write starts, the EDTLA, and the number of records logged. A turn asks for
+// room in the log behind these records, and uses it up: so that is a fact of each turn, and no invariant of a log and its records. The
+// count stands beside the log, since this is copied from TRB to TRB, as a value with the lent log could not be.
+// That the next write starts within the data (`Within`) is a fact of this and `TdInfo`, and no type's: as one value each turn would also
+// promise that what stays the same over a TD stayed.
 #[derive(Clone, Copy)]
 pub struct TdProgress {
     pub start: u32,
@@ -86,7 +90,7 @@ pub fn edtla_after(edtla: u32, byte_count: u32) -> u32
     ensures { result ≡ edtla_after edtla byte_count }
 {
     let sum = (edtla as u64) + (byte_count as u64);
-    (sum % 16777216) as u32
+    (sum & 0xff_ffff) as u32
 }
 
 // The bytes that a TRB of this length moves: as many as are left of the device's data.

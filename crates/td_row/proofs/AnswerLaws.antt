@@ -1,5 +1,5 @@
 -- The entry for a lent row answers as completion does for a block that holds the row and awaits the device. Assumes nothing.
-use Rattle.std.specs.Prelude.{None, Option, Some}
+use Rattle.std.specs.Prelude.{Err, None, Ok, Option, Result, Some}
 use Prim.Native.Nat.{ℕ, ◌≤◌}
 use mathlib.Core.Path.{◌≡◌, refl, sym, ap, ◌∙◌, subst}
 use mathlib.Core.Bool.{Bool, true, false, true≢false}
@@ -9,18 +9,19 @@ use lib.Dec.{leb, eqb}
 use lib.ListN.{length, take, replicate}
 use lib.Seq.{take-length, take-take, take-append_seam}
 use borrow.Author.Tests.{leb-true, eqb-true}
-use Rattle.trb.specs.Answers.{number_of, CompletionAnswer}
+use Rattle.trb.specs.Answers.{number_of, refusal_of, CompletionAnswer}
 use Rattle.trb.specs.Limits.{max_held}
 use Rattle.trb.specs.Questions.{first_no, agree}
 use Rattle.trb.specs.declared.EndpointId.{EndpointId}
 use Rattle.trb.specs.declared.InTrbProcessingStatus.{InTrbProcessingStatus}
+use Rattle.trb.specs.declared.Refusal.{Refusal}
 use Rattle.trb.specs.declared.SlotId.{SlotId}
 use Rattle.trb.specs.declared.TdBasedNormalSubmissionState.TheVariants.{AwaitingRealTransfer}
 use Rattle.trb.specs.declared.TransferTrb.{TransferTrb}
 use Rattle.call_log.specs.Calls.{Out, Meets}
 use Rattle.call_log.specs.Logs.{records_in}
+use Rattle.call_log.proofs.CallLaws.{meets-silent}
 use Rattle.held.specs.Places.{blank_trb}
-use Rattle.walks.specs.Walk.{walk}
 use Rattle.account.specs.Guest.{Distinct, IspOnNormals, LastNormalWithIoc, Account}
 use Rattle.in_td.specs.Td.{in_td, unprocessed, process_td}
 use Rattle.in_td.specs.declared.InMode.{InMode}
@@ -38,7 +39,7 @@ use Rattle.in_questions.proofs.PassedLaws.{PassedCompletion, passed-completion}
 use Rattle.in_endpoint.specs.Completion.{transferred, completed_as, completion, is_accepted}
 use Rattle.in_endpoint.specs.Returned.{Completed}
 use Rattle.in_endpoint.proofs.CompletionLaws.{process_td-counts, accepted-none, accounted-completion, completion-number}
-use Rattle.row_plan.specs.Plans.{row_facts, status_of, refused_plan, accepted_plan, row_plan, row_answer}
+use Rattle.row_plan.specs.Plans.{row_facts, status_of, accepted_plan, row_plan}
 use Rattle.row_plan.specs.Rows.{row_block, row_completion, CompletesRow, AccountedRow}
 use Rattle.trb.specs.declared.Logged.{Logged}
 use Rattle.row_plan.specs.declared.RowPlan.{RowPlan}
@@ -79,49 +80,13 @@ module _ (e : EndpointId) (s : SlotId) (mode : InMode) (ts : List TransferTrb) w
     few : asked ≡ 0 → length ts ≤ max_held
     few none = sound-held (facts_of block) (known none).sound
 
-    -- what the walk made of the log, with the plan's answer, is what completion does for the block
-    abbrev Answers : RowPlan → Type 0
-    Answers plan =
-        (p : TdProcessed) (l' : List ℕ) → Meets (process_td plan.td (take plan.count ts)) 0 l p l' → Meets (row_completion (length l) e s mode ts res n) 0 l (row_answer plan p) l'
-
-    answers-refused : eqb asked 0 ≡ false → Answers (refused_plan e s mode asked)
-    unfolding walk completion
-    answers-refused some p l' m = rw (asked-block, some, m.state) (record { state = refl; log = m.log; fits = tt })
-
-    walked-of : (r : Option InTrbProcessingStatus) → agree (is_given r) true ≡ true → completed_as (ending_of AwaitingRealTransfer r n) block ≡ transferred block (status_of r) n
-    walked-of None agreed = absurd (true≢false (sym agreed))
-    walked-of (Some st) agreed = refl
-
-    answers-accepted : asked ≡ 0 → Answers (accepted_plan e s mode (length ts) (held_test ts) (status_of res) n)
-    unfolding completion transferred
-    answers-accepted none p l' m =
-        let td : InTd = in_td e s mode (status_of res) n in
-        let k : Meets (process_td td ts) 0 l p l' = rw take-length at m in
-        let counted : p.progress.records ≡ length (process_td td ts).records = ap (λ (x : TdProcessed). x.progress.records) k.state ∙ process_td-counts td ts in
-        rw (asked-block, none, walked-of res (known none).agreed, held_of-row_block (few none)) (record { state = rw (counted, k.state); log = k.log; fits = k.fits })
-
-    -- what holds of the plan in both cases holds of the plan
-    by-plan : (Q : RowPlan → Type 0) → (eqb asked 0 ≡ false → Q (refused_plan e s mode asked)) → (asked ≡ 0 → Q (accepted_plan e s mode (length ts) (held_test ts) (status_of res) n))
-        → Q (row_plan (length l) e s mode (length ts) (held_test ts) res n)
-    unfolding row_plan
-    by-plan Q refuses accepts = by_number (eqb asked 0) refl
-      where
-        by_number : (b : Bool) → eqb asked 0 ≡ b → Q (row_plan (length l) e s mode (length ts) (held_test ts) res n)
-        by_number true none = rw none (accepts (eqb-true asked 0 none))
-        by_number false some = rw some (refuses some)
-
-    answers-plan : Answers (row_plan (length l) e s mode (length ts) (held_test ts) res n)
-    answers-plan = by-plan Answers answers-refused answers-accepted
-
-    walkable-plan : Walkable (row_plan (length l) e s mode (length ts) (held_test ts) res n) ts (length l)
-    walkable-plan =
-        by-plan (λ p. Walkable p ts (length l)) (λ some. record { start = refl; few = omega arith; room = omega arith })
-        (λ none. let most = few none in let long = (known none).log-long in
-        record { start = rw take-length (ap unprocessed (all-counted ts most)); few = omega arith; room = omega arith })
+    -- what the call returns, and the log behind it, are what completion does for the block
+    abbrev Met : Logged CompletionAnswer → List ℕ → Type 0
+    Met r l' = Meets (row_completion (length l) e s mode ts res n) 0 l r l'
 
     -- ---- Demand 3
 
-    module _ (r : Logged CompletionAnswer) (l' : List ℕ) (m : Meets (row_completion (length l) e s mode ts res n) 0 l r l') where
+    module _ (r : Logged CompletionAnswer) (l' : List ℕ) (m : Met r l') where
       abbrev whole : Completed
       whole = record { answer = r.answer; records = r.records; block = out.state.block }
 
@@ -138,15 +103,56 @@ module _ (e : EndpointId) (s : SlotId) (mode : InMode) (ts : List TransferTrb) w
       accounted-row accepted =
           accounted-few (few (sym asked-block ∙ accepted-none (length l) block res n (ap (λ (x : Logged CompletionAnswer). is_accepted x.answer) (sym m.state) ∙ accepted))) accepted
 
-    -- what the entry's contract says, of the plan, of what the walk made of the log, and of the answer
-    pub row-answered : (t : HeldTest) (plan : RowPlan) (p : TdProcessed) (r : Logged CompletionAnswer) (l' : List ℕ) → t ≡ held_test ts → plan ≡ row_plan (length l) e s mode (length ts) t res n
-        → Meets (process_td plan.td (take plan.count ts)) 0 l p l' → r ≡ row_answer plan p
-        → CompletesRow e s mode ts res n l r l' × AccountedRow ts n r.answer (records_in r.records l')
-    row-answered t plan p r l' tested planned walked answered =
-        let plan-is : plan ≡ row_plan (length l) e s mode (length ts) (held_test ts) res n = planned ∙ ap (λ (x : HeldTest). row_plan (length l) e s mode (length ts) x res n) tested in
-        let m : Meets (row_completion (length l) e s mode ts res n) 0 l r l' = rw answered (subst Answers (sym plan-is) answers-plan p l' walked) in
+    -- ---- What the entry's contract says
+
+    abbrev Answered : Logged CompletionAnswer → List ℕ → Type 0
+    Answered r l' = CompletesRow e s mode ts res n l r l' × AccountedRow ts n r.answer (records_in r.records l')
+
+    answered-row : (r : Logged CompletionAnswer) (l' : List ℕ) → Met r l' → Answered r l'
+    answered-row r l' m =
         (record { number = ap (λ (x : Logged CompletionAnswer). number_of x.answer) m.state ∙ completion-number (length l) block res n; met = m }, accounted-row r l' m)
 
-    pub walkable : (t : HeldTest) (plan : RowPlan) → t ≡ held_test ts → plan ≡ row_plan (length l) e s mode (length ts) t res n → Walkable plan ts (length l)
-    walkable t plan tested planned =
-        subst (λ (x : RowPlan). Walkable x ts (length l)) (sym (planned ∙ ap (λ (x : HeldTest). row_plan (length l) e s mode (length ts) x res n) tested)) walkable-plan
+    -- what the walk gave
+    abbrev walked_as : TdProcessed → Logged CompletionAnswer
+    walked_as p = record { answer = Ok p.result; records = p.progress.records }
+
+    -- of the refusal, or of what a walk by the plan made of the log
+    abbrev Answers : Result RowPlan Refusal → Type 0
+    Answers (Err r) = Answered (record { answer = Err r; records = 0 }) l
+    Answers (Ok plan) = Walkable plan ts (length l) × ((p : TdProcessed) (l' : List ℕ) → Meets (process_td plan.td (take plan.count ts)) 0 l p l' → Answered (walked_as p) l')
+
+    refused-met : eqb asked 0 ≡ false → Met (record { answer = Err (refusal_of asked); records = 0 }) l
+    unfolding completion
+    refused-met some = rw (asked-block, some) (meets-silent 0 l refl)
+
+    walked-of : (r : Option InTrbProcessingStatus) → agree (is_given r) true ≡ true → completed_as (ending_of AwaitingRealTransfer r n) block ≡ transferred block (status_of r) n
+    walked-of None agreed = absurd (true≢false (sym agreed))
+    walked-of (Some st) agreed = refl
+
+    abbrev plan : RowPlan
+    plan = accepted_plan e s mode (length ts) (held_test ts) (status_of res) n
+
+    walkable : asked ≡ 0 → Walkable plan ts (length l)
+    walkable none =
+        let most = few none in let long = (known none).log-long in
+        record { start = rw take-length (ap unprocessed (all-counted ts most)); few = omega arith; room = omega arith }
+
+    walked-met : asked ≡ 0 → (p : TdProcessed) (l' : List ℕ) → Meets (process_td plan.td (take plan.count ts)) 0 l p l' → Met (walked_as p) l'
+    unfolding completion transferred
+    walked-met none p l' m =
+        let td : InTd = in_td e s mode (status_of res) n in
+        let k : Meets (process_td td ts) 0 l p l' = rw take-length at m in
+        let counted : p.progress.records ≡ length (process_td td ts).records = ap (λ (x : TdProcessed). x.progress.records) k.state ∙ process_td-counts td ts in
+        rw (asked-block, none, walked-of res (known none).agreed, held_of-row_block (few none)) (record { state = rw (counted, k.state); log = k.log; fits = k.fits })
+
+    answers-plan : Answers (row_plan (length l) e s mode (length ts) (held_test ts) res n)
+    unfolding row_plan
+    answers-plan = by_number (eqb asked 0) refl
+      where
+        by_number : (b : Bool) → eqb asked 0 ≡ b → Answers (row_plan (length l) e s mode (length ts) (held_test ts) res n)
+        by_number true same = let none = eqb-true asked 0 same in rw same (walkable none, λ p l' m. answered-row (walked_as p) l' (walked-met none p l' m))
+        by_number false some = rw some (answered-row _ l (refused-met some))
+
+    -- of what was found of the row, and of the plan that was made by it
+    pub answers : (t : HeldTest) (r : Result RowPlan Refusal) → t ≡ held_test ts → r ≡ row_plan (length l) e s mode (length ts) t res n → Answers r
+    answers t r tested planned = subst Answers (sym (planned ∙ ap (λ (x : HeldTest). row_plan (length l) e s mode (length ts) x res n) tested)) answers-plan

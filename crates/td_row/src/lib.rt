@@ -35,7 +35,7 @@ pub fn complete_row(
     ensures account { AccountedRow row.now (length «data».now) result.answer (records_in result.records log.new) }
 {
     let tested = in_block::test_held(row);
-    let plan = row_plan::ask(
+    let asked = row_plan::ask(
         log.len(),
         endpoint_id,
         slot_id,
@@ -45,6 +45,17 @@ pub fn complete_row(
         res,
         data.len(),
     );
-    let processed = walk_row(log, row, plan);
-    row_plan::answer(plan, processed)
+    match asked {
+        Err(refusal) => Logged {
+            answer: Err(refusal),
+            records: 0,
+        },
+        Ok(plan) => {
+            let processed = walk_row(log, row, plan);
+            Logged {
+                answer: Ok(processed.result),
+                records: processed.progress.records,
+            }
+        }
+    }
 }

@@ -3,6 +3,7 @@
 // result of the completion; the records that the call logged stand below it: kind, code, address, length, start, request type.
 #![tactic(auto)]
 
+use call_log::Record;
 use control_block::{ControlBlock, GuestRelease};
 use guest_memory::GuestView;
 use std::io;
@@ -16,9 +17,6 @@ use trb::{
 const IN: u8 = 0x80;
 
 const OUT: u8 = 0;
-
-// TRBs of a row.
-const ROW: usize = 5;
 
 // ---- TRBs
 
@@ -126,25 +124,17 @@ fn print_completion(rt: &impl Print, answer: CompletionAnswer) -> io::Result<()>
     rt.write_all(b"\n")
 }
 
-fn print_record(rt: &impl Print, log: &[u8], index: usize) -> io::Result<()> {
-    if index < trb::MAX_RECORDS && trb::MIN_LOG <= log.len() {
-        let record = call_log::read_record(log, index);
-        println!(rt;
-            "    {} {} {} {} {} {}",
-            record.kind,
-            record.code,
-            record.address,
-            record.length,
-            record.start,
-            record.request_type
-        )?;
-    }
-    Ok(())
+fn print_record(rt: &impl Print, record: Record) -> io::Result<()> {
+    println!(rt;
+        "    {} {} {} {} {} {}",
+        record.kind, record.code, record.address, record.length, record.start, record.request_type
+    )
 }
 
-fn print_records(rt: &impl Print, log: &[u8], records: usize) -> io::Result<()> {
-    for index in 0..records {
-        print_record(rt, log, index)?;
+// Prints the first `count` records of a log.
+fn print_records(rt: &impl Print, log: &[u8], count: usize) -> io::Result<()> {
+    for cells in call_log::records(log).iter().take(count) {
+        print_record(rt, call_log::decoded(cells))?;
     }
     Ok(())
 }
@@ -154,30 +144,19 @@ fn print_records(rt: &impl Print, log: &[u8], records: usize) -> io::Result<()> 
 // What the device answers, where the endpoint awaits it.
 fn device_result(state: ControlSubmissionState) -> Option<ControlRequestProcessingResult> {
     match state {
-        ControlSubmissionState::NoTrbSubmitted => None,
-        ControlSubmissionState::CollectingTd => None,
-        ControlSubmissionState::ParserError(_) => None,
-        ControlSubmissionState::UnexpectedTrb(_) => None,
         ControlSubmissionState::AwaitingControlRequest => {
             Some(ControlRequestProcessingResult::SuccessfulControlIn)
         }
+        _ => None,
     }
-}
-
-fn log_buffer() -> [u8; trb::MIN_LOG] {
-    [0u8; trb::MIN_LOG]
 }
 
 // Bytes of the collect buffer that is lent.
 const COLLECT: usize = 65536;
 
-fn collect_buffer() -> [u8; COLLECT] {
-    [0u8; COLLECT]
-}
-
 // Completes, and prints what comes of it.
 fn complete(rt: &impl Print, block: ControlBlock) -> io::Result<ControlBlock> {
-    let mut log = log_buffer();
+    let mut log = [0u8; trb::MIN_LOG];
     let device = [7u8; 18];
     let result = device_result(block.state);
     let completed = control_completion::next_completion(&mut log, block, result, &device);
@@ -203,8 +182,8 @@ fn submit(
     block: ControlBlock,
     t: TransferTrb,
 ) -> io::Result<ControlBlock> {
-    let mut log = log_buffer();
-    let mut collect = collect_buffer();
+    let mut log = [0u8; trb::MIN_LOG];
+    let mut collect = [0u8; COLLECT];
     let memory = memory_in(window);
     let submitted = control_submission::submit_trb(&mut log, &mut collect, block, t, &memory);
     print_answer(rt, t.addr, submitted.answer)?;
@@ -212,34 +191,27 @@ fn submit(
     Ok(submitted.block)
 }
 
-// Submits and completes the first `count` TRBs of a row.
+// Submits and completes the TRBs of a row.
 fn run(
     rt: &impl Print,
     window: &[u8],
     block: ControlBlock,
-    trbs: [TransferTrb; ROW],
-    count: usize,
+    trbs: &[TransferTrb],
 ) -> io::Result<()> {
     let mut next = block;
-    for i in 0..count {
-        if i < ROW {
-            let t = trbs[i];
-            next = complete(rt, submit(rt, window, next, t)?)?;
-        }
+    for t in trbs {
+        next = complete(rt, submit(rt, window, next, *t)?)?;
     }
     Ok(())
 }
 
 // Submits and completes a TRB, and prints nothing.
 fn pass(window: &[u8], block: ControlBlock, t: TransferTrb) -> ControlBlock {
-    let mut log = log_buffer();
-    let mut collect = collect_buffer();
+    let mut log = [0u8; trb::MIN_LOG];
+    let mut collect = [0u8; COLLECT];
     let memory = memory_in(window);
     let submitted = control_submission::submit_trb(&mut log, &mut collect, block, t, &memory);
-    let between = submitted.block;
-    let completed = control_completion::next_completion(&mut log, between, None, b"");
-    let next = completed.block;
-    next
+    control_completion::next_completion(&mut log, submitted.block, None, b"").block
 }
 
 // The same for so many equal TRBs.
@@ -254,18 +226,17 @@ fn pass_often(window: &[u8], block: ControlBlock, t: TransferTrb, count: usize) 
 // ---- Rows
 
 // Setup, Data IN 18 unchained, Unrecognized, Status: request of 18; 18 bytes back write nothing.
-fn unrecognized_in_a_chain() -> [TransferTrb; ROW] {
+fn unrecognized_in_a_chain() -> [TransferTrb; 4] {
     [
         setup(4096, IN, false),
         data_stage(4112, 18, false),
         unrecognized(4128),
         status(4144),
-        status(4160),
     ]
 }
 
 // 65,535 bytes may be collected; one more is refused.
-fn collected_limit() -> [TransferTrb; ROW] {
+fn collected_limit() -> [TransferTrb; 5] {
     [
         setup(4096, OUT, false),
         data_stage(4112, 65536, true),
@@ -276,7 +247,7 @@ fn collected_limit() -> [TransferTrb; ROW] {
 }
 
 // The 512th TRB may be held, the 513th is refused; a Setup is then the only one held.
-fn held_limit() -> [TransferTrb; ROW] {
+fn held_limit() -> [TransferTrb; 5] {
     [
         normal(8192, 0, true),
         normal(8208, 0, true),
@@ -287,14 +258,8 @@ fn held_limit() -> [TransferTrb; ROW] {
 }
 
 // An Unrecognized TRB frees the places and keeps the length; the request follows.
-fn after_unrecognized() -> [TransferTrb; ROW] {
-    [
-        unrecognized(8192),
-        normal(8208, 0, false),
-        status(8224),
-        status(8240),
-        status(8256),
-    ]
+fn after_unrecognized() -> [TransferTrb; 3] {
+    [unrecognized(8192), normal(8208, 0, false), status(8224)]
 }
 
 fn fresh() -> ControlBlock {
@@ -319,9 +284,9 @@ fn lengthened(window: &[u8], block: ControlBlock, rounds: usize) -> ControlBlock
 
 fn run_rows(rt: &impl Print, window: &[u8]) -> io::Result<()> {
     rt.write_all(b"An Unrecognized TRB before the status stage\n")?;
-    run(rt, window, fresh(), unrecognized_in_a_chain(), 4)?;
+    run(rt, window, fresh(), &unrecognized_in_a_chain())?;
     rt.write_all(b"65,536 bytes, 65,535, one more, none more\n")?;
-    run(rt, window, fresh(), collected_limit(), 5)?;
+    run(rt, window, fresh(), &collected_limit())?;
     rt.write_all(b"The 512th held TRB, the 513th, and Setup\n")?;
     let full = pass_often(
         window,
@@ -329,18 +294,14 @@ fn run_rows(rt: &impl Print, window: &[u8]) -> io::Result<()> {
         normal(4128, 0, true),
         trb::MAX_HELD - 3,
     );
-    run(rt, window, full, held_limit(), 5)?;
+    run(rt, window, full, &held_limit())?;
     // 32,769 TRBs of 131,071 bytes ask for 4,295,065,599 bytes, which is 98,303 modulo 2^32.
     rt.write_all(b"A request length past 2^32\n")?;
     let long = lengthened(window, started(window, 131071), 64);
-    run(rt, window, long, after_unrecognized(), 3)
-}
-
-fn guest_memory() -> [u8; 131072] {
-    [0u8; 131072]
+    run(rt, window, long, &after_unrecognized())
 }
 
 fn main(rt: HostRuntime) -> io::Result<()> {
-    let memory = guest_memory();
+    let memory = [0u8; 131072];
     run_rows(&rt, &memory)
 }

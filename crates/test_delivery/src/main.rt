@@ -1,5 +1,5 @@
-// Completes TDs and carries them out in one call, on guest memory in two regions of 8 bytes, all dots, with the device bytes a, b, c and so on. A line has a
-// case's name, the answer with the number of records, and the bytes of both regions afterwards.
+// Completes TDs and carries them out in one call, on guest memory in two regions of 8 bytes, all dots, with the device bytes a, b, c and so
+// on. A line has a case's name, the answer with the number of records, and the bytes of both regions afterwards.
 #![tactic(auto)]
 
 use guest_memory::GuestMemory;

@@ -1,22 +1,12 @@
 // Prints logs at the edges of question 10 and of the longest log that is printed, each under its name.
 #![tactic(auto)]
 
-ghost use Rattle.std.specs.Prelude.{◌≡◌, ◌+◌, length};
-ghost use Rattle.trb.specs.Limits.{max_printed_log, record_length};
-
 use std::io;
-
-// Records of kind 1, every byte 1: one more than the longest log that is printed has.
-fn ones() -> [u8; trb::MAX_PRINTED_LOG + trb::RECORD_LENGTH]
-    ensures { length result ≡ max_printed_log + record_length }
-{
-    [1u8; trb::MAX_PRINTED_LOG + trb::RECORD_LENGTH]
-}
 
 // Writes a name, and what the log prints, or where that is long only how long it is.
 fn show(rt: &impl Print, name: &[u8], log: &[u8]) -> io::Result<()> {
     rt.write_all(name)?;
-    let mut text = log_print::text_buffer();
+    let mut text = [0u8; log_text::MAX_TEXT];
     let end = log_print::print_log(log, &mut text).unwrap_or(0);
     if end < 100 {
         rt.write_all(&text[..end])
@@ -25,9 +15,9 @@ fn show(rt: &impl Print, name: &[u8], log: &[u8]) -> io::Result<()> {
     }
 }
 
-// The first bytes of `ones`.
+// So many bytes of records of kind 1, every byte 1: at most one record more than the longest log that is printed has.
 fn show_ones(rt: &impl Print, name: &[u8], count: usize) -> io::Result<()> {
-    let log = ones();
+    let log = [1u8; trb::MAX_PRINTED_LOG + trb::RECORD_LENGTH];
     if count <= log.len() {
         show(rt, name, &log[..count])?;
     }

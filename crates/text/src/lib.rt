@@ -4,8 +4,8 @@
 ghost use Rattle.std.specs.Prelude.{[], ◌∷◌, length};
 ghost use Rattle.text.specs.Wrote.{HasRoom, Wrote};
 
-// A text buffer, and how much of it is written. A writer asks for room for the longest that it may write, and uses up what it writes: so that is a fact of each
-// call, and no invariant.
+// A text buffer, and how much of it is written. A writer asks for room for the longest that it may write, and uses up what it writes: so
+// that is a fact of each call, and no invariant.
 #[derive(Drop)]
 pub struct Text<'a> {
     pub bytes: &'a mut [u8],

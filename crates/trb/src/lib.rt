@@ -13,7 +13,7 @@ ghost use Rattle.trb.specs.Trbs.{transfer_length, immediate_of, chain_of};
 // TRBs that a block holds.
 pub const MAX_HELD: usize = 512;
 
-// The length of a DataStage or Normal TRB, a field of 17 bits.
+// The greatest length of a DataStage or Normal TRB, a field of 17 bits.
 pub const MAX_TRANSFER_LENGTH: u32 = 131071;
 
 // Bytes that a control OUT transfer collects.
@@ -314,7 +314,8 @@ pub enum TdBasedNormalSubmissionState {
 
 // ---- Answers
 
-// The questions of documents 01 and 02: a case for each no, with the number that they give it.
+// The questions of documents 01 and 02: a case for each no, with the number that they give it, but for 16, 22 and 24, which no call on an
+// endpoint, a log or a whole capture answers.
 #[derive(Clone, Copy, Debug, PartialEq, Eq)]
 pub enum Refusal {
     BufferTooShort = 1,

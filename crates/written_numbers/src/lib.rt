@@ -47,24 +47,24 @@ fn put_trimmed(text: &mut Text<'_>, digits: &[u8])
 fn hex_digits(n: u64) -> [u8; numerals::HEX_PLACES]
     ensures { result ≡ digits 16 hex_places n }
 {
-    // Written out: the proof over `array::from_fn` does not close.
+    // Written out: over `array::from_fn` what is inferred of the closure proves no digit, and with clauses of its own it is no plainer.
     [
-        (n / 0x1000000000000000 % 16) as u8,
-        (n / 0x100000000000000 % 16) as u8,
-        (n / 0x10000000000000 % 16) as u8,
-        (n / 0x1000000000000 % 16) as u8,
-        (n / 0x100000000000 % 16) as u8,
-        (n / 0x10000000000 % 16) as u8,
-        (n / 0x1000000000 % 16) as u8,
-        (n / 0x100000000 % 16) as u8,
-        (n / 0x10000000 % 16) as u8,
-        (n / 0x1000000 % 16) as u8,
-        (n / 0x100000 % 16) as u8,
-        (n / 0x10000 % 16) as u8,
-        (n / 0x1000 % 16) as u8,
-        (n / 0x100 % 16) as u8,
-        (n / 0x10 % 16) as u8,
-        (n % 16) as u8,
+        (n >> 60 & 0xf) as u8,
+        (n >> 56 & 0xf) as u8,
+        (n >> 52 & 0xf) as u8,
+        (n >> 48 & 0xf) as u8,
+        (n >> 44 & 0xf) as u8,
+        (n >> 40 & 0xf) as u8,
+        (n >> 36 & 0xf) as u8,
+        (n >> 32 & 0xf) as u8,
+        (n >> 28 & 0xf) as u8,
+        (n >> 24 & 0xf) as u8,
+        (n >> 20 & 0xf) as u8,
+        (n >> 16 & 0xf) as u8,
+        (n >> 12 & 0xf) as u8,
+        (n >> 8 & 0xf) as u8,
+        (n >> 4 & 0xf) as u8,
+        (n & 0xf) as u8,
     ]
 }
 
@@ -83,7 +83,7 @@ pub fn put_byte(text: &mut Text<'_>, byte: u8)
     requires { HasRoom 2 text.old }
     ensures { Wrote 2 text.old (byte_hex byte) text.new }
 {
-    let digits = [byte / 16 % 16, byte % 16];
+    let digits = [byte >> 4, byte & 0xf];
     put_digits(text, &digits);
 }
 

@@ -5,6 +5,6 @@ use Rattle.call_captures.proofs.capture_call.Goals as goal
 
 pub returns-in_default : goal.returns-in_default
 returns-in_default c =
-    let a = c.args in
+    let m = c.args.made.now in
     let d = c.in_default in
-    rw (call_captures-other a.capture.now.setting a.before a.after a.log.now a.records a.collect.now a.«data».now a.call d.not-Submit d.not-CompleteWithResult d.not-CompleteWithout d.not-CompleteRow) (laid-none c.requires)
+    rw (call_captures-other c.args.capture.now.setting m.before m.after m.log.now m.records m.collect.now m.«data».now m.call d.not-Submit d.not-CompleteWithResult d.not-CompleteWithout d.not-CompleteRow) laid-none

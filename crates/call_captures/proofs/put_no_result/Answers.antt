@@ -2,8 +2,10 @@
 use Rattle.captured_calls.proofs.WrittenLaws.{laid-none}
 use Rattle.call_captures.proofs.put_no_result.Goals as goal
 
-pub returns-in_default : goal.returns-in_default
-returns-in_default c = rw c.in_default.is (laid-none c.requires)
+pub returns-in-Some-In : goal.returns-in-Some-In
+returns-in-Some-In c =
+    let k = c.in-Some-In in
+    rw (k.is, rw k.is at k.field-0-is) laid-none
 
-pub returns-in-In : goal.returns-in-In
-returns-in-In c = rw (c.in-Some.is, c.in-In.is) (laid-none c.requires)
+pub returns-in-None : goal.returns-in-None
+returns-in-None c = rw c.in-None.is laid-none

@@ -2,5 +2,5 @@
 use Rattle.captured_calls.proofs.WrittenLaws.{laid-none}
 use Rattle.call_captures.proofs.put_result.Goals as goal
 
-pub returns-in_default : goal.returns-in_default
-returns-in_default c = rw c.in_default.is (laid-none c.requires)
+pub returns-in-None : goal.returns-in-None
+returns-in-None c = rw c.in-None.is laid-none

@@ -10,7 +10,7 @@ returns-in-Time c = rw c.in-Time.is refl
 
 pub returns-in-Captured : goal.returns-in-Captured
 unfolding setting_after
-returns-in-Captured c = rw (c.in-Captured.is, c.is_interrupt.ensures) refl
+returns-in-Captured c = rw c.in-Captured.is refl
 
 pub returns-in_default : goal.returns-in_default
 returns-in_default c = sym (setting_after-other c.args.setting c.args.call c.in_default.not-Time c.in_default.not-Captured)

@@ -10,4 +10,4 @@ returns-then-not-room-clause-reads g c = reads_later _ _ _ _ c.if-not-good.false
 
 pub returns-clause-reads : goal.returns-clause-reads
 returns-clause-reads g c =
-    let f = c.in_ok-refilled.ensures in rw c.ahead_of.ensures (reads_on _ c.if-not-good.false c.if-not-room.false c.in_ok-refilled.refilled f.refills f.bytes)
+    let f = c.in_ok-refilled.ensures in rw c.from.ensures (reads_on _ c.if-not-good.false c.if-not-room.false c.in_ok-refilled.refilled f.refills f.bytes)

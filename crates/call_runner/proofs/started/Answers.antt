@@ -2,4 +2,4 @@
 use Rattle.call_runner.proofs.started.Goals as goal
 
 pub returns : goal.returns
-returns c = rw c.new_session-new.ensures
+returns c = rw c.new_session.ensures

@@ -10,6 +10,3 @@ overflow_cast-endpoint_id c = omega (arith, within_limits-at _ _ 0 (sym c.within
 
 pub overflow_cast-slot_id : goal.overflow_cast-slot_id
 overflow_cast-slot_id c = omega (arith, within_limits-at _ _ 1 (sym c.within_limits.ensures ∙ c.if-not-within_limits.false) (lit< tt))
-
-pub overflow_cast-fields : goal.overflow_cast-fields
-overflow_cast-fields c = omega (arith, within_limits-at _ _ 2 (sym c.within_limits.ensures ∙ c.if-not-within_limits.false) (lit< tt))

@@ -16,9 +16,9 @@ le32-original-requires c = omega (arith, (sized c.requires).long)
 pub le32-delivered-requires : goal.le32-delivered-requires
 le32-delivered-requires c = omega (arith, (sized c.requires).long)
 
-pub overflow_cast-to : goal.overflow_cast-to
+pub overflow_cast-added : goal.overflow_cast-added
 unfolding original_at delivered_at
-overflow_cast-to c =
+overflow_cast-added c =
     let z = sized c.requires in
     omega (arith, z.original, z.limit, c.le32-delivered.ensures, c.le32-original.ensures)
 
@@ -38,4 +38,4 @@ pub returns : goal.returns
 unfolding original_at delivered_at
 returns c =
     c.record_head.ensures
-    ∙ (λ i. head (c.time_at.ensures i).seconds (c.time_at.ensures i).microseconds (48 + c.args.to + c.le32-delivered.ensures i) (c.le32-original.ensures i + c.args.to - c.args.from))
+    ∙ (λ i. head (c.time_at.ensures i).seconds (c.time_at.ensures i).microseconds (48 + c.args.added.to + c.le32-delivered.ensures i) (c.le32-original.ensures i + c.args.added.to - c.args.added.from))

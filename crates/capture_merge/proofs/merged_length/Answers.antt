@@ -1,102 +1,17 @@
--- `capture_merge::merged_length` meets its contract: behind each yes, the number is that of the questions left, which what the two passes found answers.
--- Assumes nothing.
-use Rattle.std.proofs.Common.{◌≡◌, ◌∙◌, ◌+◌, ◌-◌, Ok, Err, true, false, eqb, length, sym, ap, arith, rules}
-use borrow.Author.Tests.{eqb-true}
+-- `capture_merge::merged_length` meets its contract: a first file without a whole header is 17, and otherwise `length_of` answers. Assumes nothing.
+use Rattle.std.proofs.Common.{◌≡◌, Err, None, false, arith}
 use Rattle.trb.specs.Answers.{refusal_of}
 use Rattle.trb.specs.Questions.{first_no}
-use Rattle.trb.specs.declared.Refusal.TheVariants.{NotACapture, LinkTypesDiffer, TimesGoBackwards}
-use Rattle.buffers.specs.LittleEndian.{le_field}
-use Rattle.buffers.proofs.LittleEndianLaws.{AllBytes-each}
+use Rattle.trb.specs.declared.Refusal.TheVariants.{NotACapture}
 use Rattle.capture_file.specs.Files.{whole_file}
-use Rattle.capture_file.proofs.FileLaws.{file-headed}
-use Rattle.capture_file.proofs.SurveyLaws.{Surveyed, survey-none, survey-some}
-use Rattle.capture_merge.specs.Merging.{no_growth, merged_file_bytes}
-use Rattle.capture_merge.proofs.FileMerging.{length_merged}
-use Rattle.capture_merge.proofs.merged_length.Goals.{In_ok-first, In_ok-second}
+use Rattle.capture_file.proofs.FileLaws.{headless}
+use Rattle.capture_merge.specs.Merging.{no_growth}
 use Rattle.capture_merge.proofs.merged_length.Goals as goal
 
--- what was found of each file
-first : (c : In_ok-first) → Surveyed no_growth c.args.a.now c.in_ok-first.first
-first c = survey-some no_growth _ _ (grind arith)
-
-second : (c : In_ok-second) → Surveyed no_growth c.args.b.now c.in_ok-second.second
-second c = survey-some no_growth _ _ (grind arith)
-
--- ---- 17, of the first file and of the second
-
-pub returns-in_err-first : goal.returns-in_err-first
+pub returns-in_err-link : goal.returns-in_err-link
 unfolding first_no refusal_of
-returns-in_err-first c =
-    let no : whole_file no_growth c.args.a.now ≡ false = survey-none no_growth _ (grind arith) in
+returns-in_err-link c =
+    let none : c.link_in.result ≡ None = grind arith in
+    let no : whole_file no_growth c.args.a.now ≡ false = headless no_growth _ (rw none at c.link_in.ensures) in
     let refused : c.from_residual.result ≡ Err NotACapture = grind arith in
     rw refused (record { number = rw no; answer = rw no })
-
-pub returns-in_err-second : goal.returns-in_err-second
-unfolding first_no refusal_of
-returns-in_err-second c =
-    let yes = (first (goal.at.returns-in_err-second c).In_ok-first).whole in
-    let no : whole_file no_growth c.args.b.now ≡ false = survey-none no_growth _ (grind arith) in
-    let refused : c.from_residual-in_err-second.result ≡ Err NotACapture = grind arith in
-    rw refused (record { number = rw (yes, no); answer = rw (yes, no) })
-
-pub le32-requires : goal.le32-requires
-le32-requires c = omega (arith, (file-headed no_growth _ (first (goal.at.le32-requires c).In_ok-first).whole).long)
-
-pub le32-requires-2 : goal.le32-requires-2
-le32-requires-2 c = omega (arith, (file-headed no_growth _ (second (goal.at.le32-requires-2 c).In_ok-second).whole).long)
-
--- ---- 19, and 20 of either file
-
-pub returns-in_err-ask : goal.returns-in_err-ask
-unfolding first_no refusal_of
-returns-in_err-ask c =
-    let f = (first (goal.at.returns-in_err-ask c).In_ok-first).whole in
-    let s = (second (goal.at.returns-in_err-ask c).In_ok-second).whole in
-    let no : eqb (le_field 20 4 c.args.a.now) (le_field 20 4 c.args.b.now) ≡ false = search rules in
-    let refused : c.from_residual-in_err-ask.result ≡ Err LinkTypesDiffer = grind arith in
-    rw refused (record { number = rw (f, s, no); answer = rw (f, s, no) })
-
-pub returns-in_err-ask-2 : goal.returns-in_err-ask-2
-unfolding first_no refusal_of
-returns-in_err-ask-2 c =
-    let f = first (goal.at.returns-in_err-ask-2 c).In_ok-first in
-    let s = second (goal.at.returns-in_err-ask-2 c).In_ok-second in
-    let same : eqb (le_field 20 4 c.args.a.now) (le_field 20 4 c.args.b.now) ≡ true = search rules in
-    let asked : c.in_ok-first.first.ordered ≡ false = search rules in
-    let no = sym f.ordered ∙ asked in
-    let refused : c.from_residual-in_err-ask-2.result ≡ Err TimesGoBackwards = grind arith in
-    rw refused (record { number = rw (f.whole, s.whole, same, no); answer = rw (f.whole, s.whole, same, no) })
-
-pub returns-in_err-ask-3 : goal.returns-in_err-ask-3
-unfolding first_no refusal_of
-returns-in_err-ask-3 c =
-    let f = first (goal.at.returns-in_err-ask-3 c).In_ok-first in
-    let s = second (goal.at.returns-in_err-ask-3 c).In_ok-second in
-    let same : eqb (le_field 20 4 c.args.a.now) (le_field 20 4 c.args.b.now) ≡ true = search rules in
-    let asked : c.in_ok-first.first.ordered ≡ true = search rules in
-    let asked' : c.in_ok-second.second.ordered ≡ false = search rules in
-    let yes = sym f.ordered ∙ asked in
-    let no = sym s.ordered ∙ asked' in
-    let refused : c.from_residual-in_err-ask-3.result ≡ Err TimesGoBackwards = grind arith in
-    rw refused (record { number = rw (f.whole, s.whole, same, yes, no); answer = rw (f.whole, s.whole, same, yes, no) })
-
-pub overflow_sub-result : goal.overflow_sub-result
-overflow_sub-result c = omega (arith, (file-headed no_growth _ (second (goal.at.overflow_sub-result c).In_ok-second).whole).long)
-
-pub returns : goal.returns
-unfolding first_no
-returns c =
-    let f = first (goal.at.returns c).In_ok-first in
-    let s = second (goal.at.returns c).In_ok-second in
-    let same : eqb (le_field 20 4 c.args.a.now) (le_field 20 4 c.args.b.now) ≡ true = search rules in
-    let link = eqb-true _ _ same in
-    let asked : c.in_ok-first.first.ordered ≡ true = search rules in
-    let asked' : c.in_ok-second.second.ordered ≡ true = search rules in
-    let up = sym f.ordered ∙ asked in
-    let up' = sym s.ordered ∙ asked' in
-    let size : length c.args.a.now + (length c.args.b.now - 24) ≡ length (merged_file_bytes c.args.a.now c.args.b.now) =
-    sym
-    (length_merged c.args.a.now c.args.b.now link f.whole s.whole
-    (AllBytes-each c.args.a.now (λ i. omega (arith, c.shared_slice_known-1.given i)))
-    (AllBytes-each c.args.b.now (λ i. omega (arith, c.shared_slice_known-2-1.given i)))) in
-    record { number = rw (f.whole, s.whole, same, up, up'); answer = rw (f.whole, s.whole, same, up, up') (ap Ok size) }

@@ -1,12 +1,18 @@
 -- `capture_reader::is_made` meets its contract: the tests are those of the record, at its offsets. Assumes nothing.
-use Rattle.std.proofs.Common.{◌≡◌, ◌∙◌, ◌≢◌, false, sym, ap, arith}
+use Rattle.std.proofs.Common.{◌≡◌, ◌∙◌, ◌≢◌, false, sym, ap, arith, rules, tests}
 use Rattle.std.proofs.lemmas.Bool.Decides.{nat_tests}
 use Rattle.buffers.specs.LittleEndian.{AllBytes}
 use Rattle.buffers.proofs.LittleEndianLaws.{AllBytes-each}
 use Rattle.capture_file.specs.declared.CaptureTime.{CaptureTime}
+use Rattle.capture_header.specs.Made.{same_header}
 use Rattle.capture_reader.proofs.ReadingLaws.{made-late, made-longer, made-by-header}
-use Rattle.capture_reader.proofs.is_made.Goals.{then-time-le-MAX_MICROSECONDS, else-time-le-MAX_MICROSECONDS}
+use Rattle.capture_reader.proofs.is_made.Goals.{After-eq, then-time-le-MAX_MICROSECONDS, else-time-le-MAX_MICROSECONDS}
 use Rattle.capture_reader.proofs.is_made.Goals as goal
+
+-- all fields of the two headers are compared
+again : (c : After-eq) → c.eq.result ≡ same_header c.header_in-header.result c.made_again.result
+unfolding same_header
+again c = search (rules, tests)
 
 pub returns-then-original-captured : goal.returns-then-original-captured
 returns-then-original-captured c =
@@ -15,7 +21,7 @@ returns-then-original-captured c =
     elim c.if-time-le-MAX_MICROSECONDS.branch [
       | then-time-le-MAX_MICROSECONDS w ↦
           let same : c.le32-original.result ≡ c.le32-captured.result = grind (arith, nat_tests) in
-          rw (c.same_header.ensures, c.made_again.ensures, c.header_in-header.ensures, c.time_at-time.ensures)
+          rw (again (goal.at.returns-then-original-captured c).After-eq, c.made_again.ensures, c.header_in-header.ensures, c.time_at-time.ensures)
           (made-by-header l c.requires.whole bytes (omega (arith, ap (λ (t : CaptureTime). t.microseconds) c.time_at-time.ensures, w.if-time-le-MAX_MICROSECONDS.true)) (sym c.le32-original.ensures ∙ same ∙ c.le32-captured.ensures))
       | else-time-le-MAX_MICROSECONDS w ↦ absurd (grind arith)
     ]
@@ -27,10 +33,10 @@ returns-else-original-captured c =
     elim c.if-time-le-MAX_MICROSECONDS.branch [
       | then-time-le-MAX_MICROSECONDS w ↦
           let other : c.le32-original.result ≢ c.le32-captured.result = grind (arith, nat_tests) in
-          let no : c.if-time-le-MAX_MICROSECONDS.t-11 ≡ false = grind arith in
+          let no : c.if-time-le-MAX_MICROSECONDS.t-12 ≡ false = grind arith in
           rw no
           (made-longer l c.requires.whole bytes (omega (arith, ap (λ (t : CaptureTime). t.microseconds) c.time_at-time.ensures, w.if-time-le-MAX_MICROSECONDS.true)) (λ e. other (c.le32-original.ensures ∙ e ∙ sym c.le32-captured.ensures)))
       | else-time-le-MAX_MICROSECONDS w ↦
-          let no : c.if-time-le-MAX_MICROSECONDS.t-11 ≡ false = grind arith in
+          let no : c.if-time-le-MAX_MICROSECONDS.t-12 ≡ false = grind arith in
           rw no (made-late l c.requires.whole bytes (omega (arith, ap (λ (t : CaptureTime). t.microseconds) c.time_at-time.ensures, w.if-time-le-MAX_MICROSECONDS.false)))
     ]

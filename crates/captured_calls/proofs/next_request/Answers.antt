@@ -1,25 +1,17 @@
--- `captured_calls::next_request` meets its contract: no record in front of the one that `find` found is a request. Assumes nothing.
-use Rattle.std.proofs.Common.{◌≡◌, ◌<◌, ◌≤◌, ℕ, List, true, false, eqb, rules, tests}
-use Rattle.std.specs.Option.{MatchOption}
-use Rattle.std.proofs.lemmas.Iterator.{first_from_Range, serves_from_Range}
-use Rattle.call_log.specs.Records.{request_kind, record_at}
-use Rattle.captured_calls.proofs.RowLaws.{Other, request-found, request-below}
-use Rattle.captured_calls.proofs.next_request.Goals.{After-find}
+-- `captured_calls::next_request` meets its contract: no record in front of the one that `position` found is a request. Assumes nothing.
+use Rattle.std.proofs.Common.{rules, tests, true, false}
+use Rattle.std.proofs.lemmas.Iterator.{IsFirst-from_position, YieldsList-from_slice}
+use Rattle.captured_calls.proofs.RowLaws.{Request, First, request-found, request-below}
+use Rattle.captured_calls.proofs.next_request.Goals.{After-position}
 use Rattle.captured_calls.proofs.next_request.Goals as goal
 
-pub find-requires-clause-callable : goal.find-requires-clause-callable
-find-requires-clause-callable c = serves_from_Range (λ x q k. search (rules, tests)) (λ x low high. search rules)
-
-module _ (c : After-find) where
-  abbrev log : List ℕ
-  log = c.args.log.now
-
-  first : MatchOption c.find.result ((k : ℕ) → c.args.from ≤ k → k < c.args.records → Other c.args.records log k) (λ j. (c.args.from ≤ j) × (j < c.args.records) × (eqb (record_at log j).kind request_kind ≡ true) × ((k : ℕ) → c.args.from ≤ k → k < j → Other c.args.records log k))
+module _ (c : After-position) where
+  first : First c.args.rows.now c.position.result
   first =
-      first_from_Range _ _ _ _ (λ i. eqb (record_at log i).kind request_kind ≡ true) (λ i. eqb (record_at log i).kind request_kind ≡ false) c.find.ensures.ran (λ x q k. search (rules, tests)) (λ x q k. search (rules, tests))
+      IsFirst-from_position _ _ _ (Request true) (Request false) c.position.ensures.ran (YieldsList-from_slice c.args.rows.now cc) (λ x q k. search (rules, tests)) (λ x q k. search (rules, tests))
 
 pub returns-clause-rest : goal.returns-clause-rest
-returns-clause-rest c = request-found c.args.records c.args.log.now c.args.from _ (first c)
+returns-clause-rest c = request-found c.args.rows.now _ (first c)
 
 pub returns-clause-below : goal.returns-clause-below
-returns-clause-below c = request-below c.args.records c.args.log.now c.args.from _ (first c)
+returns-clause-below c = request-below c.args.rows.now _ (first c)

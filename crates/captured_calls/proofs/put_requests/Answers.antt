@@ -1,32 +1,25 @@
--- `captured_calls::put_requests` meets its contract. The invariant: the requests of what is left of the log are left of the requests of all records.
+-- `captured_calls::put_requests` meets its contract. The invariant: the requests of the records that are left are left of the requests of all records.
 -- Assumes nothing.
-use Rattle.std.proofs.Common.{◌∙◌, refl, ap}
+use mathlib.Core.Path.{refl, ap, ◌∙◌}
+use lib.ListN.{drop_of_length-le}
 use Rattle.capture_calls.specs.Captures.{writer_call}
-use Rattle.captured_calls.specs.Submitted.{captured_of, request_event}
+use Rattle.captured_calls.specs.Submitted.{captured_of}
 use Rattle.captured_calls.proofs.WrittenLaws.{remaining-all, remaining-less, remaining-none}
-use Rattle.captured_calls.proofs.SubmittedLaws.{requests-next, requests-none}
+use Rattle.captured_calls.proofs.SubmittedLaws.{requests-next}
 use Rattle.captured_calls.proofs.put_requests.Goals as goal
 
-pub loop-record-init : goal.loop-record-init
-loop-record-init c =
-    rw (
-      c.into_iter-record-iterator.ensures.into_iter_gives,
-      c.take-record-items.ensures.source,
-      c.take-record-items.ensures.count,
-      c.chunks_exact.ensures.size,
-      c.chunks_exact.ensures.rest,
-    ) (refl, remaining-all _ c.requires)
+pub loop-cells-init : goal.loop-cells-init
+loop-cells-init g c = λ events tells. remaining-all _
 
-pub loop-record-preserved : goal.loop-record-preserved
-loop-record-preserved c =
-    let l = c.loop-record in
-    let taken = c.in-Some.ensures.steps in
-    let cut = taken.0 in
-    let said = c.request_event-event.ensures ∙ ap (request_event c.args.requester) c.read_record.ensures in
-    let turn = requests-next _ _ _ _ _ _ _ _ _ cut.1.0 (cut.1.1 ∙ l.invariant.0) taken.1 said in
-    (cut.0 ∙ l.invariant.0, remaining-less (λ s. writer_call (captured_of s) c.request_event-event.result c.args.payload.now) turn l.invariant.1 c.put.ensures)
+pub loop-cells-preserved : goal.loop-cells-preserved
+loop-cells-preserved g c = λ events tells.
+    let l = c.loop-cells in
+    let said = tells _ _ c.event.ensures ∙ ap events c.decoded.ensures in
+    let turn = requests-next _ events c.args.payload.now _ l.cells-index c.loop-cells-test.true said in
+    remaining-less (λ s. writer_call (captured_of s) c.event.result c.args.payload.now) turn (l.invariant events tells) c.put.ensures
 
 pub returns : goal.returns
-returns c =
-    let l = c.loop-record in
-    remaining-none (requests-none _ _ _ _ _ (λ any. rw l.invariant.0 at (c.in-None.ensures.steps any).1.0)) l.invariant.1
+returns g c = λ events tells.
+    let l = c.loop-cells in
+    let none = drop_of_length-le c.first_records-cells-items.result.now c.loop-cells-test.false in
+    rw (← c.first_records-cells-items.ensures) (remaining-none refl (rw none at l.invariant events tells))

@@ -4,7 +4,7 @@ use native.Mathlib.Omega.{arith}
 use Rattle.phase_table.specs.Outcomes.{restarts}
 use Rattle.control_block.specs.declared.ControlTransfer.{ControlTransfer}
 use Rattle.control_endpoint.specs.Submission.{places_dropped}
-use Rattle.control_endpoint.proofs.SubmissionLaws.{info_of, dropped-held}
+use Rattle.control_endpoint.proofs.SubmissionLaws.{info_of}
 use Rattle.control_bytes.specs.Layout.{block_of}
 use Rattle.control_places.proofs.LoggedLaws.{dropped-few, submission-logged}
 use Rattle.control_places.proofs.log_outcome.Goals.{After-end_held-progress, After-places_dropped-dropped, Start}
@@ -23,9 +23,6 @@ info-by w =
     λ j. record { endpoint_id = w.endpoint_id-endpoint_id.ensures j; slot_id = w.slot_id-slot_id.ensures j; data_length = 0 }
 
 -- ---- The needs
-
-pub end_held-progress-requires : goal.end_held-progress-requires
-end_held-progress-requires c = (c.requires.0, (c.requires.1.0, (omega (arith, dropped-by (goal.at.end_held-progress-requires c).After-places_dropped-dropped, dropped-held (restarts c.args.outcome) (block_of c.args.block.now).held), c.requires.1.1)))
 
 pub log_request-requires : goal.log_request-requires
 log_request-requires c = omega (arith, dropped-few (block_of c.args.block.now) c.args.outcome (record { endpoint_id = c.endpoint_id-endpoint_id.result; slot_id = c.slot_id-slot_id.result; data_length = 0 }) c.places_dropped-dropped.result c.args.log.now c.end_held-progress.new.log c.end_held-progress.result c.requires.1.1 c.requires.1.0 (info-by (goal.at.log_request-requires c).After-end_held-progress) (dropped-by (goal.at.log_request-requires c).After-places_dropped-dropped) c.end_held-progress.ensures, c.log-1.given, c.requires)

@@ -3,12 +3,11 @@ use mathlib.Core.Path.{sym, ap, ◌∙◌}
 use native.Mathlib.Omega.{arith}
 use Rattle.held_bytes.specs.Numbers.{trb_of, setup_stage_of}
 use Rattle.control_block.specs.declared.ControlTransfer.{ControlTransfer}
-use Rattle.control_block.specs.Blocks.{transfer_of}
 use Rattle.control_transfer.specs.declared.TrbData.{TrbData}
-use Rattle.control_transfer.specs.Transfers.{begun, transfer_after}
+use Rattle.control_transfer.specs.Transfers.{begun, grown, transfer_after}
 use Rattle.control_bytes.specs.Layout.{block_of}
 use Rattle.control_bytes.specs.Stores.{turned, counting}
-use Rattle.control_numbers.specs.Transfers.{size_taken, length_after, collected_after}
+use Rattle.control_numbers.specs.Transfers.{size_taken}
 use Rattle.control_numbers.proofs.TransferLaws.{counted-by, begun-by}
 use Rattle.control_stores.proofs.StoreLaws.{progress-stored, headed-as}
 use Rattle.control_stores.proofs.advance.Goals as goal
@@ -32,9 +31,10 @@ returns c =
     let w = a.transfer in
     let own = c.requires.transfer_value.0 in
     let size = c.size_taken-size.ensures ∙ ap (λ (d : TrbData). size_taken a.outcome d) c.requires.transfer_value.1.1 in
-    headed-as a.block.now (counting c.collected_after-collected.result c.length_after-request_length.result (turned c.phase_after-phase.result w.direction (transfer_of (block_of a.block.now)))) (transfer_after a.outcome (trb_of m).variant m.addr w) _ _ a.held _
-    (ap (λ (x : ControlTransfer). counting c.collected_after-collected.result c.length_after-request_length.result (turned c.phase_after-phase.result w.direction x)) (sym own)
-    ∙ counted-by m.kind m.flags m.value m.transfer_length m.addr w (omega (arith, c.well_formed.1.1.0)) a.outcome c.phase_after-phase.result c.collected_after-collected.result c.length_after-request_length.result (sym c.begins.ensures ∙ c.if-begins.false)
-    c.phase_after-phase.ensures (c.collected_after-collected.ensures ∙ (λ j. collected_after w.direction w.collected (size j))) (c.length_after-request_length.ensures ∙ (λ j. length_after w.direction w.request.length (size j))))
+    let v = c.grow-grown.result in
+    headed-as a.block.now (counting v.collected v.request.length (turned c.phase_after-phase.result w.direction (block_of a.block.now).transfer)) (transfer_after a.outcome (trb_of m).variant m.addr w) _ _ a.held _
+    (ap (λ (x : ControlTransfer). counting v.collected v.request.length (turned c.phase_after-phase.result w.direction x)) (sym own)
+    ∙ counted-by m.kind m.flags m.value m.transfer_length m.addr w (omega (arith, c.well_formed.1.1.0)) a.outcome c.phase_after-phase.result v (sym c.begins.ensures ∙ c.if-begins.false)
+    c.phase_after-phase.ensures (c.grow-grown.ensures ∙ ap (grown w) size))
     c.state_after-state.ensures
-    (progress-stored a.block.now c.put_turn.new.block c.put_counts.new.block c.phase_after-phase.result c.state_after-state.result w.direction c.collected_after-collected.result c.length_after-request_length.result a.held c.put_turn.ensures c.put_counts.ensures)
+    (progress-stored a.block.now c.put_turn.new.block c.put_counts.new.block c.phase_after-phase.result c.state_after-state.result w.direction v.collected v.request.length a.held c.put_turn.ensures c.put_counts.ensures)

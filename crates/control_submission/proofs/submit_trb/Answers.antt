@@ -1,9 +1,10 @@
 -- `control_submission::submit_trb` meets its contract: the loop keeps to the walk over the TRBs that are dropped, with the places behind it blank; the TRB is then held, if it is taken.
 -- Assumes nothing.
-use Rattle.std.proofs.Common.{◌≡◌, ℕ, ◌+◌, ◌*◌, ◌-◌, ◌<◌, ◌≤◌, Bool, true, List, length, take, length-take, set, sym, ap, ◌∙◌, subst, arith, rules, Ok}
-use Rattle.trb.specs.Answers.{number_of}
+use Rattle.std.proofs.Common.{◌≡◌, ℕ, ◌+◌, ◌*◌, ◌-◌, ◌<◌, ◌≤◌, Bool, true, List, length, take, length-take, set, sym, refl, ap, ◌∙◌, subst, arith, Ok}
+use Rattle.trb.specs.Answers.{Answer, number_of}
 use Rattle.trb.specs.Limits.{max_held, record_length}
 use Rattle.trb.specs.Questions.{first_no}
+use Rattle.trb.specs.declared.ControlSubmissionState.{ControlSubmissionState}
 use Rattle.trb.specs.declared.TransferTrb.{TransferTrb}
 use Rattle.call_log.specs.declared.Record.{Record}
 use Rattle.call_log.specs.Calls.{Put, Meets, counted}
@@ -15,18 +16,21 @@ use Rattle.td_part.specs.declared.TdProgress.{TdProgress}
 use Rattle.td_part.specs.Parts.{at_start}
 use Rattle.walks.specs.Walk.{walk}
 use Rattle.phase_table.specs.declared.Outcome.{Outcome}
-use Rattle.phase_table.specs.Outcomes.{holds, restarts}
+use Rattle.phase_table.specs.Outcomes.{holds, restarts, state_after}
 use Rattle.control_block.specs.declared.ControlBlock.{ControlBlock}
+use Rattle.control_block.specs.Blocks.{advanced}
 use Rattle.control_block.specs.Facts.{facts_of}
+use Rattle.control_block.specs.declared.ControlTransfer.{ControlTransfer}
 use Rattle.control_block.specs.declared.Ending.TheVariants.{ReportBadTrb}
 use Rattle.control_chain.specs.Chain.{never}
 use Rattle.control_chain.specs.Endings.{next_trb}
-use Rattle.control_transfer.specs.Transfers.{requests_of}
+use Rattle.control_transfer.specs.Transfers.{requests_of, transfer_after}
 use Rattle.control_questions.specs.Submission.{submission_questions}
 use Rattle.control_questions.proofs.SubmissionLaws.{Passed, passed}
-use Rattle.control_endpoint.specs.Submission.{places_dropped, records_of, questions_of}
+use Rattle.control_endpoint.specs.Returned.{Submitted}
+use Rattle.control_endpoint.specs.Submission.{places_dropped, records_of, questions_of, dropped_before, held_after, block_after, accepted}
 use Rattle.control_endpoint.proofs.FreeingLaws.{ended-counts, ended-then}
-use Rattle.control_endpoint.proofs.SubmissionLaws.{submits-refused, submits-accepted, submitted-by, leaves-stored, leaves_kept, place-free, dropped-held, info_of, walk-records_of, length-dropped}
+use Rattle.control_endpoint.proofs.SubmissionLaws.{submits-refused, submits-accepted, leaves-stored, leaves_kept, place-free, dropped-held, info_of, walk-records_of, length-dropped}
 use Rattle.control_submission.proofs.submit_trb.Goals.{After-ask_submission-answer, After-places_dropped-dropped, then-is_held, else-is_held}
 use Rattle.control_submission.proofs.submit_trb.Goals as goal
 
@@ -38,7 +42,7 @@ numbered-by : (k : After-ask_submission-answer) → let s = k.args in
 numbered-by k =
     let s = k.args in
     let b = s.block in
-    (rw k.facts_of-facts.ensures at k.ask_submission-answer.ensures)
+    (rw k.facts_of-facts.ensures at k.ask_submission-answer.ensures s.t k.data_of-data.ensures)
     ∙ ap (λ (rs : Regions). first_no (submission_questions (length s.log.now) (length s.collect.now) (facts_of b) k.trb_outcome-outcome.result s.t rs)) k.regions-regions.ensures
 
 numbered : (k : After-ask_submission-answer) → let s = k.args in
@@ -80,11 +84,22 @@ module _ (b : ControlBlock) (t : TransferTrb) (l₀ collect : List ℕ) (o : Out
     total = omega (arith, ended-counts (ReportBadTrb 0) (info_of b) (take d b.trbs) l₀ l w m, length-dropped b o d drops, p.held, p.log-long)
 
     -- what was logged
-    logged : (k : ℕ) (l' : List ℕ) → Meets (counted w.records (requests_of o b.request b.endpoint_id b.slot_id)) w.records l k l' → Put l₀ 0 (records_of o b) l' × (k ≡ length (records_of o b))
+    logged : (k : ℕ) (l' : List ℕ) → Meets (counted w.records (requests_of o b.transfer.request b.endpoint_id b.slot_id)) w.records l k l' → Put l₀ 0 (records_of o b) l' × (k ≡ length (records_of o b))
     logged k l' n =
         let room : record_length * w.records ≤ length l₀ = omega (arith, total) in
         subst (λ (rs : List Record). Put l₀ 0 rs l' × (k ≡ length rs)) (walk-records_of b o d drops)
-        (ended-then (ReportBadTrb 0) (info_of b) (take d b.trbs) l₀ l w m (requests_of o b.request b.endpoint_id b.slot_id) k l' room n)
+        (ended-then (ReportBadTrb 0) (info_of b) (take d b.trbs) l₀ l w m (requests_of o b.transfer.request b.endpoint_id b.slot_id) k l' room n)
+
+-- ---- The block
+
+-- the answer, the records and the block that a TRB leaves, where it was held if it is taken
+submitted-as : (b : ControlBlock) (t : TransferTrb) (o : Outcome) (answer : Answer) (n : ℕ) (w : ControlTransfer) (state : ControlSubmissionState) (x : ControlBlock) → answer ≡ Ok tt
+    → n ≡ length (records_of o b) → w ≡ transfer_after o t.variant t.addr b.transfer → state ≡ state_after o t.addr → x ≡ held_after o (dropped_before o b) t
+    → ◌≡◌ {A = Submitted} (record { answer = answer; records = n; block = advanced x w state }) (accepted o b t).state
+unfolding accepted block_after
+submitted-as b t o answer n w state x accepts count at now places =
+    rw (accepts, count, at, now)
+    (ap (λ (y : ControlBlock). record { answer = Ok tt; records = length (records_of o b); block = advanced y (transfer_after o t.variant t.addr b.transfer) (state_after o t.addr) }) places)
 
 -- ---- The goals
 
@@ -109,28 +124,14 @@ log_request-records-requires c =
     let room = total s.block s.t s.log.now s.collect.now c.trb_outcome-outcome.result c.places_dropped-dropped.result (pass g.After-ask_submission-answer c.in-Ok.is) (dropped-by g.After-places_dropped-dropped) e.new.log e.result e.ensures in
     omega (arith, room, e.auto.log)
 
-pub collect_trb-requires : goal.collect_trb-requires
-collect_trb-requires c = let p = pass (goal.at.collect_trb-requires c).After-ask_submission-answer c.in-Ok.is in (p.collect-long, p.size)
+pub collect_data-requires : goal.collect_data-requires
+collect_data-requires c = let p = pass (goal.at.collect_data-requires c).After-ask_submission-answer c.in-Ok.is in (p.collect-long, rw c.data_of-data.ensures p.size)
 
-pub offset_bounds-trbs-held : goal.offset_bounds-trbs-held
-offset_bounds-trbs-held c =
+pub store-requires : goal.store-requires
+store-requires c =
     let s = c.args in
-    let g = goal.at.offset_bounds-trbs-held c in
-    let place = free s.block s.t s.log.now s.collect.now c.trb_outcome-outcome.result c.places_dropped-dropped.result (pass g.After-ask_submission-answer c.in-Ok.is) (dropped-by g.After-places_dropped-dropped) (sym c.is_held.ensures ∙ c.if-is_held.true) in
-    search rules
-
-pub bounds-trbs-held : goal.bounds-trbs-held
-bounds-trbs-held c =
-    let s = c.args in
-    let g = goal.at.bounds-trbs-held c in
+    let g = goal.at.store-requires c in
     free s.block s.t s.log.now s.collect.now c.trb_outcome-outcome.result c.places_dropped-dropped.result (pass g.After-ask_submission-answer c.in-Ok.is) (dropped-by g.After-places_dropped-dropped) (sym c.is_held.ensures ∙ c.if-is_held.true)
-
-pub overflow_add-held : goal.overflow_add-held
-overflow_add-held c =
-    let s = c.args in
-    let g = goal.at.overflow_add-held c in
-    let place = free s.block s.t s.log.now s.collect.now c.trb_outcome-outcome.result c.places_dropped-dropped.result (pass g.After-ask_submission-answer c.in-Ok.is) (dropped-by g.After-places_dropped-dropped) (sym c.is_held.ensures ∙ c.if-is_held.true) in
-    search rules
 
 pub transfer_after-transfer-requires : goal.transfer_after-transfer-requires
 transfer_after-transfer-requires c = (pass (goal.at.transfer_after-transfer-requires c).After-ask_submission-answer c.in-Ok.is).collected
@@ -154,10 +155,12 @@ returns-after-is_held c =
     let told = c.in-Ok.is in
     let empty = c.clear.ensures ∙ ap (λ (n : ℕ). cleared n b.trbs) drops in
     let written = logged b s.t s.log.now s.collect.now o d p drops e.new.log e.result e.ensures c.log_request-records.result c.log_request-records.new.log c.log_request-records.ensures in
+    let places : c.if-is_held.block ≡ held_after o (dropped_before o b) s.t =
+    elim c.if-is_held.branch [
+      | then-is_held w ↦ w.block-is ∙ w.store.ensures
+          ∙ leaves-stored b s.t o (b.held - d + 1) us (set us (b.held - d) s.t) (sym c.is_held.ensures ∙ w.if-is_held.true) empty (ap (λ (n : ℕ). b.held - n + 1) drops) (ap (λ (n : ℕ). set us (b.held - n) s.t) drops)
+      | else-is_held w ↦ w.block-is ∙ leaves_kept b s.t o (b.held - d) us us (sym c.is_held.ensures ∙ w.if-is_held.false) empty (ap (λ (n : ℕ). b.held - n) drops) refl
+    ] in
     submits-accepted b s.t (seen s.memory.now) s.log.now s.collect.now o c.trb_outcome-outcome.ensures (sym (numbered k.After-ask_submission-answer) ∙ ap number_of told) _ _ _
-    (submitted-by b s.t o c.ask_submission-answer.result c.log_request-records.result c.transfer_after-transfer.result c.state_after-state.result c.if-is_held.held c.if-is_held.trbs told written.1 c.transfer_after-transfer.ensures c.state_after-state.ensures
-    (elim c.if-is_held.branch [
-      | then-is_held w ↦ leaves-stored b s.t o c.if-is_held.held us c.if-is_held.trbs (sym c.is_held.ensures ∙ w.if-is_held.true) empty (w.held-is ∙ ap (λ (n : ℕ). b.held - n + 1) drops) (w.trbs-is ∙ ap (λ (n : ℕ). set us (b.held - n) s.t) drops)
-      | else-is_held w ↦ leaves_kept b s.t o c.if-is_held.held us c.if-is_held.trbs (sym c.is_held.ensures ∙ w.if-is_held.false) empty (w.held-is ∙ ap (λ (n : ℕ). b.held - n) drops) w.trbs-is
-    ]))
-    written.0 c.collect_trb.ensures
+    (submitted-as b s.t o c.ask_submission-answer.result c.log_request-records.result c.transfer_after-transfer.result c.state_after-block.result c.if-is_held.block told written.1 c.transfer_after-transfer.ensures c.state_after-block.ensures places)
+    written.0 (rw c.data_of-data.ensures at c.collect_data.ensures)

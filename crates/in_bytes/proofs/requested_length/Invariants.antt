@@ -1,7 +1,8 @@
-use lib.ListN.{take}
-use Rattle.in_request.proofs.RequestedLaws.{Summed}
-use Rattle.in_bytes.specs.Layout.{places}
+use Prim.Native.Nat.{◌+◌}
+use mathlib.Core.Path.{◌≡◌}
+use lib.ListN.{drop}
+use Rattle.in_bytes.proofs.HeldLaws.{requested-in}
 use Rattle.in_bytes.proofs.requested_length.Given as goal
 
-abbrev pub invariant-loop-i : goal.invariant-loop-i
-invariant-loop-i l = Summed (take l.held (places l.block)) l.sum l.i
+abbrev pub invariant-loop-place : goal.invariant-loop-place
+invariant-loop-place l = l.sum + requested-in (drop l.place-index l.place-items) ≡ requested-in l.place-items

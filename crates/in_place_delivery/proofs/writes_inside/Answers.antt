@@ -1,56 +1,80 @@
 -- `in_place_delivery::writes_inside` meets its contract: the loop keeps to question 11 of the places held. Assumes nothing.
-use Prim.Native.Nat.{min}
+use Prim.Native.Nat.{ℕ, ◌≤◌, min}
+use mathlib.Core.List.{List, [], map}
 use mathlib.Core.Path.{◌≡◌, refl, sym, ap, ◌∙◌}
-use lib.ListN.{get_or}
+use native.Mathlib.Omega.{arith}
+use lib.ListN.{length, length-map, take, get_or}
+use lib.Seq.{take_all}
+use Rattle.std.proofs.lemmas.List.{get_or-map}
 use Rattle.trb.specs.declared.TransferTrb.{TransferTrb}
 use Rattle.guest_memory.specs.Places.{range_inside}
 use Rattle.held.specs.Places.{past_end}
+use Rattle.held.specs.declared.EndpointKind.TheVariants.{In}
+use Rattle.held_bytes.specs.Places.{place_of}
 use Rattle.in_td.specs.Normals.{normal_of, length_of}
 use Rattle.in_bytes.specs.Layout.{places}
-use Rattle.in_bytes.proofs.HeldLaws.{few-places, placed}
-use Rattle.delivery_laws.specs.Ranges.{pointer_of}
+use Rattle.delivery_laws.specs.Ranges.{pointer_of, writes_inside}
 use Rattle.delivery.proofs.TurnLaws.{left_out, left-next, left_end}
-use borrow.Author.Rules.{rules}
-use Rattle.in_place_delivery.proofs.writes_inside.Goals.{After-write_inside}
+use Rattle.in_place_delivery.proofs.writes_inside.Goals.{After-held_places-place-items, After-write_inside}
 use Rattle.in_place_delivery.proofs.writes_inside.Goals as goal
 
-pub loop-i-init : goal.loop-i-init
-loop-i-init c = refl
+pub loop-place-init : goal.loop-place-init
+loop-place-init c = refl
 
--- the TRB that a turn reads is the one in its place
-read : (c : After-write_inside) → c.trb_at-one.result ≡ get_or (places c.args.block.now) c.loop-i.i past_end
-read c = c.trb_at-one.ensures ∙ sym (placed c.args.block.now c.loop-i.i (search rules))
+-- the TRBs of the places
+module _ (c : After-held_places-place-items) where
+  abbrev cells : List (List ℕ)
+  cells = c.held_places-place-items.result.now
 
-taken : (c : After-write_inside) →
-    c.bytes_taken-count.result ≡ min (length_of (normal_of (get_or (places c.args.block.now) c.loop-i.i past_end).variant)) c.loop-i.left
-taken c = c.bytes_taken-count.ensures ∙ ap (λ (t : TransferTrb). min (length_of (normal_of t.variant)) c.loop-i.left) (read c)
+  abbrev trbs : List TransferTrb
+  trbs = map (place_of In) cells
 
--- the answer to the question of a turn
-asked : (c : After-write_inside) →
-    let normal = normal_of (get_or (places c.args.block.now) c.loop-i.i past_end).variant in
-    c.write_inside.result ≡ range_inside c.args.regions (pointer_of normal) (min (length_of normal) c.loop-i.left)
-asked c =
-    let s = c.args in
-    let normal = normal_of (get_or (places s.block.now) c.loop-i.i past_end).variant in
-    c.write_inside.ensures
-    ∙ ap (λ (t : TransferTrb). range_inside s.regions (pointer_of (normal_of t.variant)) c.bytes_taken-count.result) (read c)
-    ∙ ap (range_inside s.regions (pointer_of normal)) (taken c)
+  as_many : length trbs ≡ length cells
+  as_many = length-map cells (place_of In)
+
+  few : length cells ≤ length trbs
+  few = omega (arith, as_many)
+
+  -- all of them
+  all : writes_inside c.args.regions c.args.given (take (length cells) trbs) ≡ writes_inside c.args.regions c.args.given (take c.args.held (places c.args.block.now))
+  all = ap (writes_inside c.args.regions c.args.given) (take_all (length cells) trbs (omega (arith, as_many)) ∙ c.held_places-place-items.ensures.trbs)
+
+-- a turn
+module _ (c : After-write_inside) where
+  -- the TRB that it reads is the one in its place
+  read : c.trb_from-one.result ≡ get_or (map (place_of In) c.held_places-place-items.result.now) c.loop-place.place-index past_end
+  read = c.trb_from-one.ensures ∙ sym (get_or-map (place_of In) c.held_places-place-items.result.now c.loop-place.place-index [] past_end c.loop-place-test.true)
+
+  taken : c.bytes_taken-count.result ≡ min (length_of (normal_of (get_or (map (place_of In) c.held_places-place-items.result.now) c.loop-place.place-index past_end).variant)) c.loop-place.left
+  taken = c.bytes_taken-count.ensures ∙ ap (λ (t : TransferTrb). min (length_of (normal_of t.variant)) c.loop-place.left) read
+
+  -- the answer to its question
+  asked : let normal = normal_of (get_or (map (place_of In) c.held_places-place-items.result.now) c.loop-place.place-index past_end).variant in
+      c.write_inside.result ≡ range_inside c.args.regions (pointer_of normal) (min (length_of normal) c.loop-place.left)
+  asked =
+      let s = c.args in
+      let normal = normal_of (get_or (map (place_of In) c.held_places-place-items.result.now) c.loop-place.place-index past_end).variant in
+      c.write_inside.ensures
+      ∙ ap (λ (t : TransferTrb). range_inside s.regions (pointer_of (normal_of t.variant)) c.bytes_taken-count.result) read
+      ∙ ap (range_inside s.regions (pointer_of normal)) taken
 
 pub returns-then-not-write_inside : goal.returns-then-not-write_inside
 returns-then-not-write_inside c =
-    let b = c.args.block.now in
-    left_out c.args.regions (places b) c.args.held (few-places b c.args.held c.requires.0) c.args.given c.loop-i.left c.loop-i.i c.loop-i.invariant c.loop-i-test.true
+    let h = (goal.at.returns-then-not-write_inside c).After-held_places-place-items in
+    left_out c.args.regions (trbs h) (length (cells h)) (few h) c.args.given c.loop-place.left c.loop-place.place-index c.loop-place.invariant c.loop-place-test.true
     (sym (asked (goal.at.returns-then-not-write_inside c).After-write_inside) ∙ c.if-not-write_inside.true)
+    ∙ all h
 
-pub loop-i-preserved : goal.loop-i-preserved
-loop-i-preserved c =
-    let b = c.args.block.now in
-    let at = (goal.at.loop-i-preserved c).After-write_inside in
+pub loop-place-preserved : goal.loop-place-preserved
+loop-place-preserved c =
+    let h = (goal.at.loop-place-preserved c).After-held_places-place-items in
+    let at = (goal.at.loop-place-preserved c).After-write_inside in
     rw (taken at)
-    (left-next c.args.regions (places b) c.args.held (few-places b c.args.held c.requires.0) c.args.given c.loop-i.left c.loop-i.i c.loop-i.invariant c.loop-i-test.true
+    (left-next c.args.regions (trbs h) (length (cells h)) (few h) c.args.given c.loop-place.left c.loop-place.place-index c.loop-place.invariant c.loop-place-test.true
     (sym (asked at) ∙ c.if-not-write_inside.false))
 
 pub returns : goal.returns
 returns c =
-    let b = c.args.block.now in
-    left_end c.args.regions (places b) c.args.held (few-places b c.args.held c.requires.0) c.args.given c.loop-i.left c.loop-i.i c.loop-i.invariant c.loop-i-test.false
+    let h = (goal.at.returns c).After-held_places-place-items in
+    left_end c.args.regions (trbs h) (length (cells h)) (few h) c.args.given c.loop-place.left c.loop-place.place-index c.loop-place.invariant c.loop-place-test.false
+    ∙ all h

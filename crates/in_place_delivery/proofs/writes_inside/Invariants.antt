@@ -1,7 +1,10 @@
-use lib.ListN.{take}
-use Rattle.in_bytes.specs.Layout.{places}
+use mathlib.Core.List.{map}
+use lib.ListN.{length, take}
+use Rattle.held.specs.declared.EndpointKind.TheVariants.{In}
+use Rattle.held_bytes.specs.Places.{place_of}
 use Rattle.delivery.proofs.TurnLaws.{Left}
 use Rattle.in_place_delivery.proofs.writes_inside.Given as goal
 
-abbrev pub invariant-loop-i : goal.invariant-loop-i
-invariant-loop-i l = Left l.regions (take l.held (places l.block)) l.given l.left l.i
+abbrev pub invariant-loop-place : goal.invariant-loop-place
+invariant-loop-place l =
+    Left l.regions (take (length l.place-items) (map (place_of In) l.place-items)) l.given l.left l.place-index

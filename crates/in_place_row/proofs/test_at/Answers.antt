@@ -28,6 +28,3 @@ returns-then-is_taken c =
           (accepted-ok _ (sym c.is_ok.ensures.value ∙ c.if-is_ok.true)))),
       rw c.with_normal.ensures (omega arith),
     )
-
-pub returns : goal.returns
-returns c = rw (← c.trb_at-t.ensures, ← c.result_at-given.ensures) c.test_trb.ensures

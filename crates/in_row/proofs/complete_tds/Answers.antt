@@ -1,13 +1,13 @@
 -- `in_row::complete_tds` meets its contract: the loop finds what the questions ask of the row; a no
 -- leaves all as it was; behind every yes the row is walked. Assumes nothing.
 use Prim.Native.Nat.{◌≤◌}
-use mathlib.Core.Path.{◌≡◌, sym, ap, ◌∙◌}
-use mathlib.Core.Bool.{true, false}
+use mathlib.Core.Path.{◌≡◌, refl, sym, ap, ◌∙◌}
+use mathlib.Core.Bool.{true}
 use mathlib.Core.List.{List}
 use native.Mathlib.Omega.{arith}
 use lib.ListN.{length, take, length-take}
 use lib.Seq.{length-take-le}
-use Rattle.trb.proofs.AnswerLaws.{accepted-if, refused-if}
+use Rattle.std.specs.Prelude.{Ok, Err}
 use Rattle.trb.specs.Answers.{number_of, is_accepted}
 use Rattle.trb.specs.Limits.{max_row}
 use Rattle.trb.specs.Questions.{first_no}
@@ -74,12 +74,10 @@ number c =
     ∙ asked-as l regions (facts_of b) s.count ts s.tds s.results n few-trbs
     ∙ ap (λ (x : Regions). first_no (row_questions l x (facts_of b) s.count ts s.tds (take s.tds s.results) n)) c.regions-regions.ensures
 
-pub returns-then-is_err : goal.returns-then-is_err
-returns-then-is_err c =
+pub returns-in-Err : goal.returns-in-Err
+returns-in-Err c =
     let s = c.args in
-    let refuses : is_accepted c.ask_row-asked.result ≡ false = refused-if _ (sym c.is_err.ensures.value ∙ c.if-is_err.true) in
-    rw c.completion_answer.ensures
-    (refused-row s.block s.count (take s.count s.row) s.tds (take s.tds s.results) (length s.data.now) (regions_of (seen s.memory.now)) s.log.now c.ask_row-asked.result (number (goal.at.returns-then-is_err c).After-ask_row-asked) refuses)
+    refused-row s.block s.count (take s.count s.row) s.tds (take s.tds s.results) (length s.data.now) (regions_of (seen s.memory.now)) s.log.now (Err c.in-Err.refusal) (sym (ap number_of c.in-Err.is) ∙ number (goal.at.returns-in-Err c).After-ask_row-asked) refl
 
 -- ---- The walk
 
@@ -104,40 +102,39 @@ module _ (c : After-ask_row-asked) (accepts : is_accepted c.ask_row-asked.result
       let few = row-few l regions (facts_of s.block) s.count ts s.tds rs n known short in
       (few, row-walkable l regions (facts_of s.block) s.count ts s.tds rs n known short (length-take-le s.tds s.results (omega (arith, few, results-long))))
 
-pub slice_bounds-row-end-2 : goal.slice_bounds-row-end-2
-slice_bounds-row-end-2 c =
-    let accepts = accepted-if _ (sym c.is_err.ensures.value ∙ c.if-is_err.false) in
-    omega (arith, few-trbs (goal.at.slice_bounds-row-end-2 c).After-ask_row-asked accepts)
+pub slice_bounds-row-end-in-Ok : goal.slice_bounds-row-end-in-Ok
+slice_bounds-row-end-in-Ok c =
+    let accepts = ap is_accepted c.in-Ok.is in
+    omega (arith, few-trbs (goal.at.slice_bounds-row-end-in-Ok c).After-ask_row-asked accepts)
 
 pub slice_bounds-walk_row-end : goal.slice_bounds-walk_row-end
 slice_bounds-walk_row-end c =
-    let accepts = accepted-if _ (sym c.is_err.ensures.value ∙ c.if-is_err.false) in
+    let accepts = ap is_accepted c.in-Ok.is in
     let long : length c.args.row ≡ max_row = omega arith in
     omega (arith, few-trbs (goal.at.slice_bounds-walk_row-end c).After-ask_row-asked accepts, length-take c.args.count c.args.row, long)
 
 pub slice_bounds-results-end : goal.slice_bounds-results-end
 slice_bounds-results-end c =
-    let accepts = accepted-if _ (sym c.is_err.ensures.value ∙ c.if-is_err.false) in
+    let accepts = ap is_accepted c.in-Ok.is in
     omega (arith, (walkable (goal.at.slice_bounds-results-end c).After-ask_row-asked accepts).0)
 
-pub slice_bounds-walk_row-end-2 : goal.slice_bounds-walk_row-end-2
-slice_bounds-walk_row-end-2 c =
-    let accepts = accepted-if _ (sym c.is_err.ensures.value ∙ c.if-is_err.false) in
+pub slice_bounds-walk_row-end-in-Ok : goal.slice_bounds-walk_row-end-in-Ok
+slice_bounds-walk_row-end-in-Ok c =
+    let accepts = ap is_accepted c.in-Ok.is in
     let long : length c.args.results ≡ max_row = omega arith in
-    omega (arith, (walkable (goal.at.slice_bounds-walk_row-end-2 c).After-ask_row-asked accepts).0, length-take c.args.tds c.args.results, long)
+    omega (arith, (walkable (goal.at.slice_bounds-walk_row-end-in-Ok c).After-ask_row-asked accepts).0, length-take c.args.tds c.args.results, long)
 
 pub walk_row-walked-requires : goal.walk_row-walked-requires
 walk_row-walked-requires c =
     let s = c.args in
     let g = (goal.at.walk_row-walked-requires c).After-ask_row-asked in
-    let accepts = accepted-if _ (sym c.is_err.ensures.value ∙ c.if-is_err.false) in
+    let accepts = ap is_accepted c.in-Ok.is in
     let w = walkable g accepts in
     (omega (arith, few-trbs g accepts, length-take s.count s.row), (omega (arith, w.0, length-take s.tds s.results), w.1))
 
-pub returns : goal.returns
-returns c =
+pub returns-in-Ok : goal.returns-in-Ok
+returns-in-Ok c =
     let s = c.args in
     let w = c.walk_row-walked in
-    let accepts : is_accepted c.ask_row-asked.result ≡ true = accepted-if _ (sym c.is_err.ensures.value ∙ c.if-is_err.false) in
-    rw c.completion_answer-2.ensures
-    (accepted-row s.block s.count (take s.count s.row) s.tds (take s.tds s.results) (length s.data.now) (regions_of (seen s.memory.now)) s.log.now c.ask_row-asked.result (number (goal.at.returns c).After-ask_row-asked) accepts w.result w.new.log w.ensures)
+    accepted-row s.block s.count (take s.count s.row) s.tds (take s.tds s.results) (length s.data.now) (regions_of (seen s.memory.now)) s.log.now (Ok tt)
+    (sym (ap number_of c.in-Ok.is) ∙ number (goal.at.returns-in-Ok c).After-ask_row-asked) refl w.result w.new.log w.ensures

@@ -36,15 +36,17 @@ returns-then-not-is_default c = (omega arith, reached (walked_none (td_walker c.
 
 pub loop-j-init : goal.loop-j-init
 loop-j-init c =
-    let p = c.args.from in
-    λ td e. walked_none (td_walker td) (going_on p.normals_left p.progress) (take c.args.count (trbs c.args.places.now c.args.at)) c.args.log.now (rw e c.requires.1.1.1.0)
+    let p = c.args.from in (
+      (λ td e. walked_none (td_walker td) (going_on p.normals_left p.progress) (take c.args.count (trbs c.args.places.now c.args.at)) c.args.log.now (rw e c.requires.1.1.1.0)),
+      c.is_default.ensures c.if-not-is_default.false,
+    )
 
 -- in the loop, and where it is left
 module _ (c : At-loop-j) where
-  walked : Walked (td_walker c.args.td) (going_on c.args.from.normals_left c.args.from.progress) (take c.args.count (trbs c.args.places.now c.args.at)) c.args.log.now c.loop-j.log (state-at c.loop-j.normals_left c.loop-j.start c.loop-j.edtla c.args.from.progress.state c.loop-j.records) c.loop-j.j
-  walked = c.loop-j.invariant c.args.td refl
+  walked : Walked (td_walker c.args.td) (going_on c.args.from.normals_left c.args.from.progress) (take c.args.count (trbs c.args.places.now c.args.at)) c.args.log.now c.loop-j.log (going_on c.loop-j.normals_left c.loop-j.progress) c.loop-j.j
+  walked = c.loop-j.invariant.0 c.args.td refl
 
-  left_here : c.loop-j.j ≤ c.args.count → {r : FullWalked} → r ≡ record { processed = (state-at c.loop-j.normals_left c.loop-j.start c.loop-j.edtla c.args.from.progress.state c.loop-j.records); count = c.loop-j.j }
+  left_here : c.loop-j.j ≤ c.args.count → {r : FullWalked} → r ≡ record { processed = (going_on c.loop-j.normals_left c.loop-j.progress); count = c.loop-j.j }
       → (r.count ≤ c.args.count) × Reached c.args.td c.args.from (take c.args.count (trbs c.args.places.now c.args.at)) c.args.log.now c.loop-j.log r.processed r.count
   left_here below e =
       subst (λ (x : FullWalked). (x.count ≤ c.args.count) × Reached c.args.td c.args.from (take c.args.count (trbs c.args.places.now c.args.at)) c.args.log.now c.loop-j.log x.processed x.count) (sym e)
@@ -93,15 +95,15 @@ put_record-requires c = omega (arith, (walked (goal.at.put_record-requires c).At
 
 -- behind its length
 module _ (c : After-length_at-length) where
-  silent : SilentNormal (drop (c.args.at + place_length * c.loop-j.j) c.args.places.now) (c.args.td.info.data_length - c.loop-j.start)
+  silent : SilentNormal (drop (c.args.at + place_length * c.loop-j.j) c.args.places.now) (c.args.td.info.data_length - c.loop-j.progress.start)
   silent = c.is_silent_normal.ensures c.if-not-is_silent_normal.false
 
-pub overflow_add-start : goal.overflow_add-start
-overflow_add-start c = omega (arith, (silent (goal.at.overflow_add-start c).After-length_at-length).full, c.length_at-length.ensures, (walked (goal.at.overflow_add-start c).At-loop-j).good.within, c.struct_known-1.given)
+pub overflow_add-progress : goal.overflow_add-progress
+overflow_add-progress c = omega (arith, (silent (goal.at.overflow_add-progress c).After-length_at-length).full, c.length_at-length.ensures, (walked (goal.at.overflow_add-progress c).At-loop-j).good.within)
 
-pub overflow_add-records : goal.overflow_add-records
-overflow_add-records c =
-    let room : record_length * (c.loop-j.records + 1) ≤ length c.args.log.now = omega (arith, (walked (goal.at.overflow_add-records c).At-loop-j).room, c.requires.1.1.0, c.loop-j-test.true) in
+pub overflow_add-progress-in-loop-j : goal.overflow_add-progress-in-loop-j
+overflow_add-progress-in-loop-j c =
+    let room : record_length * (c.loop-j.progress.records + 1) ≤ length c.args.log.now = omega (arith, (walked (goal.at.overflow_add-progress-in-loop-j c).At-loop-j).room, c.requires.1.1.0, c.loop-j-test.true) in
     search rules
 
 pub loop-j-preserved : goal.loop-j-preserved
@@ -113,14 +115,17 @@ loop-j-preserved c =
     let len = c.length_at-length.ensures in
     let pointer : c.le64-pointer.result ≡ le_field 8 8 l =
     c.le64-pointer.ensures ∙ sym (ap (λ (x : List ℕ). le_number (take 8 x)) (drop-drop 8 (c.args.at + place_length * c.loop-j.j) b)) in
-    λ td same.
-    walked-turn (td_walker td) (trbs c.args.places.now c.args.at) c.args.count (few (goal.at.loop-j-preserved c).Start) (going_on c.args.from.normals_left c.args.from.progress) c.args.log.now p.log c.put_record.new.log (state-at c.loop-j.normals_left c.loop-j.start c.loop-j.edtla c.args.from.progress.state c.loop-j.records) _ p.j past_end (p.invariant td same) refl c.loop-j-test.true c.requires.1.1.0
-    (meets (ap (λ (t : TransferTrb). process_trb td (state-at c.loop-j.normals_left c.loop-j.start c.loop-j.edtla c.args.from.progress.state c.loop-j.records) t) (place_at In c.args.at b max_held p.j past_end few-held))
-    (full-met td same p.normals_left p.start p.edtla p.records c.args.from.progress.state l (c.is_default.ensures c.if-not-is_default.false) c.if-normals_left-eq1.false (silent (goal.at.loop-j-preserved c).After-length_at-length)
-    c.guest_write-write.result
-    (c.guest_write-write.ensures ∙ (λ k. guest_write (pointer k) (len k) p.start c.args.td.info.endpoint_id c.args.td.info.slot_id))
-    c.put_record.ensures
-    (λ k. state-at (c.one_less-normals_left.ensures k) (p.start + len k) ((c.edtla_after-edtla.ensures ∙ ap (edtla_after p.edtla) len) k) c.args.from.progress.state (p.records + 1))))
+    let w = p.progress in (
+      (λ td same.
+          walked-turn (td_walker td) (trbs c.args.places.now c.args.at) c.args.count (few (goal.at.loop-j-preserved c).Start) (going_on c.args.from.normals_left c.args.from.progress) c.args.log.now p.log c.put_record.new.log (going_on c.loop-j.normals_left c.loop-j.progress) _ p.j past_end (p.invariant.0 td same) refl c.loop-j-test.true c.requires.1.1.0
+          (meets (ap (λ (t : TransferTrb). process_trb td (going_on c.loop-j.normals_left c.loop-j.progress) t) (place_at In c.args.at b max_held p.j past_end few-held))
+          (full-met td same p.normals_left w.start w.edtla w.records w.state l p.invariant.1 c.if-normals_left-eq1.false (silent (goal.at.loop-j-preserved c).After-length_at-length)
+          c.guest_write-write.result
+          (c.guest_write-write.ensures ∙ (λ k. guest_write (pointer k) (len k) w.start c.args.td.info.endpoint_id c.args.td.info.slot_id))
+          c.put_record.ensures
+          (λ k. state-at (c.one_less-normals_left.ensures k) (w.start + len k) ((c.edtla_after.ensures ∙ ap (edtla_after w.edtla) len) k) w.state (w.records + 1))))),
+      p.invariant.1,
+    )
 
 pub shape_of-log : goal.shape_of-log
 shape_of-log c = (walked (goal.at.shape_of-log c).At-loop-j).long

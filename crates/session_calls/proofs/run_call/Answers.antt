@@ -45,7 +45,7 @@ unfolding answer_of
 returns-in-Buffers-clause-answer c =
     let a = c.args in
     let k = c.in-Buffers in
-    rw k.is (answers-quiet (state_in a.session a.buffers.now) c.requires (good_quiet (with_lengths a.session k.log_length k.collect_length)) c.lend_buffers.ensures)
+    rw k.is (answers-quiet (state_in a.session a.buffers.now) c.requires (good_quiet (with_lengths a.session k.log k.collect)) c.lend_buffers.ensures)
 
 pub returns-in-AppendTrb-clause-answer : goal.returns-in-AppendTrb-clause-answer
 unfolding answer_of

@@ -6,4 +6,4 @@ pub returns-clause-answer : goal.returns-clause-answer
 returns-clause-answer c =
     let a = c.args in
     let b = a.buffers.now in
-    answers-control a.session b.log.now b.collect.now b.low.now b.high.now c.lent_of.ensures b.«data».now a.call c.run_control-ran.ensures c.after_control.ensures
+    answers-control a.session b.log.now b.collect.now b.low.now b.high.now b.«data».now a.call c.run_control-ran.ensures c.after_control.ensures

@@ -6,5 +6,5 @@ pub returns-clause-answer : goal.returns-clause-answer
 returns-clause-answer c =
     let a = c.args in
     let b = a.buffers.now in
-    answers-row a.session b.log.now b.collect.now b.low.now b.high.now c.lent_of.ensures b.«data».now a.bytes c.run_row-ran.ensures c.without_row.ensures
+    answers-row a.session b.log.now b.collect.now b.low.now b.high.now b.«data».now a.bytes c.run_row-ran.ensures c.without_row.ensures
     c.after_in.ensures

@@ -1,26 +1,18 @@
--- `session_calls::run_row_on_endpoint` meets its contract: a row is made on an IN endpoint alone. Assumes nothing.
-use Rattle.std.proofs.Common.{Some, ap, ◌∙◌}
+-- `session_calls::run_row_on_endpoint` meets its contract: on control and on no endpoint a row is a bad line. Assumes nothing.
 use Rattle.session.specs.Sessions.{bad_quiet}
-use Rattle.session.proofs.OptionLaws.{on-none}
 use Rattle.session_calls.specs.Answers.{state_in}
-use Rattle.session_calls.proofs.AnswerLaws.{answers-quiet, row-nowhere, row_in, row-control}
+use Rattle.session_calls.proofs.AnswerLaws.{answers-quiet, row-nowhere, row-control}
 use Rattle.session_calls.proofs.run_row_on_endpoint.Goals as goal
 
-pub returns-in_default-clause-answer : goal.returns-in_default-clause-answer
-returns-in_default-clause-answer c =
+pub returns-in-Some-Control-clause-answer : goal.returns-in-Some-Control-clause-answer
+returns-in-Some-Control-clause-answer c =
     let a = c.args in
     let s = state_in a.session a.buffers.now in
-    rw (row-nowhere a.buffers.now.«data».now s a.bytes (on-none _ c.in_default.not-Some))
-    (answers-quiet s c.requires (bad_quiet a.session) c.bad.ensures)
+    let k = c.in-Some-Control in
+    rw (row-control a.buffers.now.«data».now s a.bytes k.field-0 k.is (rw k.is at k.field-0-is)) (answers-quiet s c.requires (bad_quiet a.session) c.bad.ensures)
 
-pub returns-in-In-clause-answer : goal.returns-in-In-clause-answer
-returns-in-In-clause-answer c =
-    let a = c.args in
-    rw (row_in a.buffers.now.«data».now (state_in a.session a.buffers.now) a.bytes (c.in-Some.is ∙ ap Some c.in-In.is)) c.run_row.ensures.answer
-
-pub returns-in-Control-clause-answer : goal.returns-in-Control-clause-answer
-returns-in-Control-clause-answer c =
+pub returns-in-None-clause-answer : goal.returns-in-None-clause-answer
+returns-in-None-clause-answer c =
     let a = c.args in
     let s = state_in a.session a.buffers.now in
-    rw (row-control a.buffers.now.«data».now s a.bytes (c.in-Some.is ∙ ap Some c.in-Control.is))
-    (answers-quiet s c.requires (bad_quiet a.session) c.bad-in-Control.ensures)
+    rw (row-nowhere a.buffers.now.«data».now s a.bytes c.in-None.is) (answers-quiet s c.requires (bad_quiet a.session) c.bad-in-None.ensures)

@@ -7,4 +7,4 @@ pub returns-then-size-eq0 : goal.returns-then-size-eq0
 returns-then-size-eq0 c = laws.laid-no-shape [] c.args.size _ c.if-size-eq0.true
 
 pub returns : goal.returns
-returns c = laws.laid-setup c.args.size c.if-size-eq0.false c.data_stage.ensures
+returns c = laws.laid-setup c.args.size c.if-size-eq0.false (rw (c.with_letter.ensures.letters, c.new.ensures) at c.data_stage.ensures)

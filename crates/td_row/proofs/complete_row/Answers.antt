@@ -1,18 +1,27 @@
--- `td_row::complete_row` meets its contract: the test and the plan are what the questions and the row make them, and so the walk and
--- the answer are those of completion. Assumes nothing.
-use lib.ListN.{length}
-use Rattle.td_row.proofs.AnswerLaws.{row-answered, walkable}
+-- `td_row::complete_row` meets its contract: the test and the plan are what the questions and the row make them, and so the refusal, or
+-- what the walk made of the log, is what completion does. Assumes nothing.
+use Rattle.std.proofs.Common.{◌∙◌, sym, length}
+use Rattle.td_row.proofs.AnswerLaws.{answers}
 use Rattle.td_row.proofs.complete_row.Goals as goal
 
 pub walk_row-processed-requires : goal.walk_row-processed-requires
 walk_row-processed-requires c =
     let a = c.args in
-    walkable a.endpoint_id a.slot_id a.mode a.row.now a.log.now a.res (length a.data.now) c.test_held-tested.result c.ask-plan.result c.test_held-tested.ensures c.ask-plan.ensures
+    (answers a.endpoint_id a.slot_id a.mode a.row.now a.log.now a.res (length a.data.now) c.test_held-tested.result _ c.test_held-tested.ensures (sym c.in-Ok.is ∙ c.ask-asked.ensures)).0
 
-pub returns : goal.returns
-returns c =
+pub returns-in-Err-clause-met : goal.returns-in-Err-clause-met
+returns-in-Err-clause-met c =
     let a = c.args in
-    let both =
-    row-answered a.endpoint_id a.slot_id a.mode a.row.now a.log.now a.res (length a.data.now) c.test_held-tested.result c.ask-plan.result c.walk_row-processed.result c.answer.result c.walk_row-processed.new.log
-    c.test_held-tested.ensures c.ask-plan.ensures c.walk_row-processed.ensures c.answer.ensures in
-    record { met = both.0; account = both.1 }
+    (answers a.endpoint_id a.slot_id a.mode a.row.now a.log.now a.res (length a.data.now) c.test_held-tested.result _ c.test_held-tested.ensures (sym c.in-Err.is ∙ c.ask-asked.ensures)).0
+
+pub returns-in-Ok-clause-met : goal.returns-in-Ok-clause-met
+returns-in-Ok-clause-met c =
+    let a = c.args in
+    ((answers a.endpoint_id a.slot_id a.mode a.row.now a.log.now a.res (length a.data.now) c.test_held-tested.result _ c.test_held-tested.ensures (sym c.in-Ok.is ∙ c.ask-asked.ensures)).1
+    c.walk_row-processed.result c.walk_row-processed.new.log c.walk_row-processed.ensures).0
+
+pub returns-in-Ok-clause-account : goal.returns-in-Ok-clause-account
+returns-in-Ok-clause-account c =
+    let a = c.args in
+    ((answers a.endpoint_id a.slot_id a.mode a.row.now a.log.now a.res (length a.data.now) c.test_held-tested.result _ c.test_held-tested.ensures (sym c.in-Ok.is ∙ c.ask-asked.ensures)).1
+    c.walk_row-processed.result c.walk_row-processed.new.log c.walk_row-processed.ensures).1

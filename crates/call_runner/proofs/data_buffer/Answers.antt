@@ -1,8 +1,0 @@
--- `call_runner::data_buffer` meets its contract: a repeat has as many elements as it says. Assumes nothing.
-use Prim.Native.Nat.{ℕ}
-use lib.ListN.{length-replicate}
-use Rattle.call_script.specs.Limits.{max_script_data}
-use Rattle.call_runner.proofs.data_buffer.Goals as goal
-
-pub returns : goal.returns
-returns c = length-replicate {0} {A = ℕ} max_script_data 0

@@ -1,6 +1,0 @@
--- `in_calls::answered` meets its contract: the state line is that of the block. Assumes nothing.
-use mathlib.Core.Path.{refl}
-use Rattle.in_calls.proofs.answered.Goals as goal
-
-pub returns : goal.returns
-returns c = record { ran = refl; text = rw c.count.ensures at c.put_in_line.ensures }
