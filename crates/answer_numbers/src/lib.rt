@@ -54,7 +54,7 @@ pub fn counted(answer: Result<usize, Refusal>) -> Answered
     }
 }
 
-// 1 Stall, 3 Disconnect, 0 Success; 2 and any other number TransactionError.
+// 1 Stall, 3 Disconnect, 0 Success; 2 and any other number TransactionError: by a match that cannot fail, where `TryFrom` would.
 pub fn status_of(number: u8) -> InTrbProcessingStatus
     ensures { result ≡ status_of number }
 {

@@ -14,8 +14,8 @@ use guest_memory::GuestMemory;
 use text::Text;
 use trb::{Answer, CompletionAnswer};
 
-// Writes a line for each record of a log. That a log is no longer than a row's, so that its lines fit, stands here and in each contract
-// above: it is the caller's slice, and a type around it would have to be made for each call.
+// Writes a line for each record of a log. That a log is no longer than a row's, so that its lines fit, stands here and in the contracts up
+// to `lent_calls`, since each is lent a slice of its own: above that, the type of a script's buffers says it.
 fn put_records(text: &mut Text<'_>, log: &[u8])
     requires has_room { HasRoom max_record_lines text.old }
     requires log_len_bound { length log.now ≤ min_row_log }
@@ -34,7 +34,7 @@ pub fn put_answer(text: &mut Text<'_>, answer: Answer, records: usize, log: &[u8
     match answer {
         Ok(()) => {
             call_text::put_accepted(text, call_text::count(records));
-            put_records(text, call_text::first_records(log, records));
+            put_records(text, call_log::first_records(log, records));
         }
         Err(refusal) => call_text::put_refused(text, u8::from(refusal)),
     }
@@ -53,7 +53,7 @@ fn put_carried_out(
     ensures answer { CarriedOut records log.now «data».now (lent memory.old) text.old text.new (lent memory.new) }
     ensures same { SameRegions memory.old memory.new }
 {
-    let shown = call_text::first_records(log, records);
+    let shown = call_log::first_records(log, records);
     put_records(text, shown);
     let answer = carry_out::carry_out(shown, data, memory);
     call_text::put_carried_out(text, trb::number_of(answer));

@@ -17,7 +17,7 @@ use Rattle.in_block.specs.Facts as input-facts
 use Rattle.control_block.specs.Facts as control-facts
 use Rattle.row_walk.specs.Rows.{RowTd, has_normal}
 use Rattle.call_script.specs.declared.Call.{Call}
-use Rattle.call_script.specs.declared.Call.TheVariants.{Window, Buffers, CreateIn, CreateControl, Submit, CompleteWithResult, CompleteWithout, Cancel, Hold, MakeUpIn, MakeUpControl, AppendTrb, AppendResult, CompleteRow, Time, Captured}
+use Rattle.call_script.specs.declared.Call.TheVariants.{Window, Buffers, CreateIn, CreateControl, Submit, Complete, Cancel, Hold, MakeUpIn, MakeUpControl, AppendTrb, AppendResult, CompleteRow, Time, Captured}
 use Rattle.call_script.specs.declared.DeviceStatus.{DeviceStatus}
 use Rattle.in_calls.specs.Calls as input-calls
 use Rattle.control_calls.specs.Calls as control-calls
@@ -29,6 +29,7 @@ use Rattle.capture_calls.specs.Events.{in_completion_event, control_completion_e
 use Rattle.capture_calls.specs.Captures.{Captured as Caller, writer_call}
 use Rattle.captured_calls.specs.declared.Setting.{Setting}
 use Rattle.captured_calls.specs.Rows.{row_captures, requests_in}
+use Rattle.captured_calls.specs.Submitted.{logged_records}
 use Rattle.call_captures.specs.CallCaptures.{submission_captures, result_captures, no_result_captures, call_captures}
 
 -- a completion that leaves its state: where a submission was due there was nothing to complete
@@ -60,7 +61,7 @@ row-none c p (td ∷ tds) bytes = by (has_normal td.trbs) refl (row-none c p tds
     by false e rest = rw e rest
 
 module _ (s : Setting) (before after : Session) (in-same : after.in_block ≡ before.in_block) (control-same : after.control_block ≡ before.control_block) where
-  submission-kept : (e : Option EndpointKind) (log collect : List ℕ) → submission_captures e s before after log 0 collect ≡ []
+  submission-kept : (e : Option EndpointKind) (log collect : List ℕ) → submission_captures e s before after (logged_records 0 log) collect ≡ []
   submission-kept None log collect = refl
   submission-kept (Some In) log collect = simp unary_clauses refl
   submission-kept (Some Control) log collect = simp unary_clauses refl
@@ -75,15 +76,15 @@ module _ (s : Setting) (before after : Session) (in-same : after.in_block ≡ be
   no-result-kept (Some In) = refl
   no-result-kept (Some Control) = rw control-same (control-kept _ [] _ _ _ None before.control_block.state)
 
-  pub call_captures-kept : (c : Call) (log collect bytes : List ℕ) → call_captures s before after c log 0 collect bytes ≡ []
+  pub call_captures-kept : (c : Call) (log collect bytes : List ℕ) → call_captures s before after c (logged_records 0 log) collect bytes ≡ []
   unfolding call_captures requests_in
   call_captures-kept (Window window) log collect bytes = refl
   call_captures-kept (Buffers l n) log collect bytes = refl
   call_captures-kept (CreateIn e i mode) log collect bytes = refl
   call_captures-kept (CreateControl e i release) log collect bytes = refl
   call_captures-kept (Submit t) log collect bytes = submission-kept after.endpoint log collect
-  call_captures-kept (CompleteWithResult status n) log collect bytes = result-kept after.endpoint status (take n bytes)
-  call_captures-kept (CompleteWithout n) log collect bytes = no-result-kept after.endpoint
+  call_captures-kept (Complete (Some status) n) log collect bytes = result-kept after.endpoint status (take n bytes)
+  call_captures-kept (Complete None n) log collect bytes = no-result-kept after.endpoint
   call_captures-kept Cancel log collect bytes = refl
   call_captures-kept (Hold t) log collect bytes = refl
   call_captures-kept (MakeUpIn state) log collect bytes = refl
@@ -91,5 +92,5 @@ module _ (s : Setting) (before after : Session) (in-same : after.in_block ≡ be
   call_captures-kept (AppendTrb t) log collect bytes = refl
   call_captures-kept (AppendResult status n) log collect bytes = refl
   call_captures-kept (CompleteRow n) log collect bytes = simp unary_clauses (row-none _ _ _ (take n bytes))
-  call_captures-kept (Time seconds microseconds) log collect bytes = refl
-  call_captures-kept (Captured bus address transfer_type) log collect bytes = refl
+  call_captures-kept (Time time) log collect bytes = refl
+  call_captures-kept (Captured device transfer_type) log collect bytes = refl

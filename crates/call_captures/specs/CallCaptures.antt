@@ -1,5 +1,6 @@
 -- 02, R-2: what a call of a script gives to a capture, from the sessions before and behind it. Assumes nothing.
 use Rattle.std.specs.Prelude.{ℕ, cond, List, [], take, None, Option, Some}
+use Rattle.call_log.specs.declared.Record.{Record}
 use Rattle.trb.specs.declared.ControlRequestProcessingResult.{ControlRequestProcessingResult}
 use Rattle.trb.specs.declared.InTrbProcessingStatus.{InTrbProcessingStatus}
 use Rattle.in_block.specs.declared.InBlock.{InBlock}
@@ -9,7 +10,7 @@ use Rattle.control_block.specs.Facts as control
 use Rattle.row_walk.specs.Rows.{row_tds}
 use Rattle.call_text.specs.Lines.{count_of}
 use Rattle.call_script.specs.declared.Call.{Call}
-use Rattle.call_script.specs.declared.Call.TheVariants.{Window, Buffers, CreateIn, CreateControl, Submit, CompleteWithResult, CompleteWithout, Cancel, Hold, MakeUpIn, MakeUpControl, AppendTrb, AppendResult, CompleteRow, Time, Captured}
+use Rattle.call_script.specs.declared.Call.TheVariants.{Window, Buffers, CreateIn, CreateControl, Submit, Complete, Cancel, Hold, MakeUpIn, MakeUpControl, AppendTrb, AppendResult, CompleteRow, Time, Captured}
 use Rattle.call_script.specs.declared.DeviceStatus.{DeviceStatus}
 use Rattle.in_calls.specs.Calls as input-calls
 use Rattle.control_calls.specs.Calls as control-calls
@@ -20,18 +21,18 @@ use Rattle.capture_record.specs.Calls.{CaptureCall}
 use Rattle.capture_calls.specs.Events.{in_completion_event, control_completion_event, control_request_event}
 use Rattle.capture_calls.specs.Captures.{writer_call, request_captures, in_submission_capture, first_address}
 use Rattle.captured_calls.specs.declared.Setting.{Setting}
-use Rattle.captured_calls.specs.Submitted.{captured_of, pipe_of, logged_records}
+use Rattle.captured_calls.specs.Submitted.{captured_of, pipe_of}
 use Rattle.captured_calls.specs.Rows.{row_captures, requests_in}
 
 -- ---- A submission
 
 -- the requests among the records that it logged; on control with the bytes that the block behind it has collected
-abbrev pub submission_captures : Option EndpointKind → Setting → Session → Session → List ℕ → ℕ → List ℕ → List CaptureCall
-submission_captures None s before after log records collect = []
-submission_captures (Some In) s before after log records collect =
-    in_submission_capture (captured_of s) (pipe_of s before.in_block.endpoint_id) (logged_records records log)
-submission_captures (Some Control) s before after log records collect =
-    request_captures (captured_of s) control_request_event (take after.control_block.transfer.collected collect) (logged_records records log)
+abbrev pub submission_captures : Option EndpointKind → Setting → Session → Session → List Record → List ℕ → List CaptureCall
+submission_captures None s before after rows collect = []
+submission_captures (Some In) s before after rows collect =
+    in_submission_capture (captured_of s) (pipe_of s before.in_block.endpoint_id) rows
+submission_captures (Some Control) s before after rows collect =
+    request_captures (captured_of s) control_request_event (take after.control_block.transfer.collected collect) rows
 
 -- ---- A completion
 
@@ -66,29 +67,29 @@ no_result_captures (Some Control) s before after =
 -- ---- A row
 
 -- as it was written down before the call
-abbrev pub row_call_captures : Setting → Session → List ℕ → ℕ → List ℕ → List CaptureCall
-row_call_captures s before log records bytes =
+abbrev pub row_call_captures : Setting → Session → List Record → List ℕ → List CaptureCall
+row_call_captures s before rows bytes =
     row_captures (captured_of s) (pipe_of s before.in_block.endpoint_id) (row_tds (take before.row.count before.row.trbs) before.row.results)
-    (requests_in (logged_records records log)) bytes
+    (requests_in rows) bytes
 
 -- ---- Any call
 
 -- submission, completion and row give records, of the device's data those bytes that the call gave; no other call asks the device for anything
-unfoldable pub call_captures : Setting → Session → Session → Call → List ℕ → ℕ → List ℕ → List ℕ → List CaptureCall
-call_captures s before after (Window window) log records collect bytes = []
-call_captures s before after (Buffers l n) log records collect bytes = []
-call_captures s before after (CreateIn e i mode) log records collect bytes = []
-call_captures s before after (CreateControl e i release) log records collect bytes = []
-call_captures s before after (Submit t) log records collect bytes = submission_captures after.endpoint s before after log records collect
-call_captures s before after (CompleteWithResult status n) log records collect bytes =
+unfoldable pub call_captures : Setting → Session → Session → Call → List Record → List ℕ → List ℕ → List CaptureCall
+call_captures s before after (Window window) rows collect bytes = []
+call_captures s before after (Buffers l n) rows collect bytes = []
+call_captures s before after (CreateIn e i mode) rows collect bytes = []
+call_captures s before after (CreateControl e i release) rows collect bytes = []
+call_captures s before after (Submit t) rows collect bytes = submission_captures after.endpoint s before after rows collect
+call_captures s before after (Complete (Some status) n) rows collect bytes =
     result_captures after.endpoint s before after status (take n bytes)
-call_captures s before after (CompleteWithout n) log records collect bytes = no_result_captures after.endpoint s before after
-call_captures s before after Cancel log records collect bytes = []
-call_captures s before after (Hold t) log records collect bytes = []
-call_captures s before after (MakeUpIn state) log records collect bytes = []
-call_captures s before after (MakeUpControl phase state direction n) log records collect bytes = []
-call_captures s before after (AppendTrb t) log records collect bytes = []
-call_captures s before after (AppendResult status n) log records collect bytes = []
-call_captures s before after (CompleteRow n) log records collect bytes = row_call_captures s before log records (take n bytes)
-call_captures s before after (Time seconds microseconds) log records collect bytes = []
-call_captures s before after (Captured bus address transfer_type) log records collect bytes = []
+call_captures s before after (Complete None n) rows collect bytes = no_result_captures after.endpoint s before after
+call_captures s before after Cancel rows collect bytes = []
+call_captures s before after (Hold t) rows collect bytes = []
+call_captures s before after (MakeUpIn state) rows collect bytes = []
+call_captures s before after (MakeUpControl phase state direction n) rows collect bytes = []
+call_captures s before after (AppendTrb t) rows collect bytes = []
+call_captures s before after (AppendResult status n) rows collect bytes = []
+call_captures s before after (CompleteRow n) rows collect bytes = row_call_captures s before rows (take n bytes)
+call_captures s before after (Time time) rows collect bytes = []
+call_captures s before after (Captured device transfer_type) rows collect bytes = []

@@ -1,6 +1,6 @@
 -- What captures say of a script's calls. Assumes nothing.
 use Rattle.call_script.specs.declared.Call.{Call}
-use Rattle.call_script.specs.declared.Call.TheVariants.{Window, Buffers, CreateIn, CreateControl, Submit, CompleteWithResult, CompleteWithout, Cancel, Hold, MakeUpIn, MakeUpControl, AppendTrb, AppendResult, CompleteRow, Time, Captured}
+use Rattle.call_script.specs.declared.Call.TheVariants.{Window, Buffers, CreateIn, CreateControl, Submit, Complete, Cancel, Hold, MakeUpIn, MakeUpControl, AppendTrb, AppendResult, CompleteRow, Time, Captured}
 use Rattle.capture_record.specs.declared.InTransferType.TheVariants.{Bulk}
 use Rattle.captured_calls.specs.declared.Setting.{Setting}
 
@@ -18,8 +18,7 @@ setting_after s (Buffers log collect) = s
 setting_after s (CreateIn e i mode) = s
 setting_after s (CreateControl e i release) = s
 setting_after s (Submit t) = s
-setting_after s (CompleteWithResult status n) = s
-setting_after s (CompleteWithout n) = s
+setting_after s (Complete status n) = s
 setting_after s Cancel = s
 setting_after s (Hold t) = s
 setting_after s (MakeUpIn state) = s
@@ -27,9 +26,5 @@ setting_after s (MakeUpControl phase state direction n) = s
 setting_after s (AppendTrb t) = s
 setting_after s (AppendResult status n) = s
 setting_after s (CompleteRow n) = s
-setting_after s (Time seconds microseconds) =
-    record { stamp = record { device = s.stamp.device; time = record { seconds = seconds; microseconds = microseconds } }; transfer_type = s.transfer_type }
-setting_after s (Captured bus address transfer_type) = record {
-  stamp = record { device = record { bus_number = bus; device_address = address }; time = s.stamp.time };
-  transfer_type = transfer_type;
-}
+setting_after s (Time time) = record { stamp = record { device = s.stamp.device; time = time }; transfer_type = s.transfer_type }
+setting_after s (Captured device transfer_type) = record { stamp = record { device = device; time = s.stamp.time }; transfer_type = transfer_type }

@@ -2,12 +2,14 @@
 // was given.
 #![tactic(auto)]
 
-ghost use Rattle.std.specs.Prelude.{◌≡◌};
+ghost use Rattle.std.specs.Prelude.{◌≡◌, map};
+ghost use Rattle.call_log.specs.Records.{decode};
 ghost use Rattle.captured_calls.specs.Written.{Laid, Lays};
 ghost use Rattle.call_captures.specs.Settings.{first_setting, setting_after};
 ghost use Rattle.call_captures.specs.CallCaptures.{in_completion_captures, control_completion_captures, submission_captures, result_captures, no_result_captures, row_call_captures, call_captures};
 
 use call_script::{Call, DeviceStatus};
+use capture_calls::CapturedTransfer;
 use capture_file::CaptureTime;
 use capture_record::{InTransferType, Stamp, UsbDevice};
 use captured_calls::{Capture, Setting};
@@ -41,22 +43,16 @@ pub fn setting_after(setting: Setting, call: Call) -> Setting
     ensures { result ≡ setting_after setting call }
 {
     match call {
-        Call::Time(seconds, microseconds) => Setting {
+        Call::Time(time) => Setting {
             stamp: Stamp {
-                time: CaptureTime {
-                    seconds,
-                    microseconds,
-                },
+                time,
                 ..setting.stamp
             },
             ..setting
         },
-        Call::Captured(bus_number, device_address, transfer_type) => Setting {
+        Call::Captured(device, transfer_type) => Setting {
             stamp: Stamp {
-                device: UsbDevice {
-                    bus_number,
-                    device_address,
-                },
+                device,
                 ..setting.stamp
             },
             transfer_type,
@@ -67,30 +63,25 @@ pub fn setting_after(setting: Setting, call: Call) -> Setting
 
 // ---- The records of a call
 
-// A call that was made: the sessions before and behind it; the log, and how many records it has of the call; the bytes that are collected;
-// the device's data.
+// A call that was made: the sessions before and behind it; the records that it logged; the bytes that are collected; the device's data.
 #[derive(Clone, Copy)]
 pub struct MadeCall<'a> {
     pub before: Session,
     pub after: Session,
     pub call: Call,
-    pub log: &'a [u8],
-    pub records: usize,
+    pub rows: &'a [[u8; trb::RECORD_LENGTH]],
     pub collect: &'a [u8],
     pub data: &'a [u8],
 }
 
 // A submission on this endpoint.
 fn put_submission(capture: &mut Capture<'_>, made: &MadeCall<'_>)
-    ensures { Laid (submission_captures made.now.after.endpoint capture.old.setting made.now.before made.now.after made.now.log.now made.now.records made.now.collect.now) capture.old capture.new }
+    ensures { Laid (submission_captures made.now.after.endpoint capture.old.setting made.now.before made.now.after (map decode made.now.rows.now) made.now.collect.now) capture.old capture.new }
 {
     match made.after.endpoint {
-        Some(EndpointKind::In) => captured_calls::put_in_submission(
-            capture,
-            made.before.in_block.endpoint_id,
-            made.log,
-            made.records,
-        ),
+        Some(EndpointKind::In) => {
+            captured_calls::put_in_submission(capture, made.before.in_block.endpoint_id, made.rows)
+        }
         Some(EndpointKind::Control) => {
             let collected = made
                 .after
@@ -98,12 +89,7 @@ fn put_submission(capture: &mut Capture<'_>, made: &MadeCall<'_>)
                 .transfer
                 .collected
                 .min(made.collect.len());
-            captured_calls::put_control_submission(
-                capture,
-                made.log,
-                made.records,
-                &made.collect[..collected],
-            )
+            captured_calls::put_control_submission(capture, made.rows, &made.collect[..collected])
         }
         None => {}
     }
@@ -143,12 +129,15 @@ fn put_control_completion(
     if !control_block::submission_due(made.after.control_block.state) {
         return;
     }
+    let transfer = made.before.control_block.transfer;
     captured_calls::put_control_completion(
         capture,
         made.before.control_block.state,
-        made.before.control_block.transfer.direction,
-        made.before.control_block.transfer.request,
-        call_text::count(made.before.control_block.transfer.collected),
+        CapturedTransfer {
+            direction: transfer.direction,
+            request: transfer.request,
+            collected: call_text::count(transfer.collected),
+        },
         res,
         data,
     );
@@ -174,24 +163,21 @@ fn put_result(capture: &mut Capture<'_>, made: &MadeCall<'_>, status: DeviceStat
 fn put_no_result(capture: &mut Capture<'_>, made: &MadeCall<'_>)
     ensures { Laid (no_result_captures made.now.after.endpoint capture.old.setting made.now.before made.now.after) capture.old capture.new }
 {
-    match made.after.endpoint {
-        Some(EndpointKind::In) => {}
-        Some(EndpointKind::Control) => put_control_completion(capture, made, None, &[]),
-        None => {}
+    if let Some(EndpointKind::Control) = made.after.endpoint {
+        put_control_completion(capture, made, None, &[]);
     }
 }
 
 // A row, as it was written down before the call.
 fn put_row(capture: &mut Capture<'_>, made: &MadeCall<'_>, data: &[u8])
-    ensures { Laid (row_call_captures capture.old.setting made.now.before made.now.log.now made.now.records «data».now) capture.old capture.new }
+    ensures { Laid (row_call_captures capture.old.setting made.now.before (map decode made.now.rows.now) «data».now) capture.old capture.new }
 {
     captured_calls::put_row(
         capture,
         made.before.in_block.endpoint_id,
         &made.before.row.trbs[..made.before.row.count.min(trb::MAX_ROW)],
         &made.before.row.results,
-        made.log,
-        made.records,
+        made.rows,
         data,
     );
 }
@@ -199,15 +185,17 @@ fn put_row(capture: &mut Capture<'_>, made: &MadeCall<'_>, data: &[u8])
 // Any call.
 #[tactic(auto, unfolding(crate::specs::CallCaptures::call_captures))]
 fn capture_call(capture: &mut Capture<'_>, made: &MadeCall<'_>)
-    ensures { Laid (call_captures capture.old.setting made.now.before made.now.after made.now.call made.now.log.now made.now.records made.now.collect.now made.now.«data».now) capture.old capture.new }
+    ensures { Laid (call_captures capture.old.setting made.now.before made.now.after made.now.call (map decode made.now.rows.now) made.now.collect.now made.now.«data».now) capture.old capture.new }
 {
     match made.call {
         Call::Submit(_) => put_submission(capture, made),
-        Call::CompleteWithResult(status, bytes) => {
-            let given = bytes.min(made.data.len());
-            put_result(capture, made, status, &made.data[..given])
-        }
-        Call::CompleteWithout(_) => put_no_result(capture, made),
+        Call::Complete(status, bytes) => match status {
+            Some(status) => {
+                let given = bytes.min(made.data.len());
+                put_result(capture, made, status, &made.data[..given])
+            }
+            None => put_no_result(capture, made),
+        },
         Call::CompleteRow(bytes) => {
             let joined = bytes.min(made.data.len());
             put_row(capture, made, &made.data[..joined])
@@ -218,7 +206,7 @@ fn capture_call(capture: &mut Capture<'_>, made: &MadeCall<'_>)
 
 // A call: its records lie at the buffer's start. Returns the index behind them.
 pub fn put_call(output: &mut [u8], setting: Setting, made: &MadeCall<'_>) -> usize
-    ensures { Lays (call_captures setting made.now.before made.now.after made.now.call made.now.log.now made.now.records made.now.collect.now made.now.«data».now) output.old result output.new }
+    ensures { Lays (call_captures setting made.now.before made.now.after made.now.call (map decode made.now.rows.now) made.now.collect.now made.now.«data».now) output.old result output.new }
 {
     let mut capture = Capture {
         bytes: output,

@@ -1,3 +1,4 @@
 pub mod Records
 pub mod Logs
 pub mod Calls
+pub mod First

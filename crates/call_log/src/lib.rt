@@ -8,6 +8,7 @@ ghost use Rattle.trb.specs.Limits.{record_length};
 ghost use Rattle.call_log.specs.Records.{encode, decode, record_at, blank, transfer_event, guest_write, in_request, control_request, when};
 ghost use Rattle.call_log.specs.Calls.{Put, Meets, counted};
 ghost use Rattle.call_log.specs.Logs.{records_in};
+ghost use Rattle.call_log.specs.First.{first_records};
 
 use trb::{CompletionCode, EndpointId, SlotId, UsbRequest};
 
@@ -200,6 +201,14 @@ pub fn records(log: &[u8]) -> &[[u8; trb::RECORD_LENGTH]]
     ensures count { length result.now ≡ length log.now / record_length }
 {
     log.as_chunks().0
+}
+
+// The bytes of a log's first records, or all of a log that has not so many.
+pub fn first_records(log: &[u8], records: usize) -> &[u8]
+    ensures { result.now ≡ first_records records log.now }
+{
+    let end = records.saturating_mul(trb::RECORD_LENGTH).min(log.len());
+    &log[..end]
 }
 
 // What record number `index` of a log says.

@@ -8,6 +8,7 @@ ghost use Rattle.call_number.specs.Numbers.{digit, digits_from, has_leading_zero
 ghost use Rattle.call_number.specs.RawBytes.{raw_places, halves_of, raw_of};
 
 // What a character is worth as a digit, if it is one.
+// By hand: `from_str_radix` also takes upper case, a sign and leading zeros, none of which a script may have.
 #[tactic(auto, unfolding(crate::specs::Numbers::digit_value))]
 fn digit(character: u8) -> Option<u64>
     ensures { result ≡ digit character }

@@ -36,7 +36,7 @@ fn started() -> Progress
 }
 
 // What stands ahead of a run behind the lines that it took: one line more where one is unfinished; whether the run is good, and whether
-// there may be more.
+// there may be more. No enum of its four cases: a turn reads each of the three, and each would be a `match` over the four.
 #[derive(Clone, Copy)]
 struct Ahead {
     lines: usize,
@@ -101,6 +101,7 @@ fn read_on<R: Read>(
 }
 
 // Takes the whole lines that are read, writes their text out, and reads on.
+// How long the text's buffer is stays as a writer writes: a fact of the slice that was lent, which a text of any length does not say.
 fn take_turn<R: Read, W: Write>(
     reader: &mut R,
     writer: &mut W,
@@ -189,5 +190,5 @@ pub fn run<R: Read, W: Write>(reader: &mut R, writer: &mut W) -> io::Result<()> 
         high: &mut high,
     };
     let progress = run_input(reader, writer, &mut text, &mut input, &mut buffers)?;
-    script_lines::print_bad_line(writer, progress.lines, progress.good)
+    script_lines::print_bad_line(writer, (!progress.good).then_some(progress.lines))
 }

@@ -4,12 +4,11 @@ use Rattle.std.specs.Prelude.{ℕ, ◌+◌, Bool, cond, ◌&&◌, List, [], ◌�
 use Rattle.trb.specs.declared.ControlSubmissionState.{ControlSubmissionState}
 use Rattle.trb.specs.declared.ControlSubmissionState.TheVariants as control_state
 use Rattle.trb.specs.declared.EndpointId.{EndpointId}
-use Rattle.trb.specs.declared.InTrbProcessingStatus.{InTrbProcessingStatus}
-use Rattle.trb.specs.declared.InTrbProcessingStatus.TheVariants as in_status
 use Rattle.trb.specs.declared.SlotId.{SlotId}
 use Rattle.trb.specs.declared.TdBasedNormalSubmissionState.{TdBasedNormalSubmissionState}
 use Rattle.trb.specs.declared.TdBasedNormalSubmissionState.TheVariants as in_state
 use Rattle.trb.specs.declared.TransferTrb.{TransferTrb}
+use Rattle.answer_numbers.specs.Numbers.{status_of as in_status_of}
 use Rattle.raw_trb.specs.Raw.{decode_trb}
 use Rattle.guest_memory.specs.Regions.{guest_regions}
 use Rattle.control_block.specs.Numbers.{phase_of}
@@ -24,7 +23,7 @@ use Rattle.script_trb.specs.Tables.{row_of}
 use Rattle.script_trb.specs.Trbs.{any_number, any_word, trb_of}
 use Rattle.script_trb.specs.declared.TrbFields.{TrbFields}
 use Rattle.call_script.specs.declared.Call.{Call}
-use Rattle.call_script.specs.declared.Call.TheVariants.{Window, Buffers, CreateIn, CreateControl, Submit, CompleteWithResult, CompleteWithout, Cancel, Hold, MakeUpIn, MakeUpControl, AppendTrb, AppendResult, CompleteRow, Time, Captured}
+use Rattle.call_script.specs.declared.Call.TheVariants.{Window, Buffers, CreateIn, CreateControl, Submit, Complete, Cancel, Hold, MakeUpIn, MakeUpControl, AppendTrb, AppendResult, CompleteRow, Time, Captured}
 use Rattle.call_script.specs.declared.DeviceStatus.{DeviceStatus}
 use Rattle.call_script.specs.declared.DeviceStatus.TheVariants as status
 use Rattle.capture_record.specs.declared.InTransferType.{InTransferType}
@@ -50,10 +49,6 @@ mode_of n = row_of ((1, Strict) ∷ []) AsPorted n
 unfoldable pub status_of : ℕ → DeviceStatus
 status_of n =
     row_of ((1, status.Stall) ∷ (2, status.TransactionError) ∷ (3, status.Disconnect) ∷ (4, status.SuccessfulControlOut) ∷ []) status.Success n
-
--- of a TD of a row: 0 to 3
-unfoldable pub in_status_of : ℕ → InTrbProcessingStatus
-in_status_of n = row_of ((1, in_status.Stall) ∷ (2, in_status.TransactionError) ∷ (3, in_status.Disconnect) ∷ []) in_status.Success n
 
 -- STATE of an IN block: 0 submission due, 1 collecting, 2 awaits the device, 3 awaits local completion
 unfoldable pub in_state_of : ℕ → TdBasedNormalSubmissionState
@@ -151,11 +146,11 @@ append_call f = trb_call AppendTrb f
 
 -- `d STATUS N`
 unfoldable pub result_call : Fields → Option Call
-result_call f = call_if (within_limits (4 ∷ max_script_data ∷ []) f) (CompleteWithResult (status_of (field f 0)) (field f 1))
+result_call f = call_if (within_limits (4 ∷ max_script_data ∷ []) f) (Complete (Some (status_of (field f 0))) (field f 1))
 
 -- `l N`
 unfoldable pub no_result_call : Fields → Option Call
-no_result_call f = call_if (within_limits (max_script_data ∷ []) f) (CompleteWithout (field f 0))
+no_result_call f = call_if (within_limits (max_script_data ∷ []) f) (Complete None (field f 0))
 
 -- `x`
 unfoldable pub cancel_call : Fields → Option Call
@@ -190,12 +185,13 @@ row_call f = call_if (within_limits (max_script_data ∷ []) f) (CompleteRow (fi
 
 -- `t SECONDS MICROSECONDS`
 unfoldable pub time_call : Fields → Option Call
-time_call f = call_if (within_limits (any_word ∷ any_word ∷ []) f) (Time (field f 0) (field f 1))
+time_call f = call_if (within_limits (any_word ∷ any_word ∷ []) f) (Time (record { seconds = field f 0; microseconds = field f 1 }))
 
 -- `m BUS DEVICE TYPE`: TYPE 1 or 3
 unfoldable pub capture_call : Fields → Option Call
 capture_call f =
-    cond (within_limits (max_bus ∷ max_byte ∷ any_number ∷ []) f) (call_with (Captured (field f 0) (field f 1)) (transfer_type_of (field f 2))) None
+    cond (within_limits (max_bus ∷ max_byte ∷ any_number ∷ []) f)
+    (call_with (Captured (record { bus_number = field f 0; device_address = field f 1 })) (transfer_type_of (field f 2))) None
 
 -- ---- Lines
 
@@ -215,8 +211,8 @@ numbered_call f = row_of letters no_call f.letter f
 -- `u ADDR RAW`: a raw TRB, decoded, then as `s`; u is the character 117
 unfoldable pub raw_call : RawFields → Option Call
 raw_call f =
-    call_if (eqb f.letter 117 && eqb f.count 1)
-    (Submit (record { variant = (decode_trb f.bytes).variant; addr = f.first; cycle_bit = (decode_trb f.bytes).cycle_bit }))
+    call_if (eqb f.before.letter 117 && eqb f.before.count 1)
+    (Submit (record { variant = (decode_trb f.bytes).variant; addr = field f.before 0; cycle_bit = (decode_trb f.bytes).cycle_bit }))
 
 -- numbers go before a raw TRB
 abbrev pub call_by : Option Fields → Option RawFields → Option Call

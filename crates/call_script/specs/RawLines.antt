@@ -16,7 +16,7 @@ line_if so l = cond so l None
 
 -- `d RAW`; d is the character 100
 unfoldable pub decode_line : RawFields → Option RawLine
-decode_line f = line_if (eqb f.letter 100 && eqb f.count 0) (Some (Decode (decode_trb f.bytes)))
+decode_line f = line_if (eqb f.before.letter 100 && eqb f.before.count 0) (Some (Decode (decode_trb f.bytes)))
 
 abbrev pub encoded : Option TransferTrb → Option RawLine
 encoded (Some t) = Some (Encode t)

@@ -3,10 +3,12 @@
 
 ghost use Rattle.std.specs.Prelude.{◌≡◌};
 ghost use Rattle.call_script.specs.Limits.{script_limits};
-ghost use Rattle.call_script.specs.Calls.{mode_of, status_of, in_status_of, in_state_of, control_state_of, transfer_type_of, release_of, trb_fields, line_trb, one_region, two_regions, window_call, buffers_call, ported_creation, mode_creation, in_creation, four_creation, release_creation, control_creation, submit_call, hold_call, append_call, result_call, no_result_call, cancel_call, in_state_call, control_state_call, make_up_call, row_result_call, row_call, time_call, capture_call, numbered_call, raw_call, call_of};
+ghost use Rattle.call_script.specs.Calls.{mode_of, status_of, in_state_of, control_state_of, transfer_type_of, release_of, trb_fields, line_trb, one_region, two_regions, window_call, buffers_call, ported_creation, mode_creation, in_creation, four_creation, release_creation, control_creation, submit_call, hold_call, append_call, result_call, no_result_call, cancel_call, in_state_call, control_state_call, make_up_call, row_result_call, row_call, time_call, capture_call, numbered_call, raw_call, call_of};
 ghost use Rattle.call_script.specs.RawLines.{decode_line, encode_line, raw_line_of};
 
+use capture_file::CaptureTime;
 pub use capture_record::InTransferType;
+use capture_record::UsbDevice;
 use control_block::GuestRelease;
 use guest_memory::Regions;
 use in_td::InMode;
@@ -77,8 +79,7 @@ pub enum Call {
     CreateIn(EndpointId, SlotId, InMode),
     CreateControl(EndpointId, SlotId, GuestRelease),
     Submit(TransferTrb),
-    CompleteWithResult(DeviceStatus, usize),
-    CompleteWithout(usize),
+    Complete(Option<DeviceStatus>, usize),
     Cancel,
     Hold(TransferTrb),
     MakeUpIn(TdBasedNormalSubmissionState),
@@ -86,11 +87,12 @@ pub enum Call {
     AppendTrb(TransferTrb),
     AppendResult(InTrbProcessingStatus, u32),
     CompleteRow(usize),
-    Time(u32, u32),
-    Captured(u16, u8, InTransferType),
+    Time(CaptureTime),
+    Captured(UsbDevice, InTransferType),
 }
 
-// ---- Numbers that stand for a case. Where a line has no limit of the number, any other one is none.
+// ---- Numbers that stand for a case. Where a line has no limit of the number, any other one is none. Tables, and no `From` or `TryFrom`:
+// but for `DeviceStatus` the types are other crates', and what a number stands for is its line's.
 
 #[tactic(auto, unfolding(crate::specs::Calls::mode_of, script_trb::specs::Tables::row_of))]
 fn mode_of(number: u64) -> InMode
@@ -112,18 +114,6 @@ fn status_of(number: u64) -> DeviceStatus
         3 => DeviceStatus::Disconnect,
         4 => DeviceStatus::SuccessfulControlOut,
         _ => DeviceStatus::Success,
-    }
-}
-
-#[tactic(auto, unfolding(crate::specs::Calls::in_status_of, script_trb::specs::Tables::row_of))]
-fn in_status_of(number: u64) -> InTrbProcessingStatus
-    ensures { result ≡ in_status_of number }
-{
-    match number {
-        1 => InTrbProcessingStatus::Stall,
-        2 => InTrbProcessingStatus::TransactionError,
-        3 => InTrbProcessingStatus::Disconnect,
-        _ => InTrbProcessingStatus::Success,
     }
 }
 
@@ -179,11 +169,8 @@ fn release_of(number: u64) -> Option<GuestRelease>
 fn one_region(fields: Fields) -> Option<Call>
     ensures { result ≡ one_region fields }
 {
-    if !script_fields::within_limits(fields, &[u64::MAX, MAX_WINDOW as u64]) {
-        return None;
-    }
-    let window = guest_memory::guest_regions(fields.numbers[0], fields.numbers[1] as usize, 0, 0);
-    Some(Call::Window(window))
+    let [base, length] = script_fields::within(fields, [u64::MAX, MAX_WINDOW as u64])?;
+    Some(Call::Window(guest_memory::guest_regions(base, length as usize, 0, 0)))
 }
 
 // `w BASE LEN BASE LEN`
@@ -191,23 +178,16 @@ fn one_region(fields: Fields) -> Option<Call>
 fn two_regions(fields: Fields) -> Option<Call>
     ensures { result ≡ two_regions fields }
 {
-    if !script_fields::within_limits(
+    let [low_base, low, high_base, high] = script_fields::within(
         fields,
-        &[u64::MAX, MAX_WINDOW as u64, u64::MAX, MAX_WINDOW as u64],
-    ) {
-        return None;
-    }
-    let low_length = fields.numbers[1] as usize;
-    let high_length = fields.numbers[3] as usize;
+        [u64::MAX, MAX_WINDOW as u64, u64::MAX, MAX_WINDOW as u64],
+    )?;
+    let low_length = low as usize;
+    let high_length = high as usize;
     if MAX_WINDOW < low_length + high_length {
         return None;
     }
-    let window = guest_memory::guest_regions(
-        fields.numbers[0],
-        low_length,
-        fields.numbers[2],
-        high_length,
-    );
+    let window = guest_memory::guest_regions(low_base, low_length, high_base, high_length);
     Some(Call::Window(window))
 }
 
@@ -227,10 +207,11 @@ fn window(fields: Fields) -> Option<Call>
 fn buffers(fields: Fields) -> Option<Call>
     ensures { result ≡ buffers_call fields }
 {
-    if !script_fields::within_limits(fields, &[MAX_LENT_LOG as u64, MAX_LENT_COLLECT as u64]) {
-        return None;
-    }
-    Some(Call::Buffers(fields.numbers[0] as usize, fields.numbers[1] as usize))
+    let [log, collect] = script_fields::within(
+        fields,
+        [MAX_LENT_LOG as u64, MAX_LENT_COLLECT as u64],
+    )?;
+    Some(Call::Buffers(log as usize, collect as usize))
 }
 
 // `i EP SLOT`: as ported.
@@ -238,12 +219,12 @@ fn buffers(fields: Fields) -> Option<Call>
 fn ported_creation(fields: Fields) -> Option<Call>
     ensures { result ≡ ported_creation fields }
 {
-    if !script_fields::within_limits(fields, &[MAX_BYTE, MAX_BYTE]) {
-        return None;
-    }
-    let endpoint_id = EndpointId(fields.numbers[0] as u8);
-    let slot_id = SlotId(fields.numbers[1] as u8);
-    Some(Call::CreateIn(endpoint_id, slot_id, InMode::AsPorted))
+    let [endpoint, slot] = script_fields::within(fields, [MAX_BYTE, MAX_BYTE])?;
+    Some(Call::CreateIn(
+        EndpointId(endpoint as u8),
+        SlotId(slot as u8),
+        InMode::AsPorted,
+    ))
 }
 
 // `i EP SLOT MODE`
@@ -251,12 +232,12 @@ fn ported_creation(fields: Fields) -> Option<Call>
 fn mode_creation(fields: Fields) -> Option<Call>
     ensures { result ≡ mode_creation fields }
 {
-    if !script_fields::within_limits(fields, &[MAX_BYTE, MAX_BYTE, 1]) {
-        return None;
-    }
-    let endpoint_id = EndpointId(fields.numbers[0] as u8);
-    let slot_id = SlotId(fields.numbers[1] as u8);
-    Some(Call::CreateIn(endpoint_id, slot_id, mode_of(fields.numbers[2])))
+    let [endpoint, slot, mode] = script_fields::within(fields, [MAX_BYTE, MAX_BYTE, 1])?;
+    Some(Call::CreateIn(
+        EndpointId(endpoint as u8),
+        SlotId(slot as u8),
+        mode_of(mode),
+    ))
 }
 
 #[tactic(auto, unfolding(crate::specs::Calls::in_creation))]
@@ -275,12 +256,9 @@ fn in_creation(fields: Fields) -> Option<Call>
 fn four_creation(fields: Fields) -> Option<Call>
     ensures { result ≡ four_creation fields }
 {
-    if !script_fields::within_limits(fields, &[MAX_BYTE, MAX_BYTE]) {
-        return None;
-    }
-    let endpoint_id = EndpointId(fields.numbers[0] as u8);
-    let slot_id = SlotId(fields.numbers[1] as u8);
-    Some(Call::CreateControl(endpoint_id, slot_id, GuestRelease::Release4))
+    let [endpoint, slot] = script_fields::within(fields, [MAX_BYTE, MAX_BYTE])?;
+    let endpoint_id = EndpointId(endpoint as u8);
+    Some(Call::CreateControl(endpoint_id, SlotId(slot as u8), GuestRelease::Release4))
 }
 
 // `c EP SLOT RELEASE`
@@ -288,13 +266,9 @@ fn four_creation(fields: Fields) -> Option<Call>
 fn release_creation(fields: Fields) -> Option<Call>
     ensures { result ≡ release_creation fields }
 {
-    if !script_fields::within_limits(fields, &[MAX_BYTE, MAX_BYTE, u64::MAX]) {
-        return None;
-    }
-    let endpoint_id = EndpointId(fields.numbers[0] as u8);
-    let slot_id = SlotId(fields.numbers[1] as u8);
-    let release = release_of(fields.numbers[2])?;
-    Some(Call::CreateControl(endpoint_id, slot_id, release))
+    let [endpoint, slot, number] = script_fields::within(fields, [MAX_BYTE, MAX_BYTE, u64::MAX])?;
+    let release = release_of(number)?;
+    Some(Call::CreateControl(EndpointId(endpoint as u8), SlotId(slot as u8), release))
 }
 
 #[tactic(auto, unfolding(crate::specs::Calls::control_creation))]
@@ -361,10 +335,8 @@ fn row_trb(fields: Fields) -> Option<Call>
 fn completion_with_result(fields: Fields) -> Option<Call>
     ensures { result ≡ result_call fields }
 {
-    if !script_fields::within_limits(fields, &[4, MAX_SCRIPT_DATA as u64]) {
-        return None;
-    }
-    Some(Call::CompleteWithResult(status_of(fields.numbers[0]), fields.numbers[1] as usize))
+    let [status, n] = script_fields::within(fields, [4, MAX_SCRIPT_DATA as u64])?;
+    Some(Call::Complete(Some(status_of(status)), n as usize))
 }
 
 // `l N`
@@ -372,21 +344,16 @@ fn completion_with_result(fields: Fields) -> Option<Call>
 fn completion_without(fields: Fields) -> Option<Call>
     ensures { result ≡ no_result_call fields }
 {
-    if !script_fields::within_limits(fields, &[MAX_SCRIPT_DATA as u64]) {
-        return None;
-    }
-    Some(Call::CompleteWithout(fields.numbers[0] as usize))
+    let [n] = script_fields::within(fields, [MAX_SCRIPT_DATA as u64])?;
+    Some(Call::Complete(None, n as usize))
 }
 
 // `x`
-#[tactic(auto, unfolding(crate::specs::Calls::cancel_call))]
+#[tactic(auto, unfolding(crate::specs::Calls::cancel_call, script_fields::specs::Fields::within_limits, script_fields::specs::Fields::all_at_most))]
 fn cancel(fields: Fields) -> Option<Call>
     ensures { result ≡ cancel_call fields }
 {
-    if !script_fields::within_limits(fields, &[]) {
-        return None;
-    }
-    Some(Call::Cancel)
+    (fields.count == 0).then_some(Call::Cancel)
 }
 
 // `p STATE`
@@ -394,10 +361,8 @@ fn cancel(fields: Fields) -> Option<Call>
 fn in_state(fields: Fields) -> Option<Call>
     ensures { result ≡ in_state_call fields }
 {
-    if !script_fields::within_limits(fields, &[3]) {
-        return None;
-    }
-    Some(Call::MakeUpIn(in_state_of(fields.numbers[0])))
+    let [state] = script_fields::within(fields, [3])?;
+    Some(Call::MakeUpIn(in_state_of(state)))
 }
 
 // `p PHASE STATE DIRECTION LENGTH`
@@ -405,17 +370,9 @@ fn in_state(fields: Fields) -> Option<Call>
 fn control_state(fields: Fields) -> Option<Call>
     ensures { result ≡ control_state_call fields }
 {
-    if !script_fields::within_limits(fields, &[4, 2, 1, MAX_WORD]) {
-        return None;
-    }
-    let phase = control_block::phase_of(fields.numbers[0] as u8);
-    let state = control_state_of(fields.numbers[1]);
-    Some(Call::MakeUpControl(
-        phase,
-        state,
-        fields.numbers[2] == 1,
-        fields.numbers[3] as u32,
-    ))
+    let [phase, state, direction, n] = script_fields::within(fields, [4, 2, 1, MAX_WORD])?;
+    let phase = control_block::phase_of(phase as u8);
+    Some(Call::MakeUpControl(phase, control_state_of(state), direction == 1, n as u32))
 }
 
 #[tactic(auto, unfolding(crate::specs::Calls::make_up_call))]
@@ -434,10 +391,8 @@ fn made_up(fields: Fields) -> Option<Call>
 fn row_result(fields: Fields) -> Option<Call>
     ensures { result ≡ row_result_call fields }
 {
-    if !script_fields::within_limits(fields, &[3, MAX_WORD]) {
-        return None;
-    }
-    Some(Call::AppendResult(in_status_of(fields.numbers[0]), fields.numbers[1] as u32))
+    let [status, n] = script_fields::within(fields, [3, MAX_WORD])?;
+    Some(Call::AppendResult(answer_numbers::status_of(status as u8), n as u32))
 }
 
 // `r N`: the row call.
@@ -445,10 +400,8 @@ fn row_result(fields: Fields) -> Option<Call>
 fn row_completion(fields: Fields) -> Option<Call>
     ensures { result ≡ row_call fields }
 {
-    if !script_fields::within_limits(fields, &[MAX_SCRIPT_DATA as u64]) {
-        return None;
-    }
-    Some(Call::CompleteRow(fields.numbers[0] as usize))
+    let [n] = script_fields::within(fields, [MAX_SCRIPT_DATA as u64])?;
+    Some(Call::CompleteRow(n as usize))
 }
 
 // `t SECONDS MICROSECONDS`: the time of what follows.
@@ -456,10 +409,11 @@ fn row_completion(fields: Fields) -> Option<Call>
 fn time(fields: Fields) -> Option<Call>
     ensures { result ≡ time_call fields }
 {
-    if !script_fields::within_limits(fields, &[MAX_WORD, MAX_WORD]) {
-        return None;
-    }
-    Some(Call::Time(fields.numbers[0] as u32, fields.numbers[1] as u32))
+    let [seconds, microseconds] = script_fields::within(fields, [MAX_WORD, MAX_WORD])?;
+    Some(Call::Time(CaptureTime {
+        seconds: seconds as u32,
+        microseconds: microseconds as u32,
+    }))
 }
 
 // `m BUS DEVICE TYPE`: what captures say of the endpoint.
@@ -467,15 +421,13 @@ fn time(fields: Fields) -> Option<Call>
 fn captured(fields: Fields) -> Option<Call>
     ensures { result ≡ capture_call fields }
 {
-    if !script_fields::within_limits(fields, &[MAX_BUS, MAX_BYTE, u64::MAX]) {
-        return None;
-    }
-    let transfer_type = transfer_type_of(fields.numbers[2])?;
-    Some(Call::Captured(
-        fields.numbers[0] as u16,
-        fields.numbers[1] as u8,
-        transfer_type,
-    ))
+    let [bus, device, number] = script_fields::within(fields, [MAX_BUS, MAX_BYTE, u64::MAX])?;
+    let transfer_type = transfer_type_of(number)?;
+    let device = UsbDevice {
+        bus_number: bus as u16,
+        device_address: device as u8,
+    };
+    Some(Call::Captured(device, transfer_type))
 }
 
 // The call of a letter and numbers.
@@ -508,13 +460,13 @@ fn numbered_call(fields: Fields) -> Option<Call>
 fn raw_call(fields: RawFields) -> Option<Call>
     ensures { result ≡ raw_call fields }
 {
-    if fields.letter != b'u' || fields.count != 1 {
+    if fields.before.letter != b'u' || fields.before.count != 1 {
         return None;
     }
     let decoded = raw_trb_decoder::decode(fields.bytes);
     Some(Call::Submit(TransferTrb {
         variant: decoded.variant,
-        addr: fields.first,
+        addr: fields.before.numbers[0],
         cycle_bit: decoded.cycle_bit,
     }))
 }
@@ -543,7 +495,7 @@ pub enum RawLine {
 fn decoding(fields: RawFields) -> Option<RawLine>
     ensures { result ≡ decode_line fields }
 {
-    if fields.letter != b'd' || fields.count != 0 {
+    if fields.before.letter != b'd' || fields.before.count != 0 {
         return None;
     }
     Some(RawLine::Decode(raw_trb_decoder::decode(fields.bytes)))

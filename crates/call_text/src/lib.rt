@@ -1,8 +1,7 @@
 // The lines that answer a call.
 #![tactic(auto)]
 
-ghost use Rattle.std.specs.Prelude.{◌≡◌, cond, ◌++◌, ◌+◌, ◌*◌, min, length, take};
-ghost use Rattle.trb.specs.Limits.{record_length};
+ghost use Rattle.std.specs.Prelude.{◌≡◌, cond, ◌++◌, ◌+◌, length};
 ghost use Rattle.numerals.specs.Digits.{decimal_of, hex_of};
 ghost use Rattle.numerals.specs.Widths.{decimal_places};
 ghost use Rattle.text.specs.Wrote.{HasRoom, Wrote};
@@ -25,6 +24,7 @@ fn put_numbered(text: &mut Text<'_>, word: &[u8], n: u32)
 }
 
 // Writes a space and a number in decimal.
+// This, the same in hex and of bytes (`state_text`) differ in what stands behind the space: a closure for that makes it no plainer.
 pub fn put_decimal_behind(text: &mut Text<'_>, n: u32)
     requires { HasRoom max_decimal text.old }
     ensures { Wrote max_decimal text.old (behind (decimal_of n)) text.new }
@@ -139,22 +139,7 @@ pub fn put_carried_out(text: &mut Text<'_>, number: u8)
     text.put_char(b'\n');
 }
 
-// ---- Records
-
-// Bytes of so many records, or all `room` bytes of a log that has not so many.
-fn records_length(records: usize, room: usize) -> usize
-    ensures { result ≡ min (record_length * records) room }
-{
-    records.saturating_mul(trb::RECORD_LENGTH).min(room)
-}
-
-// The first so many records of a log.
-pub fn first_records(log: &[u8], records: usize) -> &[u8]
-    ensures { result.now ≡ take (record_length * records) log.now }
-{
-    let end = records_length(records, log.len());
-    &log[..end]
-}
+// ---- Counts
 
 // A count as a number of 32 bits, which every count of a block or a call is.
 pub fn count(n: usize) -> u32

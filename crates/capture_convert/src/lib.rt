@@ -25,12 +25,13 @@ struct Added {
 }
 
 // The first 16 bytes of the record that `rest` starts with, resized.
+// `ResizableRecord` is a fact of the bytes that are left and of what their header is to have, and of no one of these.
 fn resized_head(rest: &[u8], added: Added) -> [u8; RECORD_HEADER_LENGTH]
     requires { ResizableRecord added.from added.to rest.now }
     ensures { result ≡ head (le_field 0 4 rest.now) (le_field 4 4 rest.now) (48 + added.to + delivered_at rest.now) (original_at rest.now + added.to - added.from) }
 {
-    let original = buffers::le32(rest, 12) as usize;
-    let delivered = buffers::le32(rest, 52) as usize;
+    let original = capture_tests::original_at(rest) as usize;
+    let delivered = capture_tests::delivered_at(rest) as usize;
     capture_file::record_head(
         capture_tests::time_at(rest),
         (USB_HEADER_LENGTH + added.to + delivered) as u32,
@@ -55,7 +56,7 @@ fn write_record(rest: &[u8], added: Added, out: &mut Text<'_>)
     ensures { Wrote (64 + added.to + delivered_at rest.now) out.old (layout (resized added.to (record_at added.from rest.now))) out.new }
 {
     let start = FRONT_LENGTH + added.from;
-    let end = start + buffers::le32(rest, 52) as usize;
+    let end = start + capture_tests::delivered_at(rest) as usize;
     write_front(rest, added, out);
     out.put_word(&rest[start..end]);
 }
@@ -65,6 +66,7 @@ fn write_records(records: &[u8], added: Added, out: &mut Text<'_>)
     requires { Resizable added.from added.to records.now × HasRoom (length (resized_bytes added.from added.to records.now)) out.old }
     ensures { Wrote (length (resized_bytes added.from added.to records.now)) out.old (resized_bytes added.from added.to records.now) out.new }
 {
+    // No iterator: a record says its own length, and for this loop alone a type with an invariant and laws is no plainer.
     let mut rest = records;
     while !rest.is_empty() {
         write_record(rest, added, out);
@@ -129,6 +131,7 @@ fn length_of(src: &[u8], link: LinkType) -> Result<usize, Refusal>
 }
 
 // The length that a capture has once it is converted, or why it cannot be: 17, 18.
+#[tactic(auto, using(capture_file::proofs::FileLaws::headless), unfolding(trb::specs::Answers::refusal_of, trb::specs::Questions::first_no))]
 pub fn converted_length(src: &[u8]) -> Result<usize, Refusal>
     ensures { Measures src.now result }
 {

@@ -47,7 +47,7 @@ impl From<LinkType> for u32 {
 }
 
 impl LinkType {
-    // The link type of a number, if it is a known one.
+    // The link type of a number, if it is a known one. No `TryFrom`: that names an error, and each who asks here has an answer of his own.
     #[tactic(auto, unfolding(crate::specs::Files::link_of))]
     pub fn of(number: u32) -> Option<LinkType>
         ensures { result ≡ link_of number }

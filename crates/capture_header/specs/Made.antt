@@ -10,12 +10,11 @@ use Rattle.capture_record.specs.declared.InPipe.{InPipe}
 use Rattle.capture_record.specs.declared.InTransferType.{InTransferType}
 use Rattle.capture_record.specs.declared.InTransferType.TheVariants.{Interrupt, Bulk}
 use Rattle.capture_record.specs.declared.TransferError.{TransferError}
-use Rattle.capture_record.specs.declared.TransferError.TheVariants as failed
 use Rattle.capture_record.specs.declared.UsbDevice.{UsbDevice}
 use Rattle.capture_record.specs.declared.UsbHeader.{UsbHeader}
 use Rattle.capture_record.specs.declared.UsbSetup.{UsbSetup}
 use Rattle.capture_record.specs.Headers.{header_in}
-use Rattle.capture_record.specs.Events.{max_microseconds, submission, completion, control, with_setup, minus, header_of}
+use Rattle.capture_record.specs.Events.{max_microseconds, submission, completion, control, with_setup, minus, transfer_error, header_of}
 
 -- ---- The event that a header names
 
@@ -34,7 +33,7 @@ abbrev pub status_named : ℕ → InTrbProcessingStatus
 status_named n = cond (eqb n (minus 19)) device.Disconnect (cond (eqb n (minus 32)) device.Stall (cond (eqb n (minus 71)) device.TransactionError device.Success))
 
 abbrev pub error_named : ℕ → TransferError
-error_named n = cond (eqb n (minus 19)) failed.Disconnect (cond (eqb n (minus 32)) failed.Stall failed.TransactionError)
+error_named n = transfer_error (status_named n)
 
 -- the request that the setup bytes are, with a length
 abbrev pub request_named : UsbHeader → ℕ → UsbRequest

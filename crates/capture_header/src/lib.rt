@@ -3,12 +3,10 @@
 
 ghost use Rattle.std.specs.Prelude.{◌≡◌, ◌≤◌, length};
 ghost use Rattle.capture_record.specs.Headers.{header_in};
-ghost use Rattle.capture_header.specs.Made.{type_named, pipe_named, status_named, error_named, request_named, submission_named, control_named, in_named, event_named, count_named, made_again};
+ghost use Rattle.capture_header.specs.Made.{type_named, pipe_named, status_named, request_named, submission_named, control_named, in_named, event_named, count_named, made_again};
 
 use capture_file::CaptureTime;
-use capture_record::{
-    CaptureEvent, InPipe, InTransferType, Stamp, TransferError, UsbDevice, UsbHeader, UsbSetup,
-};
+use capture_record::{CaptureEvent, InPipe, InTransferType, Stamp, UsbDevice, UsbHeader, UsbSetup};
 use trb::{EndpointId, InTrbProcessingStatus, UsbRequest};
 
 // What 48 bytes say.
@@ -43,6 +41,7 @@ pub fn header_in(link: &[u8]) -> UsbHeader
 
 // ---- The event that a header names
 
+// 1 interrupt, any other number bulk: by a match that cannot fail, where `TryFrom` would.
 fn type_named(number: u8) -> InTransferType
     ensures { result ≡ type_named number }
 {
@@ -62,6 +61,7 @@ fn pipe_named(header: UsbHeader) -> InPipe
     }
 }
 
+// Any number but these three is success: by a match that cannot fail, where `TryFrom` would.
 fn status_named(status: u32) -> InTrbProcessingStatus
     ensures { result ≡ status_named status }
 {
@@ -70,16 +70,6 @@ fn status_named(status: u32) -> InTrbProcessingStatus
         capture_record::STALLED => InTrbProcessingStatus::Stall,
         capture_record::TRANSACTION_FAILED => InTrbProcessingStatus::TransactionError,
         _ => InTrbProcessingStatus::Success,
-    }
-}
-
-fn error_named(status: u32) -> TransferError
-    ensures { result ≡ error_named status }
-{
-    match status {
-        capture_record::DISCONNECTED => TransferError::Disconnect,
-        capture_record::STALLED => TransferError::Stall,
-        _ => TransferError::TransactionError,
     }
 }
 
@@ -100,7 +90,7 @@ fn request_named(header: UsbHeader, length: u32) -> UsbRequest
 fn submission_named(header: UsbHeader) -> UsbRequest
     ensures { result ≡ submission_named header }
 {
-    if 128 <= header.setup.request_type {
+    if capture_record::is_in_byte(header.setup.request_type) {
         request_named(header, header.length)
     } else {
         request_named(header, header.setup.length as u32)
@@ -112,15 +102,15 @@ fn control_named(header: UsbHeader) -> CaptureEvent
 {
     match header.event_type {
         capture_record::SUBMISSION => CaptureEvent::ControlSubmission(submission_named(header)),
-        capture_record::COMPLETION if 128 <= header.endpoint_address => {
+        capture_record::COMPLETION if capture_record::is_in_byte(header.endpoint_address) => {
             CaptureEvent::ControlCompletionIn(header.id)
         }
         capture_record::COMPLETION => {
             CaptureEvent::ControlCompletionOut(header.id, header.length)
         }
         _ if header.setup_flag == capture_record::WITH_SETUP => CaptureEvent::ControlError(
-            128 <= header.endpoint_address,
-            error_named(header.status),
+            capture_record::is_in_byte(header.endpoint_address),
+            capture_record::transfer_error(status_named(header.status)),
             request_named(header, header.setup.length as u32),
             header.length,
         ),

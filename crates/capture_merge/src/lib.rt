@@ -86,6 +86,7 @@ fn length_of(a: &[u8], b: &[u8], link: LinkType) -> Result<usize, Refusal>
 }
 
 // The length of two captures made one, or why they cannot be: 17, 19, 20.
+#[tactic(auto, using(capture_file::proofs::FileLaws::headless), unfolding(trb::specs::Answers::refusal_of, trb::specs::Questions::first_no))]
 pub fn merged_length(a: &[u8], b: &[u8]) -> Result<usize, Refusal>
     ensures { Measures a.now b.now result }
 {

@@ -14,7 +14,7 @@ use answer_numbers::Answered;
 use capture_file::CaptureTime;
 use capture_record::{CaptureEvent, InPipe, InTransferType, Stamp, TransferError, UsbDevice};
 use capture_writer::NotWritten;
-use trb::{EndpointId, InTrbProcessingStatus};
+use trb::EndpointId;
 
 // ---- Files
 
@@ -51,7 +51,7 @@ pub fn merge(first: &[u8], second: &[u8], output: &mut [u8]) -> u8
 // 02, R-2: the number of the reader's one question, where the input is no file that the writer can make. The reader gives an Option.
 const NO_CAPTURE: u32 = 22;
 
-// What the writer answers. No `answer_numbers::counted`: the writer's 24 is the number of no `Refusal`.
+// What the writer answers. `answer_numbers::counted` for any error would ask `u32: From<E>` and that trait's relation: no plainer.
 fn answered(written: Result<usize, NotWritten>) -> Answered
     ensures { written_by result ≡ in_numbers written }
 {
@@ -97,13 +97,7 @@ pub fn write_event(
 pub fn transfer_error(number: u8) -> TransferError
     ensures { result ≡ error_of number }
 {
-    match answer_numbers::status_of(number) {
-        InTrbProcessingStatus::Stall => TransferError::Stall,
-        InTrbProcessingStatus::Disconnect => TransferError::Disconnect,
-        InTrbProcessingStatus::TransactionError | InTrbProcessingStatus::Success => {
-            TransferError::TransactionError
-        }
-    }
+    capture_record::transfer_error(answer_numbers::status_of(number))
 }
 
 // An IN endpoint, of interrupt transfers or else of bulk ones.

@@ -13,6 +13,7 @@ use capture_record::UsbHeader;
 
 // What the record at a position gives: its time and header; where in the file its payload stands, and how long it is; where the
 // next record starts.
+// Places in the file and no slice: they are handed on to C, which has the file.
 #[derive(Clone, Copy)]
 pub struct CapturedRecord {
     pub time: CaptureTime,
@@ -31,8 +32,8 @@ fn is_made(rest: &[u8]) -> bool
     ensures { result ≡ made (record_at 0 rest.now) }
 {
     let time = capture_tests::time_at(rest);
-    let captured = buffers::le32(rest, 8);
-    let original = buffers::le32(rest, 12);
+    let captured = capture_tests::captured_at(rest);
+    let original = capture_tests::original_at(rest);
     let header = capture_header::header_in(&rest[RECORD_HEADER_LENGTH..FRONT_LENGTH]);
     time.microseconds <= capture_record::MAX_MICROSECONDS
         && original == captured
@@ -52,6 +53,7 @@ fn is_record(rest: &[u8]) -> bool
 fn count_records(records: &[u8]) -> Option<usize>
     ensures { in_count result ≡ count_of records.now }
 {
+    // No iterator: only a record that is found whole says where the next one starts, and one that is not ends the walk.
     let mut rest = records;
     let mut count = 0;
     while !rest.is_empty() {
@@ -95,7 +97,7 @@ pub fn read_record(input: &[u8], at: usize) -> Option<CapturedRecord>
     if !is_record(rest) {
         return None;
     }
-    let payload_length = buffers::le32(rest, 52) as usize;
+    let payload_length = capture_tests::delivered_at(rest) as usize;
     let payload_start = at + FRONT_LENGTH;
     Some(CapturedRecord {
         time: capture_tests::time_at(rest),

@@ -79,6 +79,13 @@ error_status failed.Disconnect = minus 19
 error_status failed.Stall = minus 32
 error_status failed.TransactionError = minus 71
 
+-- of a device result; Success, which is no failure, counts as a transaction error
+abbrev pub transfer_error : InTrbProcessingStatus → TransferError
+transfer_error device.Disconnect = failed.Disconnect
+transfer_error device.Stall = failed.Stall
+transfer_error device.TransactionError = failed.TransactionError
+transfer_error device.Success = failed.TransactionError
+
 -- minus 22 for a TRB error
 abbrev pub trb_error_status : ℕ
 trb_error_status = minus 22

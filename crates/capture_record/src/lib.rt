@@ -2,8 +2,8 @@
 // With `event_header` and `header_bytes` it ports pcap/packet.rs and pcap/meta.rs.
 #![tactic(auto)]
 
-ghost use Rattle.std.specs.Prelude.{◌≡◌};
-ghost use Rattle.capture_record.specs.Events.{odd, to_host, carries};
+ghost use Rattle.std.specs.Prelude.{◌≡◌, leb};
+ghost use Rattle.capture_record.specs.Events.{transfer_error, odd, to_host, carries};
 
 use capture_file::CaptureTime;
 use trb::{EndpointId, InTrbProcessingStatus, UsbRequest};
@@ -79,6 +79,19 @@ pub enum TransferError {
     TransactionError,
 }
 
+// The failure that a device result is. Success, which is none, counts as a transaction error.
+pub fn transfer_error(status: InTrbProcessingStatus) -> TransferError
+    ensures { result ≡ transfer_error status }
+{
+    match status {
+        InTrbProcessingStatus::Disconnect => TransferError::Disconnect,
+        InTrbProcessingStatus::Stall => TransferError::Stall,
+        InTrbProcessingStatus::TransactionError | InTrbProcessingStatus::Success => {
+            TransferError::TransactionError
+        }
+    }
+}
+
 // What is captured, but for its payload. `u64` is the identifier, the address of a TRB.
 #[derive(Clone, Copy)]
 pub enum CaptureEvent {
@@ -125,17 +138,24 @@ pub struct UsbHeader {
 }
 
 // Is the endpoint with this id an IN endpoint? Ports `endpoint_direction`.
-pub fn is_odd(byte: u8) -> bool
-    ensures { result ≡ odd byte }
+pub fn is_in(endpoint_id: EndpointId) -> bool
+    ensures { result ≡ odd endpoint_id.0 }
 {
-    byte % 2 == 1
+    endpoint_id.0 % 2 == 1
+}
+
+// Does bit 7 of a request type, or of an endpoint address, say IN?
+pub fn is_in_byte(byte: u8) -> bool
+    ensures { result ≡ leb 128 byte }
+{
+    128 <= byte
 }
 
 // Is the request IN?
 pub fn to_host(request: UsbRequest) -> bool
     ensures { result ≡ to_host request }
 {
-    128 <= request.request_type
+    is_in_byte(request.request_type)
 }
 
 // Does a record of the event carry its payload? Ports `packet_payload`. No `matches!`: two of the arms ask a question of their own.
@@ -143,7 +163,7 @@ pub fn carries(event: CaptureEvent) -> bool
     ensures { result ≡ carries event }
 {
     match event {
-        CaptureEvent::InCompletion(pipe, _, _) => is_odd(pipe.endpoint_id.0),
+        CaptureEvent::InCompletion(pipe, _, _) => is_in(pipe.endpoint_id),
         CaptureEvent::ControlSubmission(request) => !to_host(request),
         CaptureEvent::ControlCompletionIn(_) => true,
         _ => false,

@@ -90,8 +90,7 @@ fn run_line<W: Write>(
         before: progress.session,
         after: ran.left,
         call,
-        log: buffers.log,
-        records: ran.records,
+        rows: captured_calls::first_records(buffers.log, ran.records),
         collect: buffers.collect,
         data: buffers.data,
     };
@@ -121,6 +120,7 @@ fn run_input<R: Read, W: Write>(
     ensures same { SameBuffers buffers.old buffers.new }
 {
     let mut progress = started();
+    // A proved loop has to end, and nothing says that the input does: so its turns are counted, up to a number that no run uses up.
     for _ in 0..u64::MAX {
         match script_lines::next_line(reader, input)? {
             Found::Line(from, end) => {
@@ -146,6 +146,7 @@ const SHORTER_REGION: usize = call_script::MAX_WINDOW / 2;
 const OUTPUT: usize = 2 * 64 * trb::MAX_ROW + call_script::MAX_SCRIPT_DATA;
 
 // Writes the capture of the call script that the reader gives.
+// The buffers are made here as in `call_runner`: there is no heap, and a function cannot lend what lies in itself.
 pub fn run<R: Read, W: Write>(reader: &mut R, writer: &mut W) -> io::Result<()> {
     let mut piece = input_bytes::zeros::<{ script_lines::PIECE }>();
     let mut input = Input::new(&mut piece);
@@ -158,6 +159,7 @@ pub fn run<R: Read, W: Write>(reader: &mut R, writer: &mut W) -> io::Result<()> 
     let mut data = input_bytes::zeros::<{ call_script::MAX_SCRIPT_DATA }>();
     script_bytes::fill_device(&mut data);
     script_bytes::fill_guest(&mut longer, session::FIRST_BASE);
+    // OUTPUT has room for a header: no refusal comes.
     let header = capture_writer::write_file_header(&mut output).unwrap_or(0);
     writer.write_all(&output[..header.min(OUTPUT)])?;
     let mut buffers = LentBuffers {

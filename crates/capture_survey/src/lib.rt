@@ -11,6 +11,7 @@ fn survey_records(records: &[u8], extra: usize, most: u32) -> Option<Survey>
     requires { extra ≤ 16 }
     ensures { result ≡ survey_of extra most records.now }
 {
+    // No iterator: only a record that is found whole says where the next one starts, and one that is not ends the walk.
     let mut rest = records;
     let mut count = 0;
     let mut convertible = true;

@@ -13,8 +13,8 @@ use capture_file::{
 use capture_record::{CaptureEvent, Stamp, UsbHeader};
 
 // 02, R-2: why nothing is written, by the number of the question that said no. The buffer cannot take the whole header or record;
-// the microseconds or the captured length are out of range. A no is given back by hand: `trb::ask` answers a `Refusal`, and none has the
-// number 24.
+// the microseconds or the captured length are out of range.
+// Asked by an `if`: `trb::ask` answers a `Refusal`, of which none is 24, and `then_some(()).ok_or(..)?` is no plainer.
 #[derive(Clone, Copy)]
 pub enum NotWritten {
     OutputTooShort = 14,

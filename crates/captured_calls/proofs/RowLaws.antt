@@ -11,7 +11,7 @@ use lib.ListN.{length, take, drop, get_or, drop_of_length-le}
 use lib.Seq.{drop-cons}
 use Rattle.std.proofs.Common.{Option, None, Some, ne_eqb}
 use Rattle.std.specs.Bool.{MatchBool}
-use Rattle.std.specs.Option.{MatchOption, IfSome}
+use Rattle.std.specs.Option.{MatchOption}
 use Rattle.std.specs.List.{AllWithin, HoldsAt}
 use Rattle.trb.specs.Trbs.{chain_of}
 use Rattle.trb.specs.declared.TransferTrb.{TransferTrb}
@@ -102,10 +102,6 @@ module _ (cells : List (List ℕ)) where
   pub request-found : (r : Option ℕ) → First r → requests_in (map decode cells) ≡ request_at r cells
   request-found None h = no-requests cells h
   request-found (Some i) h = some-request cells i h.0 h.1 h.2
-
-  pub request-below : (r : Option ℕ) → First r → IfSome r (λ i. i < length cells)
-  request-below None h = tt
-  request-below (Some i) h = h.0
 
 -- ---- The TDs of a row
 

@@ -17,11 +17,12 @@ mod capture;
 
 use call_log::Record;
 pub use capture::Capture;
+use capture_calls::CapturedTransfer;
 use capture_record::{CaptureEvent, InPipe, InTransferType, Stamp};
 use row_walk::TdResult;
 use trb::{
     ControlRequestProcessingResult, ControlSubmissionState, EndpointId, InTrbProcessingStatus,
-    TdBasedNormalSubmissionState, TransferTrb, UsbRequest,
+    TdBasedNormalSubmissionState, TransferTrb,
 };
 
 // What captures say from here on: whose transfers they are and when, and what an IN endpoint's are.
@@ -49,25 +50,25 @@ fn put(capture: &mut Capture<'_>, event: Option<CaptureEvent>, payload: &[u8])
 // ---- Submissions
 
 // So many of a log's first records, each by its bytes, or as many as the log has.
-fn first_records(log: &[u8], records: usize) -> &[[u8; trb::RECORD_LENGTH]]
+// Rows, since each is decoded: `call_log::first_records` gives the bytes as they stand, to print and to carry out.
+pub fn first_records(log: &[u8], records: usize) -> &[[u8; trb::RECORD_LENGTH]]
     ensures { map decode result.now ≡ logged_records records log.now }
 {
     let rows = call_log::records(log);
     &rows[..records.min(rows.len())]
 }
 
-// The requests among a log's first records, each with this payload: a record's event, if it gives one, is what `event` answers.
+// The requests among these records, each with this payload: a record's event, if it gives one, is what `event` answers.
 fn put_requests<F: Fn(Record) -> Option<CaptureEvent>>(
     capture: &mut Capture<'_>,
     event: F,
-    log: &[u8],
-    records: usize,
+    rows: &[[u8; trb::RECORD_LENGTH]],
     payload: &[u8],
 )
     requires { F.IsAlwaysCallable event }
-    ensures { RequestsLaid (F.post event) payload.now (logged_records records log.now) capture.old capture.new }
+    ensures { RequestsLaid (F.post event) payload.now (map decode rows.now) capture.old capture.new }
 {
-    for cells in first_records(log, records) {
+    for cells in rows {
         put(capture, event(call_log::decoded(cells)), payload);
     }
 }
@@ -81,39 +82,35 @@ fn in_pipe(setting: Setting, endpoint_id: EndpointId) -> InPipe
     }
 }
 
-// A submission on an IN endpoint that logged so many records.
+// A submission on an IN endpoint that logged these records.
 pub fn put_in_submission(
     capture: &mut Capture<'_>,
     endpoint_id: EndpointId,
-    log: &[u8],
-    records: usize,
+    rows: &[[u8; trb::RECORD_LENGTH]],
 )
-    ensures { Laid (in_submission_capture (captured_of capture.old.setting) (pipe_of capture.old.setting endpoint_id) (logged_records records log.now)) capture.old capture.new }
+    ensures { Laid (in_submission_capture (captured_of capture.old.setting) (pipe_of capture.old.setting endpoint_id) (map decode rows.now)) capture.old capture.new }
 {
     let pipe = in_pipe(capture.setting, endpoint_id);
     put_requests(
         capture,
         |record| capture_calls::in_request_event(pipe, record),
-        log,
-        records,
+        rows,
         &[],
     );
 }
 
-// A submission on a control endpoint, with the bytes that are collected.
+// The same on a control endpoint, with the bytes that are collected.
 pub fn put_control_submission(
     capture: &mut Capture<'_>,
-    log: &[u8],
-    records: usize,
+    rows: &[[u8; trb::RECORD_LENGTH]],
     collected: &[u8],
 )
-    ensures { Laid (request_captures (captured_of capture.old.setting) control_request_event collected.now (logged_records records log.now)) capture.old capture.new }
+    ensures { Laid (request_captures (captured_of capture.old.setting) control_request_event collected.now (map decode rows.now)) capture.old capture.new }
 {
     put_requests(
         capture,
         capture_calls::control_request_event,
-        log,
-        records,
+        rows,
         collected,
     );
 }
@@ -140,15 +137,13 @@ pub fn put_in_completion(
 pub fn put_control_completion(
     capture: &mut Capture<'_>,
     state: ControlSubmissionState,
-    direction: bool,
-    request: UsbRequest,
-    collected: u32,
+    transfer: CapturedTransfer,
     res: Option<ControlRequestProcessingResult>,
     data: &[u8],
 )
-    ensures { Laid (writer_call (captured_of capture.old.setting) (control_completion_event state direction request collected res) «data».now) capture.old capture.new }
+    ensures { Laid (writer_call (captured_of capture.old.setting) (control_completion_event state transfer.direction transfer.request transfer.collected res) «data».now) capture.old capture.new }
 {
-    let record = capture_calls::control_completion_event(state, direction, request, collected, res);
+    let record = capture_calls::control_completion_event(state, transfer, res);
     put(capture, record, data);
 }
 
@@ -225,22 +220,21 @@ fn put_td<'a>(
     &rows[index + 1..]
 }
 
-// A row, with the results of its TDs and their joined data, that logged so many records: each TD that has a Normal and was started, its
+// A row, with the results of its TDs and their joined data, that logged these records: each TD that has a Normal and was started, its
 // request and then its completion.
 pub fn put_row(
     capture: &mut Capture<'_>,
     endpoint_id: EndpointId,
     row: &[TransferTrb],
     results: &[TdResult],
-    log: &[u8],
-    records: usize,
+    logged: &[[u8; trb::RECORD_LENGTH]],
     data: &[u8],
 )
-    ensures { Laid (row_captures (captured_of capture.old.setting) (pipe_of capture.old.setting endpoint_id) (row_tds row.now results.now) (requests_in (logged_records records log.now)) «data».now) capture.old capture.new }
+    ensures { Laid (row_captures (captured_of capture.old.setting) (pipe_of capture.old.setting endpoint_id) (row_tds row.now results.now) (requests_in (map decode logged.now)) «data».now) capture.old capture.new }
 {
     let mut trbs = row;
     let mut bytes = data;
-    let mut rows = first_records(log, records);
+    let mut rows = logged;
     for given in results {
         let (td, other_trbs) = trbs.split_at(td_length(trbs));
         let (own, other_bytes) = bytes.split_at((given.length as usize).min(bytes.len()));

@@ -40,7 +40,7 @@ fn writes_in_range(log: &[u8], available: usize, regions: Regions) -> bool
     ))
 }
 
-// Carries out one record, in the region that holds its range.
+// Carries out one record, in the region that holds its range; ports the bus's `write_bulk`.
 fn perform_write(record: Record, data: &[u8], memory: &mut GuestMemory<'_>)
     requires { write_in_range (length «data».now) (regions_of (lent memory.old)) «record» ≡ true }
     ensures after { lent memory.new ≡ after_record «data».now (lent memory.old) «record» }
@@ -48,16 +48,12 @@ fn perform_write(record: Record, data: &[u8], memory: &mut GuestMemory<'_>)
 {
     if moves_bytes(record) {
         let start = record.start as usize;
-        let count = record.length as usize;
+        let bytes = &data[start..start + record.length as usize];
         let regions = memory.regions();
         match guest_memory::place_range(regions, record.address, record.length) {
             Place::Outside => {}
-            Place::InLow(offset) => {
-                guest_memory::write_bulk(memory.low, offset, data, start, count);
-            }
-            Place::InHigh(offset) => {
-                guest_memory::write_bulk(memory.high, offset, data, start, count);
-            }
+            Place::InLow(offset) => buffers::copy_into(memory.low, offset, bytes),
+            Place::InHigh(offset) => buffers::copy_into(memory.high, offset, bytes),
         }
     }
 }

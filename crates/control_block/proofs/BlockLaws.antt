@@ -29,4 +29,4 @@ pub freed-held : (e : Ending) (held : ℕ) → places_freed e held ≤ held
 freed-held KeepCollecting held = omega arith
 freed-held (ReportBadTrb a) held = omega arith
 freed-held (Fail c r) held = omega arith
-freed-held (Realize input n) held = omega arith
+freed-held (Realize given) held = omega arith

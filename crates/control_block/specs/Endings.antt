@@ -1,5 +1,5 @@
 -- 01, Control endpoint: what a completion does. Assumes nothing.
-use Rattle.std.specs.Prelude.{ℕ, true, false, None, Option, Some}
+use Rattle.std.specs.Prelude.{ℕ, None, Option, Some}
 use Rattle.trb.specs.declared.CompletionCode.TheVariants.{UsbTransactionError, StallError}
 use Rattle.trb.specs.declared.ControlRequestProcessingResult.{ControlRequestProcessingResult}
 use Rattle.trb.specs.declared.ControlRequestProcessingResult.TheVariants as device
@@ -18,8 +18,8 @@ request_ending None n = KeepCollecting
 request_ending (Some device.Disconnect) n = Fail UsbTransactionError result.Disconnect
 request_ending (Some device.Stall) n = Fail StallError result.Stall
 request_ending (Some device.TransactionError) n = Fail UsbTransactionError result.TransactionError
-request_ending (Some device.SuccessfulControlIn) n = Realize true n
-request_ending (Some device.SuccessfulControlOut) n = Realize false 0
+request_ending (Some device.SuccessfulControlIn) n = Realize (Some n)
+request_ending (Some device.SuccessfulControlOut) n = Realize None
 
 -- TRBs still being collected are kept; a bad TRB is reported. (A submission that is due is refused by question 3.)
 abbrev pub ending_of : ControlSubmissionState → Option ControlRequestProcessingResult → ℕ → Ending
@@ -34,14 +34,14 @@ abbrev pub result_of : Ending → TrbProcessingResult
 result_of KeepCollecting = result.Ok
 result_of (ReportBadTrb a) = result.TrbError
 result_of (Fail c r) = r
-result_of (Realize input n) = result.Ok
+result_of (Realize given) = result.Ok
 
 -- 01, Questions asked: TRBs still being collected are kept; after any other completion nothing is held
 abbrev pub places_freed : Ending → ℕ → ℕ
 places_freed KeepCollecting held = 0
 places_freed (ReportBadTrb a) held = held
 places_freed (Fail c r) held = held
-places_freed (Realize input n) held = held
+places_freed (Realize given) held = held
 
 -- phase becomes ExpectSetupStageTrb after a bad TRB; after Unrecognized it stays
 abbrev pub phase_behind : ControlSubmissionState → ControlTransferState → ControlTransferState

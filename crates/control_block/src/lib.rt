@@ -5,7 +5,7 @@
 ghost use Rattle.std.specs.Prelude.{◌≡◌, ◌<◌};
 ghost use Rattle.trb.specs.Limits.{max_held};
 ghost use Rattle.control_block.specs.Numbers.{release_of, phase_of};
-ghost use Rattle.control_block.specs.Blocks.{no_transfer, at_phase, fresh_block, held_of, stored, advanced};
+ghost use Rattle.control_block.specs.Blocks.{no_transfer, at_phase, fresh_block, held_of, stored, emptied, advanced};
 ghost use Rattle.control_block.specs.Facts.{facts_of, sound_block, submission_due, awaits_device};
 ghost use Rattle.control_block.specs.Endings.{request_ending, ending_of, result_of, places_freed, phase_behind};
 ghost use Rattle.control_block.specs.Stages.{stage_address, address_for, error_address, stage_with, found_address};
@@ -44,7 +44,7 @@ pub struct ControlBlock {
     pub release: GuestRelease,
     pub state: ControlSubmissionState,
     pub transfer: ControlTransfer,
-    // Of the places, the first so many are held. Places and their count, since there is no heap; question 2 asks any block for the bound.
+    // Of the places, the first so many are held. A count and no `ArrayVec`: any count is a block, and question 2 asks for the bound.
     pub held: usize,
     pub trbs: [TransferTrb; trb::MAX_HELD],
 }
@@ -56,7 +56,7 @@ pub fn held_of(block: &ControlBlock) -> &[TransferTrb]
     &block.trbs[..held::places_held(block.held)]
 }
 
-// ---- Numbers that stand for a case, in a block in bytes and in a script: any number is one
+// ---- Numbers that stand for a case, in a block in bytes: any number is one. A script has the phases so too, and its own releases.
 
 // The release rule by its number: 5 is release 5, any other release 4.
 pub fn release_of(number: u8) -> GuestRelease
@@ -124,13 +124,21 @@ pub fn at_phase(transfer: ControlTransfer, phase: ControlTransferState) -> Contr
     ControlTransfer { phase, ..transfer }
 }
 
-// One TRB more is held. `in_block` has the same: what the two share is the store to a place, which is one line.
+// One TRB more is held. As in `in_block`: shared it would be a struct of places and count, and every definition of a block of that.
 pub fn store(block: &mut ControlBlock, t: TransferTrb)
     requires { block.old.held < max_held }
     ensures { block.new ≡ stored block.old t }
 {
     block.trbs[block.held] = t;
     block.held += 1;
+}
+
+// Nothing is held any more.
+pub fn empty(block: &mut ControlBlock)
+    ensures { block.new ≡ emptied block.old }
+{
+    held::clear(&mut block.trbs, block.held);
+    block.held = 0;
 }
 
 // The transfer is at this, and so is the endpoint.
@@ -215,8 +223,8 @@ pub enum Ending {
     ReportBadTrb(u64),
     // The device failed: one event with this code, and this result.
     Fail(CompletionCode, TrbProcessingResult),
-    // The TRBs held are realized: on IN, with so many bytes of device data.
-    Realize(bool, u32),
+    // The TRBs held are realized: on IN, with so many bytes of device data; on OUT there are none.
+    Realize(Option<u32>),
 }
 
 // What the device's answer to a request comes to.
@@ -237,11 +245,10 @@ fn request_ending(res: Option<ControlRequestProcessingResult>, data_length: u32)
             CompletionCode::UsbTransactionError,
             TrbProcessingResult::TransactionError,
         ),
-        Some(ControlRequestProcessingResult::SuccessfulControlIn) => Ending::Realize(
-            true,
-            data_length,
-        ),
-        Some(ControlRequestProcessingResult::SuccessfulControlOut) => Ending::Realize(false, 0),
+        Some(ControlRequestProcessingResult::SuccessfulControlIn) => {
+            Ending::Realize(Some(data_length))
+        }
+        Some(ControlRequestProcessingResult::SuccessfulControlOut) => Ending::Realize(None),
     }
 }
 
@@ -269,7 +276,7 @@ pub fn result_of(ending: Ending) -> TrbProcessingResult
     ensures { result ≡ result_of ending }
 {
     match ending {
-        Ending::KeepCollecting | Ending::Realize(_, _) => TrbProcessingResult::Ok,
+        Ending::KeepCollecting | Ending::Realize(_) => TrbProcessingResult::Ok,
         Ending::ReportBadTrb(_) => TrbProcessingResult::TrbError,
         Ending::Fail(_, result) => result,
     }
@@ -315,17 +322,13 @@ pub enum StageFound {
 pub fn stage_with(so_far: StageFound, t: TransferTrb) -> StageFound
     ensures { result ≡ stage_with so_far t }
 {
-    match so_far {
-        StageFound::Neither(_) => match t.variant {
-            TransferTrbVariant::DataStage(_) => StageFound::DataStage(t.addr),
-            TransferTrbVariant::StatusStage(_) => StageFound::StatusStage(t.addr),
-            _ => so_far,
-        },
-        StageFound::StatusStage(_) => match t.variant {
-            TransferTrbVariant::DataStage(_) => StageFound::DataStage(t.addr),
-            _ => so_far,
-        },
-        StageFound::DataStage(_) => so_far,
+    match (so_far, t.variant) {
+        (StageFound::DataStage(_), _) => so_far,
+        (_, TransferTrbVariant::DataStage(_)) => StageFound::DataStage(t.addr),
+        (StageFound::Neither(_), TransferTrbVariant::StatusStage(_)) => {
+            StageFound::StatusStage(t.addr)
+        }
+        _ => so_far,
     }
 }
 

@@ -198,6 +198,7 @@ fn held_type(kind: u8) -> u8
 }
 
 // The first `count` places, each by its bytes, where so many are held.
+// Of the other layout likewise: what both read is one line over `HEAD`, and what they promise is of two layouts.
 pub fn held_places(block: &[u8], count: usize) -> &[[u8; held_bytes::PLACE]]
     requires { (block_length ≤ length block.now) × ((count ≤ (block_of block.now).held) × (count ≤ max_held)) }
     ensures trbs { map place_of result.now ≡ take count (block_of block.now).trbs }

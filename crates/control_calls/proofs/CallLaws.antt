@@ -17,7 +17,7 @@ use Rattle.trb.specs.declared.SlotId.{SlotId}
 use Rattle.trb.specs.declared.TransferTrb.{TransferTrb}
 use Rattle.call_log.specs.Calls.{Out, Meets}
 use Rattle.call_script.specs.declared.Call.{Call}
-use Rattle.call_script.specs.declared.Call.TheVariants.{Window, Buffers, CreateIn, CreateControl, Submit, CompleteWithResult, CompleteWithout, Cancel, Hold, MakeUpIn, MakeUpControl, AppendTrb, AppendResult, CompleteRow, Time, Captured}
+use Rattle.call_script.specs.declared.Call.TheVariants.{Window, Buffers, CreateIn, CreateControl, Submit, Complete, Cancel, Hold, MakeUpIn, MakeUpControl, AppendTrb, AppendResult, CompleteRow, Time, Captured}
 use Rattle.call_script.specs.declared.DeviceStatus.{DeviceStatus}
 use Rattle.call_log.specs.Logs.{logged}
 use Rattle.text.specs.declared.Text.{Text}
@@ -131,25 +131,24 @@ collected-behind {k = k} b t lent collect log m e h =
 -- ---- The calls that are none on a control endpoint
 
 module _ (b : ControlBlock) (lent : ℕ) (bytes collect log : List ℕ) (m : Memory) where
-  pub bad-call : (call : Call) → ((t : TransferTrb) → call ≡ Submit t → ⊥) → ((s : DeviceStatus) (n : ℕ) → call ≡ CompleteWithResult s n → ⊥) → ((n : ℕ) → call ≡ CompleteWithout n → ⊥) → (call ≡ Cancel → ⊥)
+  pub bad-call : (call : Call) → ((t : TransferTrb) → call ≡ Submit t → ⊥) → ((s : Option DeviceStatus) (n : ℕ) → call ≡ Complete s n → ⊥) → (call ≡ Cancel → ⊥)
       → ((t : TransferTrb) → call ≡ Hold t → ⊥) → ((phase : ControlTransferState) (state : ControlSubmissionState) (direction : Bool) (n : ℕ) → call ≡ MakeUpControl phase state direction n → ⊥) → control_call b call bytes lent collect log m ≡ called (bad_said b) log m
   unfolding control_call
-  bad-call (Window window) submit with_result without cancel hold make_up = refl
-  bad-call (Buffers l c) submit with_result without cancel hold make_up = refl
-  bad-call (CreateIn e s mode) submit with_result without cancel hold make_up = refl
-  bad-call (CreateControl e s release) submit with_result without cancel hold make_up = refl
-  bad-call (Submit t) submit with_result without cancel hold make_up = absurd (submit t refl)
-  bad-call (CompleteWithResult s n) submit with_result without cancel hold make_up = absurd (with_result s n refl)
-  bad-call (CompleteWithout n) submit with_result without cancel hold make_up = absurd (without n refl)
-  bad-call Cancel submit with_result without cancel hold make_up = absurd (cancel refl)
-  bad-call (Hold t) submit with_result without cancel hold make_up = absurd (hold t refl)
-  bad-call (MakeUpIn state) submit with_result without cancel hold make_up = refl
-  bad-call (MakeUpControl phase state direction n) submit with_result without cancel hold make_up = absurd (make_up phase state direction n refl)
-  bad-call (AppendTrb t) submit with_result without cancel hold make_up = refl
-  bad-call (AppendResult s n) submit with_result without cancel hold make_up = refl
-  bad-call (CompleteRow n) submit with_result without cancel hold make_up = refl
-  bad-call (Time seconds microseconds) submit with_result without cancel hold make_up = refl
-  bad-call (Captured bus address transfer_type) submit with_result without cancel hold make_up = refl
+  bad-call (Window window) submit complete cancel hold make_up = refl
+  bad-call (Buffers l c) submit complete cancel hold make_up = refl
+  bad-call (CreateIn e s mode) submit complete cancel hold make_up = refl
+  bad-call (CreateControl e s release) submit complete cancel hold make_up = refl
+  bad-call (Submit t) submit complete cancel hold make_up = absurd (submit t refl)
+  bad-call (Complete s n) submit complete cancel hold make_up = absurd (complete s n refl)
+  bad-call Cancel submit complete cancel hold make_up = absurd (cancel refl)
+  bad-call (Hold t) submit complete cancel hold make_up = absurd (hold t refl)
+  bad-call (MakeUpIn state) submit complete cancel hold make_up = refl
+  bad-call (MakeUpControl phase state direction n) submit complete cancel hold make_up = absurd (make_up phase state direction n refl)
+  bad-call (AppendTrb t) submit complete cancel hold make_up = refl
+  bad-call (AppendResult s n) submit complete cancel hold make_up = refl
+  bad-call (CompleteRow n) submit complete cancel hold make_up = refl
+  bad-call (Time time) submit complete cancel hold make_up = refl
+  bad-call (Captured device transfer_type) submit complete cancel hold make_up = refl
 
 module _ (b : ControlBlock) (lent : ℕ) (collect log : List ℕ) (m : Memory) where
   -- a call that submits nothing leaves the collect buffer
@@ -160,8 +159,7 @@ module _ (b : ControlBlock) (lent : ℕ) (collect log : List ℕ) (m : Memory) w
   kept-collect (CreateIn e s mode) submit = refl
   kept-collect (CreateControl e s release) submit = refl
   kept-collect (Submit t) submit = absurd (submit t refl)
-  kept-collect (CompleteWithResult s n) submit = refl
-  kept-collect (CompleteWithout n) submit = refl
+  kept-collect (Complete s n) submit = refl
   kept-collect Cancel submit = refl
   kept-collect (Hold t) submit = refl
   kept-collect (MakeUpIn state) submit = refl
@@ -169,5 +167,5 @@ module _ (b : ControlBlock) (lent : ℕ) (collect log : List ℕ) (m : Memory) w
   kept-collect (AppendTrb t) submit = refl
   kept-collect (AppendResult s n) submit = refl
   kept-collect (CompleteRow n) submit = refl
-  kept-collect (Time seconds microseconds) submit = refl
-  kept-collect (Captured bus address transfer_type) submit = refl
+  kept-collect (Time time) submit = refl
+  kept-collect (Captured device transfer_type) submit = refl

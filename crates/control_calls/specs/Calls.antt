@@ -22,7 +22,7 @@ use Rattle.state_text.specs.declared.ControlStanding.{ControlStanding}
 use Rattle.call_answer.specs.Answers.{answer_text, carried_out, completion_text, completion_memory}
 use Rattle.call_answer.specs.Called.{Said, bad_said, silent_said, answered_said, Called, called, Runs}
 use Rattle.call_script.specs.declared.Call.{Call}
-use Rattle.call_script.specs.declared.Call.TheVariants.{Submit, CompleteWithResult, CompleteWithout, Cancel, Hold, MakeUpControl}
+use Rattle.call_script.specs.declared.Call.TheVariants.{Submit, Complete, Cancel, Hold, MakeUpControl}
 use Rattle.call_script.specs.declared.DeviceStatus.{DeviceStatus}
 use Rattle.call_script.specs.declared.DeviceStatus.TheVariants as device
 use Rattle.control_block.specs.Blocks.{stored, advanced}
@@ -43,12 +43,9 @@ collected_bytes b collect = take (min b.transfer.collected max_collected) collec
 -- what the block is at, with the whole collect buffer
 abbrev pub standing : ControlBlock → List ℕ → ControlStanding
 standing b collect = record {
-  phase = b.transfer.phase;
+  transfer = b.transfer;
   state = b.state;
   held = count_of b.held;
-  direction = b.transfer.direction;
-  request = b.transfer.request;
-  collected = count_of b.transfer.collected;
   sum = weighted_sum 0 0 (collected_bytes b collect);
 }
 
@@ -124,12 +121,16 @@ result_of device.TransactionError = result.TransactionError
 result_of device.Disconnect = result.Disconnect
 result_of device.SuccessfulControlOut = result.SuccessfulControlOut
 
+-- a result that a script gives, or none
+abbrev pub result_given : Option DeviceStatus → Option ControlRequestProcessingResult
+result_given (Some s) = Some (result_of s)
+result_given None = None
+
 -- a call on the endpoint, of whose device these bytes are, with so many bytes of the collect buffer lent. (Those that are none on an endpoint, or not on this
 -- one, are bad lines.)
 unfoldable pub control_call : ControlBlock → Call → List ℕ → ℕ → List ℕ → List ℕ → Memory → Called ControlBlock
 control_call b (Submit t) bytes lent collect log m = submit_call b t lent collect log m
-control_call b (CompleteWithResult s n) bytes lent collect log m = complete_call b (Some (result_of s)) (take n bytes) collect log m
-control_call b (CompleteWithout n) bytes lent collect log m = complete_call b None (take n bytes) collect log m
+control_call b (Complete s n) bytes lent collect log m = complete_call b (result_given s) (take n bytes) collect log m
 control_call b Cancel bytes lent collect log m = called (cancel_call b collect) log m
 control_call b (Hold t) bytes lent collect log m = called (hold_call b t) log m
 control_call b (MakeUpControl phase state direction n) bytes lent collect log m = called (silent_said (made_up b phase state direction n)) log m

@@ -1,4 +1,5 @@
 // The calls of a script on a control endpoint.
+// As `in_calls`, over another block: a trait for both would have a method and a law for each call, and the collect buffer for one.
 #![tactic(auto)]
 
 ghost use Rattle.std.specs.Prelude.{◌≡◌, ◌≤◌, length};
@@ -7,7 +8,7 @@ ghost use Rattle.text.specs.Wrote.{HasRoom};
 ghost use Rattle.state_text.specs.Widths.{max_state, max_answer};
 ghost use Rattle.guest_memory.specs.Lent.{seen, lent, SameRegions};
 ghost use Rattle.call_answer.specs.Called.{silent_said, ran_of, Says, Runs};
-ghost use Rattle.control_calls.specs.Calls.{standing, create_call, collect_after, submit_call, complete_call, cancel_call, hold_call, made_up, result_of, control_call, collect_behind, Stated, RunsWith};
+ghost use Rattle.control_calls.specs.Calls.{standing, create_call, collect_after, submit_call, complete_call, cancel_call, hold_call, made_up, result_of, result_given, control_call, collect_behind, Stated, RunsWith};
 
 use call_answer::Ran;
 use call_script::{Call, DeviceStatus};
@@ -24,20 +25,12 @@ use trb::{
 fn standing(block: ControlBlock, collect: &[u8]) -> ControlStanding
     ensures { result ≡ standing block collect.now }
 {
-    let ControlTransfer {
-        phase,
-        direction,
-        request,
-        collected,
-    } = block.transfer;
+    let collected = block.transfer.collected;
     let summed = collected.min(trb::MAX_COLLECTED).min(collect.len());
     ControlStanding {
-        phase,
+        transfer: block.transfer,
         state: block.state,
         held: call_text::count(block.held),
-        direction,
-        request,
-        collected: call_text::count(collected),
         sum: script_bytes::weighted_sum(&collect[..summed]),
     }
 }
@@ -116,7 +109,7 @@ fn complete(
     answered(text, completed.block, collect, completed.records)
 }
 
-// A device result of a script as a control endpoint takes it.
+// A device result of a script as a control endpoint takes it. A table, and no `From`: both types are other crates'.
 pub fn result_of(status: DeviceStatus) -> ControlRequestProcessingResult
     ensures { result ≡ result_of status }
 {
@@ -127,6 +120,13 @@ pub fn result_of(status: DeviceStatus) -> ControlRequestProcessingResult
         DeviceStatus::Disconnect => ControlRequestProcessingResult::Disconnect,
         DeviceStatus::SuccessfulControlOut => ControlRequestProcessingResult::SuccessfulControlOut,
     }
+}
+
+// The result that a call gives, if it gives one.
+fn result_given(status: Option<DeviceStatus>) -> Option<ControlRequestProcessingResult>
+    ensures { result ≡ result_given status }
+{
+    status.map(|s| result_of(s))
 }
 
 fn cancel(text: &mut Text<'_>, block: ControlBlock, collect: &[u8]) -> Ran<ControlBlock>
@@ -188,14 +188,10 @@ pub fn run(
 {
     match call {
         Call::Submit(t) => submit(text, log, collect, collect_lent, block, t, &memory.view()),
-        Call::CompleteWithResult(status, n) => {
+        Call::Complete(status, n) => {
             let given = &data[..n.min(data.len())];
-            let result = Some(result_of(status));
+            let result = result_given(status);
             complete(text, log, collect, block, result, given, memory)
-        }
-        Call::CompleteWithout(n) => {
-            let given = &data[..n.min(data.len())];
-            complete(text, log, collect, block, None, given, memory)
         }
         Call::Cancel => cancel(text, block, collect),
         Call::Hold(t) => hold(block, t),

@@ -1,5 +1,6 @@
 -- Laws of what a completion logs: it is a walk over the TRBs that are freed, and one event more at most; 1,024 records at most.
 -- Assumes nothing.
+use Rattle.std.specs.Prelude.{is_some, unwrap_or}
 use Prim.Native.Nat.{ℕ, ◌+◌, ◌*◌, ◌≤◌}
 use mathlib.Core.Path.{◌≡◌, refl, ap}
 use mathlib.Core.List.{List, [], ◌∷◌, ◌++◌, append-nil}
@@ -33,7 +34,7 @@ pub kept_next : (x : Ending) (td : TdInfo) (w : TdProgress) (t : TransferTrb) �
 kept_next KeepCollecting td w t g = kept-silent td w g
 kept_next (ReportBadTrb bad) td w t g = kept-dropped td w t g
 kept_next (Fail c r) td w t g = kept-silent td w g
-kept_next (Realize input n) td w t g = kept-trb (record { info = td; input = input }) w t g
+kept_next (Realize given) td w t g = kept-trb (record { info = td; input = is_some given }) w t g
 
 -- the walk over the TRBs that a completion frees
 abbrev pub ending_walker : Ending → TdInfo → Walker TdProgress TransferTrb
@@ -60,7 +61,7 @@ module _ (a : ℕ) (e : EndpointId) (s : SlotId) (ts : List TransferTrb) (n : �
   walk-ending (ReportBadTrb bad) =
       ap (λ (rs : List Record). rs ++ (event_of bad TrbError e s ∷ [])) (walk-dropped (info_of (ReportBadTrb bad) e s) at_start (take n ts))
   walk-ending (Fail c r) = ap (λ (rs : List Record). rs ++ (event_of a c e s ∷ [])) (walk-silent at_start (take n ts))
-  walk-ending (Realize input m) = append-nil _
+  walk-ending (Realize given) = append-nil _
 
 -- 01, The log: a call writes at most 1,024 records
 module _ (a : ℕ) (e : EndpointId) (s : SlotId) (ts : List TransferTrb) (few : length ts ≤ max_held) where
@@ -70,8 +71,8 @@ module _ (a : ℕ) (e : EndpointId) (s : SlotId) (ts : List TransferTrb) (few : 
   length-ending (ReportBadTrb bad) =
       omega (arith, few, length-successes e s ts, length-append (successes e s ts) (event_of bad TrbError e s ∷ []))
   length-ending (Fail c r) = lit≤ tt
-  length-ending (Realize input m) =
-      omega (arith, few, length-walk (chain_walker (transfer_td e s input m)) at_start ts (record { within = omega arith }))
+  length-ending (Realize given) =
+      omega (arith, few, length-walk (chain_walker (transfer_td e s (is_some given) (unwrap_or given 0))) at_start ts (record { within = omega arith }))
 
 -- records behind records
 pub put-behind : (l l' l'' : List ℕ) (k : ℕ) (rs ss : List Record) → record_length * (k + length rs) ≤ length l

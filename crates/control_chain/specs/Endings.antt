@@ -1,5 +1,5 @@
 -- 01, Control endpoint: what a completion logs, by what it does. Assumes nothing.
-use Rattle.std.specs.Prelude.{ℕ, Bool, false, List, [], ◌∷◌, ◌++◌}
+use Rattle.std.specs.Prelude.{ℕ, Bool, false, List, [], ◌∷◌, ◌++◌, is_some, unwrap_or}
 use Rattle.trb.specs.declared.CompletionCode.{CompletionCode}
 use Rattle.trb.specs.declared.CompletionCode.TheVariants.{TrbError}
 use Rattle.trb.specs.declared.EndpointId.{EndpointId}
@@ -30,7 +30,7 @@ unfoldable pub ending_records : Ending → ℕ → EndpointId → SlotId → Lis
 ending_records KeepCollecting a e s ts = []
 ending_records (ReportBadTrb bad) a e s ts = successes e s ts ++ (event_of bad TrbError e s ∷ [])
 ending_records (Fail c r) a e s ts = event_of a c e s ∷ []
-ending_records (Realize input n) a e s ts = (realize_chain (transfer_td e s input n) ts).records
+ending_records (Realize given) a e s ts = (realize_chain (transfer_td e s (is_some given) (unwrap_or given 0)) ts).records
 
 -- ---- The same, TRB by TRB
 
@@ -39,7 +39,7 @@ abbrev pub data_counted : Ending → ℕ
 data_counted KeepCollecting = 0
 data_counted (ReportBadTrb bad) = 0
 data_counted (Fail c r) = 0
-data_counted (Realize input n) = n
+data_counted (Realize given) = unwrap_or given 0
 
 abbrev pub info_of : Ending → EndpointId → SlotId → TdInfo
 info_of x e s = record { endpoint_id = e; slot_id = s; data_length = data_counted x }
@@ -49,11 +49,11 @@ abbrev pub next_trb : Ending → TdInfo → TdProgress → TransferTrb → Out T
 next_trb KeepCollecting td w t = silent w
 next_trb (ReportBadTrb bad) td w t = report_dropped td w t
 next_trb (Fail c r) td w t = silent w
-next_trb (Realize input n) td w t = realize_trb (record { info = td; input = input }) w t
+next_trb (Realize given) td w t = realize_trb (record { info = td; input = is_some given }) w t
 
 -- the event behind those of the TRBs held
 abbrev pub last_records : Ending → ℕ → EndpointId → SlotId → List Record
 last_records KeepCollecting a e s = []
 last_records (ReportBadTrb bad) a e s = event_of bad TrbError e s ∷ []
 last_records (Fail c r) a e s = event_of a c e s ∷ []
-last_records (Realize input n) a e s = []
+last_records (Realize given) a e s = []

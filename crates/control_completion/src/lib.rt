@@ -4,15 +4,15 @@
 ghost use Rattle.std.specs.Prelude.{length};
 ghost use Rattle.control_endpoint.specs.Completion.{Completes};
 
-use control_block::{ControlBlock, ControlTransfer};
+use control_block::{ControlBlock, Ending};
 use control_endpoint::Completed;
 use trb::{ControlRequestProcessingResult, ControlSubmissionState};
 
 // Completes the TRB that was submitted last. With SuccessfulControlIn the device's bytes are `data`, of which only the length is read.
-// The places are copied once.
+// The block is changed where it lies: copies of it are most of what a call costs.
 pub fn next_completion(
     log: &mut [u8],
-    block: ControlBlock,
+    mut block: ControlBlock,
     res: Option<ControlRequestProcessingResult>,
     data: &[u8],
 ) -> Completed
@@ -41,23 +41,16 @@ pub fn next_completion(
                 block.endpoint_id,
                 block.slot_id,
             );
-            let mut trbs = block.trbs;
-            held::clear(&mut trbs, freed);
-            let phase = control_block::phase_behind(block.state, block.transfer.phase);
-            let transfer = ControlTransfer {
-                phase,
-                ..block.transfer
-            };
+            block.transfer.phase = control_block::phase_behind(block.state, block.transfer.phase);
+            block.state = ControlSubmissionState::NoTrbSubmitted;
+            match ending {
+                Ending::KeepCollecting => {}
+                _ => control_block::empty(&mut block),
+            }
             Completed {
                 answer: Ok(control_block::result_of(ending)),
                 records,
-                block: ControlBlock {
-                    state: ControlSubmissionState::NoTrbSubmitted,
-                    transfer,
-                    held: block.held - freed,
-                    trbs,
-                    ..block
-                },
+                block,
             }
         }
     }

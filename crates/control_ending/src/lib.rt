@@ -18,13 +18,14 @@ pub fn info_of(ending: Ending, endpoint_id: EndpointId, slot_id: SlotId) -> TdIn
         endpoint_id,
         slot_id,
         data_length: match ending {
-            Ending::Realize(_, length) => length,
+            Ending::Realize(given) => given.unwrap_or(0),
             _ => 0,
         },
     }
 }
 
 // An event with residual 0 behind `count` records; returns how many there are then.
+// Log and count stay apart: the count comes of the walk's progress and goes into what the call returns, both without the log.
 fn put_event(
     log: &mut [u8],
     count: usize,
@@ -56,7 +57,7 @@ pub fn log_ending(
     ensures { Meets (counted count (last_records ending error_address endpoint_id slot_id)) count log.old result log.new }
 {
     match ending {
-        Ending::KeepCollecting | Ending::Realize(_, _) => count,
+        Ending::KeepCollecting | Ending::Realize(_) => count,
         Ending::ReportBadTrb(addr) => put_event(
             log,
             count,

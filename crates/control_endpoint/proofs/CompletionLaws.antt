@@ -72,7 +72,7 @@ module _ (b : ControlBlock) where
   freed-block KeepCollecting = freed-none b
   freed-block (ReportBadTrb a) = freed-all b
   freed-block (Fail c r) = freed-all b
-  freed-block (Realize input m) = freed-all b
+  freed-block (Realize given) = freed-all b
 
   -- the answer, the records and the block that a completion leaves
   pub completed-by : (x : Ending) (result : TrbProcessingResult) (n : ℕ) (phase : ControlTransferState) (freed : ℕ) (ts : List TransferTrb) → result ≡ result_of x

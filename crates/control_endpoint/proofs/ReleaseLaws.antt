@@ -72,21 +72,21 @@ module _ (e : EndpointId) (s : SlotId) (ts : List TransferTrb) (a c : ℕ) where
   records-besides KeepCollecting = refl
   records-besides (ReportBadTrb bad) = refl
   records-besides (Fail code r) = refl
-  records-besides (Realize input n) = refl
+  records-besides (Realize given) = refl
 
   count_same : (x : Ending) → length (ending_records x a e s ts) ≡ length (ending_records x c e s ts)
   unfolding ending_records
   count_same KeepCollecting = refl
   count_same (ReportBadTrb bad) = refl
   count_same (Fail code r) = refl
-  count_same (Realize input n) = refl
+  count_same (Realize given) = refl
 
   records-same : (x : Ending) → is_failure x ≡ false → ending_records x a e s ts ≡ ending_records x c e s ts
   unfolding ending_records
   records-same KeepCollecting works = refl
   records-same (ReportBadTrb bad) works = refl
   records-same (Fail code r) works = absurd (true≢false works)
-  records-same (Realize input n) works = refl
+  records-same (Realize given) works = refl
 
 module _ (one other : GuestRelease) (b : ControlBlock) where
   behind-under : (x : Ending) → under other (block_behind x (under one b)) ≡ under other (block_behind x (under other b))
@@ -94,7 +94,7 @@ module _ (one other : GuestRelease) (b : ControlBlock) where
   behind-under KeepCollecting = refl
   behind-under (ReportBadTrb a) = refl
   behind-under (Fail c r) = refl
-  behind-under (Realize input n) = refl
+  behind-under (Realize given) = refl
 
   accepted-under : (x : Ending) → completed_under other (completes.accepted x (under one b)) ≡ completed_under other (completes.accepted x (under other b))
   unfolding completes.accepted
@@ -219,5 +219,5 @@ module _ (b : ControlBlock) where
       by true KeepCollecting = refl
       by true (ReportBadTrb a) = refl
       by true (Fail c q) = refl
-      by true (Realize input m) = refl
+      by true (Realize given) = refl
       by false x = refl

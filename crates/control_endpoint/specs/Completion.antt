@@ -23,7 +23,7 @@ abbrev pub held_behind : Ending → ControlBlock → ControlBlock
 held_behind KeepCollecting b = b
 held_behind (ReportBadTrb a) b = emptied b
 held_behind (Fail c r) b = emptied b
-held_behind (Realize input n) b = emptied b
+held_behind (Realize given) b = emptied b
 
 -- length and collected bytes stay in every case; a submission is due
 unfoldable pub block_behind : Ending → ControlBlock → ControlBlock

@@ -49,4 +49,4 @@ abbrev pub is_failure : Ending → Bool
 is_failure KeepCollecting = false
 is_failure (ReportBadTrb a) = false
 is_failure (Fail c r) = true
-is_failure (Realize input n) = false
+is_failure (Realize given) = false

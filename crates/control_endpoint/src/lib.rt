@@ -26,6 +26,7 @@ pub fn places_dropped(restarts: bool, held: usize) -> usize
 // ---- Creation
 
 // A fresh block for this endpoint of this slot, and for guests of this release.
+// As `in_endpoint::create`: what the two share is one question; what is made is of two types, by two definitions.
 #[tactic(auto, unfolding(crate::specs::Creation::creation, trb::specs::Questions::first_no, trb::specs::Answers::refusal_of))]
 pub fn create(endpoint_id: EndpointId, slot_id: SlotId, release: GuestRelease) -> Created
     ensures { Creates endpoint_id slot_id release result }

@@ -9,14 +9,13 @@ ghost use Rattle.guest_memory.specs.Lent.{seen};
 ghost use Rattle.held_bytes.specs.Numbers.{trb_numbers, trb_of};
 ghost use Rattle.answer_numbers.specs.Numbers.{counted};
 ghost use Rattle.control_block.specs.Facts.{facts_of};
-ghost use Rattle.control_transfer.specs.Data.{data_of};
 ghost use Rattle.control_questions.specs.Completion.{completion_questions};
 ghost use Rattle.control_block.specs.Numbers.{release_of};
 ghost use Rattle.control_bytes.specs.Layout.{block_length, block_of};
 ghost use Rattle.control_in_place.specs.InPlace.{Asked, Acceptable, Accepts, CompletesAsByValue, lent_log, block_question, raw_trb, SubmitsInPlace, CompletesInPlace, result_of, CreatesInPlace};
 
 use answer_numbers::{Answered, CompletionAnswered};
-use control_transfer::TrbData;
+use control_numbers::NumberedTrb;
 use guest_memory::{GuestView, Regions};
 use held_bytes::TrbNumbers;
 use phase_table::Outcome;
@@ -27,39 +26,41 @@ use trb::{
 
 // ---- Submission
 
-// Questions 1, 13, 2 to 4, 21 and 5 to 7, of the block that the bytes are and a TRB, given by numbers, that moves this data: what becomes
-// of a TRB that none of them refuses.
+// Questions 1, 13, 2 to 4, 21 and 5 to 7, of the block that the bytes are and a TRB: what becomes of a TRB that none of them refuses.
 fn ask_submission(
     log_length: usize,
     collect_length: usize,
     block: &[u8],
-    numbers: TrbNumbers,
-    data: TrbData,
+    t: NumberedTrb,
     regions: Regions,
 ) -> Result<Outcome, Refusal>
-    requires { (block_length ≤ length block.now) × («data» ≡ data_of (trb_of numbers).variant) }
-    ensures { Asked log_length collect_length block.now (trb_of numbers) regions result }
+    requires { block_length ≤ length block.now }
+    ensures { Asked log_length collect_length block.now (trb_of t.numbers) regions result }
 {
     let facts = control_bytes::facts(block);
-    let outcome = control_numbers::outcome_of(facts.phase, numbers);
-    control_questions::ask_submission(log_length, collect_length, facts, outcome, data, regions)?;
+    let outcome = control_numbers::outcome_of(facts.phase, t.numbers);
+    control_questions::ask_submission(
+        log_length,
+        collect_length,
+        facts,
+        outcome,
+        t.moved,
+        regions,
+    )?;
     Ok(outcome)
 }
 
-// What a TRB that no question refuses, given by numbers, that moves this data, logs, collects and stores; returns how many records were
-// logged.
+// What a TRB that no question refuses logs, collects and stores; returns how many records were logged.
 fn accept_trb(
     log: &mut [u8],
     collect: &mut [u8],
     block: &mut [u8],
     outcome: Outcome,
-    data: TrbData,
-    numbers: TrbNumbers,
+    t: NumberedTrb,
     memory: &GuestView<'_>,
 ) -> usize
-    requires data_value { «data» ≡ data_of (trb_of numbers).variant }
-    requires acceptable { Acceptable log.old collect.old block.old (trb_of numbers) (seen memory.now) outcome }
-    ensures { Accepts log.old collect.old block.old (trb_of numbers) (seen memory.now) outcome result log.new collect.new block.new }
+    requires { Acceptable log.old collect.old block.old (trb_of t.numbers) (seen memory.now) outcome }
+    ensures { Accepts log.old collect.old block.old (trb_of t.numbers) (seen memory.now) outcome result log.new collect.new block.new }
 {
     let transfer = control_bytes::transfer(block);
     let records = control_places::log_submission(log, block, outcome);
@@ -68,10 +69,10 @@ fn accept_trb(
         outcome,
         transfer.direction,
         transfer.collected,
-        data,
+        t.moved,
         memory,
     );
-    control_stores::take_trb(block, outcome, data, numbers);
+    control_stores::take_trb(block, outcome, t);
     records
 }
 
@@ -86,13 +87,16 @@ fn submit(
     ensures { SubmitsInPlace (lent_log log.old block.old) (trb_of numbers) (seen memory.now) log.old collect.old block.old (counted result) log.new collect.new block.new }
 {
     trb::ask(control_bytes::BLOCK <= block.len(), Refusal::BufferTooShort)?;
-    let data = control_numbers::data_of(numbers);
+    let t = NumberedTrb {
+        numbers,
+        moved: control_numbers::data_of(numbers),
+    };
     let regions = memory.regions();
-    let outcome = ask_submission(log.len(), collect.len(), block, numbers, data, regions)?;
-    Ok(accept_trb(log, collect, block, outcome, data, numbers, memory))
+    let outcome = ask_submission(log.len(), collect.len(), block, t, regions)?;
+    Ok(accept_trb(log, collect, block, outcome, t, memory))
 }
 
-// Of a TRB that is given by these numbers. Both submissions call it: what is not inlined takes plain numbers.
+// Of a TRB that is given by these numbers: both submissions call it, it is not inlined, and a struct of them would go through memory.
 fn submit_numbers(
     log: &mut [u8],
     collect: &mut [u8],
@@ -185,7 +189,7 @@ fn ask_completion(
     control_questions::ask_completion(log_length, facts, res, data_length)
 }
 
-// Of a row of bytes that is long enough for a block.
+// Asks, and completes what was submitted last, in bytes that are enough for a block.
 fn complete(
     log: &mut [u8],
     block: &mut [u8],
@@ -215,6 +219,7 @@ fn complete(
     }
 }
 
+// The device result by its number, as `next_completion` takes it. No `TryFrom`: any other number is no error, but that no result is given.
 fn result_of(status: u8) -> Option<ControlRequestProcessingResult>
     ensures { result ≡ result_of status }
 {
@@ -250,6 +255,7 @@ pub fn next_completion(
 
 // The bytes become a fresh block for this endpoint of this slot, for guests of this release: 5, or any other number for 4. Where an id is
 // refused, both are 0; where the bytes are too few for a block, they stay.
+// As `in_place::create`: what the two share is one question; what is made is of two layouts, by two definitions.
 pub fn create(block: &mut [u8], endpoint_id: u8, slot_id: u8, release: u8) -> Answer
     ensures { CreatesInPlace (record { 0 = endpoint_id }) (record { 0 = slot_id }) (release_of release) block.old (number_of result) block.new }
 {

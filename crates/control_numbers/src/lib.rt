@@ -11,9 +11,12 @@ ghost use Rattle.control_transfer.specs.Data.{data_of};
 ghost use Rattle.control_transfer.specs.Transfers.{begun};
 ghost use Rattle.control_numbers.specs.Transfers.{size_taken};
 
+mod numbered;
+
 use control_block::ControlTransfer;
 use control_transfer::TrbData;
 use held_bytes::TrbNumbers;
+pub use numbered::NumberedTrb;
 use phase_table::{Outcome, TrbKind};
 use trb::ControlTransferState;
 
@@ -39,7 +42,7 @@ fn kind_of(kind: u8) -> TrbKind
 pub fn outcome_of(phase: ControlTransferState, numbers: TrbNumbers) -> Outcome
     ensures { result ≡ trb_outcome phase (trb_of numbers).variant }
 {
-    let chain = held_bytes::bit(numbers.flags, 2);
+    let chain = held_bytes::bit(numbers.flags, held_bytes::CHAIN);
     phase_table::outcome_of(phase, kind_of(numbers.kind), chain)
 }
 
@@ -52,9 +55,9 @@ pub fn data_of(numbers: TrbNumbers) -> TrbData
         raw_trb::NORMAL | raw_trb::DATA_STAGE => TrbData {
             data_pointer: numbers.value,
             transfer_length: numbers.transfer_length,
-            immediate_data: held_bytes::bit(numbers.flags, 16),
+            immediate_data: held_bytes::bit(numbers.flags, held_bytes::IMMEDIATE_DATA),
         },
-        _ => control_transfer::no_data(),
+        _ => TrbData::default(),
     }
 }
 

@@ -96,14 +96,14 @@ unfolding ending_records
 silent-completion KeepCollecting b l e = meets-silent 0 l refl
 silent-completion (ReportBadTrb a) b l e = let z : ◌≡◌ {A = ℕ} 0 1 = cc in absurd (omega arith)
 silent-completion (Fail c r) b l e = let z : ◌≡◌ {A = ℕ} 0 1 = cc in absurd (omega arith)
-silent-completion (Realize input n) b l e = let z : ◌≡◌ {A = ℕ} 0 1 = cc in absurd (omega arith)
+silent-completion (Realize given) b l e = let z : ◌≡◌ {A = ℕ} 0 1 = cc in absurd (omega arith)
 
 -- how many records there are behind the walk depends on the ending alone
 pub length_last : (x : Ending) (a a' : ℕ) (e e' : EndpointId) (s s' : SlotId) → length (last_records x a e s) ≡ length (last_records x a' e' s')
 length_last KeepCollecting a a' e e' s s' = refl
 length_last (ReportBadTrb bad) a a' e e' s s' = refl
 length_last (Fail c r) a a' e e' s s' = refl
-length_last (Realize input n) a a' e e' s s' = refl
+length_last (Realize given) a a' e e' s s' = refl
 
 module _ (b : ControlBlock) (x : Ending) (td : TdInfo) (d : ℕ) (l l' : List ℕ) (w : TdProgress) (few : b.held ≤ max_held) (long : min_log ≤ length l)
     (own : td ≡ info_of x b.endpoint_id b.slot_id) (frees : d ≡ places_freed x b.held) (m : Meets (walk (next_trb x td) never at_start (take d b.trbs)) 0 l w l') where
@@ -125,7 +125,7 @@ pub event-elsewhere : (x : Ending) (b : ControlBlock) (a : ℕ) → ((code : Com
 event-elsewhere KeepCollecting b a other e s = refl
 event-elsewhere (ReportBadTrb address) b a other e s = refl
 event-elsewhere (Fail code r) b a other e s = absurd (other code r refl)
-event-elsewhere (Realize input n) b a other e s = refl
+event-elsewhere (Realize given) b a other e s = refl
 
 pub error-at : (x : Ending) (b : ControlBlock) (a : ℕ) → a ≡ error_address b → EventAt x b a
 error-at x b a h e s = ap (λ (n : ℕ). last_records x n e s) h

@@ -21,7 +21,7 @@ abbrev pub is_collecting : Ending → Bool
 is_collecting KeepCollecting = true
 is_collecting (ReportBadTrb a) = false
 is_collecting (Fail c r) = false
-is_collecting (Realize input n) = false
+is_collecting (Realize given) = false
 
 -- an address is right for the last event: where the transfer failed it is the error's, otherwise it does not matter
 abbrev pub EventAt : Ending → ControlBlock → ℕ → Type 0

@@ -21,11 +21,7 @@ const INPUT: usize = 4;
 fn in_range(m: usize) -> Option<usize>
     ensures { result ≡ in_range m }
 {
-    if shape_lines::MIN_SHAPE <= m && m <= shape_lines::MAX_SHAPE {
-        Some(m)
-    } else {
-        None
-    }
+    (shape_lines::MIN_SHAPE <= m && m <= shape_lines::MAX_SHAPE).then_some(m)
 }
 
 // One character as a length.

@@ -62,7 +62,7 @@ module _ (b : List ℕ) where
   freed-places KeepCollecting = none-freed
   freed-places (ReportBadTrb a) = all-freed
   freed-places (Fail c r) = all-freed
-  freed-places (Realize input n) = all-freed
+  freed-places (Realize given) = all-freed
 
 -- the bytes behind the block, of those behind its head
 behind-block : (b b' : List ℕ) → drop head_length b' ≡ drop head_length b → drop block_length b' ≡ drop block_length b

@@ -5,7 +5,6 @@ ghost use Rattle.std.specs.Prelude.{◌≡◌, true, ◌-◌, ◌<◌, ◌≤◌
 ghost use Rattle.trb.specs.Limits.{max_held, max_collected};
 ghost use Rattle.held_bytes.specs.Numbers.{trb_of};
 ghost use Rattle.phase_table.specs.Outcomes.{holds, restarts, state_after};
-ghost use Rattle.control_transfer.specs.Data.{data_of};
 ghost use Rattle.control_transfer.specs.Transfers.{transfer_after};
 ghost use Rattle.control_bytes.specs.Layout.{head_length, block_length, block_of};
 ghost use Rattle.control_bytes.specs.Stores.{Headed};
@@ -14,7 +13,7 @@ ghost use Rattle.control_endpoint.specs.Completion.{block_behind};
 ghost use Rattle.control_stores.specs.Becomes.{Holdable, Held, Becomes};
 
 use control_block::{ControlTransfer, Ending};
-use control_transfer::TrbData;
+use control_numbers::NumberedTrb;
 use held_bytes::TrbNumbers;
 use phase_table::Outcome;
 use trb::ControlSubmissionState;
@@ -32,19 +31,19 @@ fn hold_trb(block: &mut [u8], outcome: Outcome, numbers: TrbNumbers, kept: usize
     }
 }
 
-// The head after a TRB of this outcome, given by numbers, that moves this data; `transfer` is what the block knows of its transfer.
+// The head after a TRB of this outcome; `transfer` is what the block knows of its transfer.
 fn advance(
     block: &mut [u8],
     outcome: Outcome,
     transfer: ControlTransfer,
-    data: TrbData,
-    numbers: TrbNumbers,
+    t: NumberedTrb,
     held: usize,
 )
     requires head_length_in_bounds { (head_length ≤ length block.old) × (held < 2 ^ 32) }
-    requires transfer_value { (transfer ≡ (block_of block.old).transfer) × ((transfer.collected ≤ max_collected) × («data» ≡ data_of (trb_of numbers).variant)) }
-    ensures { Headed block.old (transfer_after outcome (trb_of numbers).variant numbers.addr transfer) (state_after outcome numbers.addr) held block.new }
+    requires transfer_value { (transfer ≡ (block_of block.old).transfer) × (transfer.collected ≤ max_collected) }
+    ensures { Headed block.old (transfer_after outcome (trb_of t.numbers).variant t.numbers.addr transfer) (state_after outcome t.numbers.addr) held block.new }
 {
+    let numbers = t.numbers;
     let before = transfer.phase;
     let phase = phase_table::phase_after(before, outcome);
     let state = phase_table::state_after(outcome, numbers.addr);
@@ -53,23 +52,23 @@ fn advance(
         control_bytes::put_head(block, begun, state, held);
         return;
     }
-    let size = control_numbers::size_taken(outcome, data);
+    let size = control_numbers::size_taken(outcome, t.moved);
     let grown = control_transfer::grow(transfer, size);
     control_bytes::put_turn(block, phase, state, transfer.direction);
     control_bytes::put_counts(block, grown.collected, grown.request.length, held);
 }
 
-// What a TRB of this outcome, given by numbers, that moves this data, makes of the block.
-pub fn take_trb(block: &mut [u8], outcome: Outcome, data: TrbData, numbers: TrbNumbers)
-    requires block_length_in_bounds { (block_length ≤ length block.old) × (((block_of block.old).held ≤ max_held) × (((block_of block.old).transfer.collected ≤ max_collected) × («data» ≡ data_of (trb_of numbers).variant))) }
-    requires holdable { holds outcome ≡ true → Holdable ((block_of block.old).held - places_dropped (restarts outcome) (block_of block.old).held) (trb_of numbers) }
-    ensures { Becomes block.old (block_after outcome (block_of block.old) (trb_of numbers)) block.new }
+// What a TRB of this outcome makes of the block.
+pub fn take_trb(block: &mut [u8], outcome: Outcome, t: NumberedTrb)
+    requires block_length_in_bounds { (block_length ≤ length block.old) × (((block_of block.old).held ≤ max_held) × ((block_of block.old).transfer.collected ≤ max_collected)) }
+    requires holdable { holds outcome ≡ true → Holdable ((block_of block.old).held - places_dropped (restarts outcome) (block_of block.old).held) (trb_of t.numbers) }
+    ensures { Becomes block.old (block_after outcome (block_of block.old) (trb_of t.numbers)) block.new }
 {
     let transfer = control_bytes::transfer(block);
     let held = control_bytes::held(block);
     let dropped = control_endpoint::places_dropped(phase_table::is_restart(outcome), held);
-    let next = hold_trb(block, outcome, numbers, held - dropped);
-    advance(block, outcome, transfer, data, numbers, next);
+    let next = hold_trb(block, outcome, t.numbers, held - dropped);
+    advance(block, outcome, transfer, t, next);
 }
 
 // What a completion that ends so makes of the block.

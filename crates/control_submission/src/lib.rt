@@ -67,8 +67,9 @@ pub fn submit_trb(
             );
             let before = block.transfer;
             let transfer = control_transfer::transfer_after(outcome, before, t.variant, t.addr);
-            held::clear(&mut block.trbs, dropped);
-            block.held -= dropped;
+            if restarts {
+                control_block::empty(&mut block);
+            }
             if phase_table::is_held(outcome) {
                 control_block::store(&mut block, t);
             }

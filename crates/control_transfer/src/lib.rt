@@ -10,7 +10,7 @@ ghost use Rattle.trb.specs.Limits.{record_length, max_collected};
 ghost use Rattle.guest_memory.specs.Places.{bytes_at};
 ghost use Rattle.guest_memory.specs.Lent.{seen};
 ghost use Rattle.call_log.specs.Calls.{Meets, counted};
-ghost use Rattle.control_transfer.specs.Data.{no_data, data_of, immediate_length, size_of, in_reach, bytes_of};
+ghost use Rattle.control_transfer.specs.Data.{data_of, immediate_length, size_of, in_reach, bytes_of};
 ghost use Rattle.control_transfer.specs.Transfers.{request_of, begun, lengthened, grown, taken_by, held_into, transfer_after, requests_of, collects, collectable};
 
 use control_block::ControlTransfer;
@@ -25,19 +25,12 @@ use trb::{
 // Bytes of an immediate TRB, at most.
 pub const MAX_IMMEDIATE: u32 = 8;
 
-// What a DataStage or Normal TRB moves.
+// What a DataStage or Normal TRB moves. By default nothing, as any other TRB.
 #[derive(Clone, Copy, Default)]
 pub struct TrbData {
     pub data_pointer: u64,
     pub transfer_length: u32,
     pub immediate_data: bool,
-}
-
-// The data of a TRB that moves nothing.
-pub fn no_data() -> TrbData
-    ensures { result ≡ no_data }
-{
-    TrbData::default()
 }
 
 // The data that a TRB moves; of any other than a Data Stage or Normal TRB, none.
@@ -55,7 +48,7 @@ pub fn data_of(variant: TransferTrbVariant) -> TrbData
             transfer_length: normal.transfer_length,
             immediate_data: normal.immediate_data,
         },
-        _ => no_data(),
+        _ => TrbData::default(),
     }
 }
 
@@ -150,6 +143,7 @@ pub fn instantiate_setup_trb(
 {
     ControlTransfer {
         phase,
+        // Bit 7: one comparison, of which a function in `trb`, where captures could share it, would make nothing plainer.
         direction: 128 <= setup_stage.request_type,
         request: request_of(setup_stage, addr),
         collected: 0,
@@ -231,6 +225,7 @@ pub fn transfer_after(
 }
 
 // Logs the request behind `count` records, where it goes to the device, and returns how many records there are then.
+// Log and count stay apart: the count comes of the walk's progress and goes into what the call returns, both without the log.
 pub fn log_request(
     log: &mut [u8],
     count: usize,

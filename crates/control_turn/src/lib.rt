@@ -64,7 +64,13 @@ pub fn next_trb(
     match ending {
         Ending::KeepCollecting | Ending::Fail(_, _) => progress,
         Ending::ReportBadTrb(_) => control_dropped::report_dropped(log, info, progress, t),
-        Ending::Realize(input, _) => realize_trb(log, ControlTd { info, input }, progress, t),
+        Ending::Realize(given) => {
+            let td = ControlTd {
+                info,
+                input: given.is_some(),
+            };
+            realize_trb(log, td, progress, t)
+        }
     }
 }
 

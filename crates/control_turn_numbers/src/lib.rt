@@ -31,7 +31,7 @@ fn realize_trb(
             log,
             td.info,
             progress,
-            held_bytes::bit(numbers.flags, 4),
+            held_bytes::bit(numbers.flags, held_bytes::INTERRUPT_ON_COMPLETION),
             addr,
         ),
         raw_trb::DATA_STAGE => {
@@ -68,8 +68,12 @@ pub fn next_trb(
             let t = held_bytes::trb_of(numbers);
             control_dropped::report_dropped(log, info, progress, t)
         }
-        Ending::Realize(input, _) => {
-            realize_trb(log, ControlTd { info, input }, progress, numbers)
+        Ending::Realize(given) => {
+            let td = ControlTd {
+                info,
+                input: given.is_some(),
+            };
+            realize_trb(log, td, progress, numbers)
         }
     }
 }

@@ -1,7 +1,7 @@
 -- The promise of `complete_and_carry_out`: a no leaves everything as it was; behind a yes to every question the log is the completion's, carry-out accepts it, and
 -- the frame is delivered whole. Assumes nothing.
 use Rattle.std.specs.Prelude.{Ok, Option}
-use Prim.Native.Nat.{ℕ, ◌*◌, ◌≤◌}
+use Prim.Native.Nat.{ℕ, ◌*◌}
 use mathlib.Core.Bool.{Bool, true, false, true≢false}
 use mathlib.Core.Path.{◌≡◌, sym, ap, ◌∙◌, subst}
 use mathlib.Core.List.{List}
@@ -28,7 +28,7 @@ use Rattle.in_endpoint.specs.Completion.{refused, completion_answer, is_accepted
 use Rattle.in_endpoint.specs.Returned.{Completed}
 use Rattle.in_endpoint.proofs.CompletionLaws.{completion_answer-number, completion_answer-refused}
 use Rattle.delivery.specs.Completing.{completed, delivery_questions, delivery, DeliveredWhole, Delivers}
-use Rattle.delivery.proofs.CompletionLaws.{kinds-ended, done-meets, done-fits, done-bytes, delivered-done}
+use Rattle.delivery.proofs.CompletionLaws.{kinds-ended, done-meets, done-bytes, delivered-done}
 use Rattle.delivery.proofs.QuestionLaws.{PassedDelivery, passed-delivery}
 
 module _ (b : InBlock) (s : Option InTrbProcessingStatus) (bytes l : List ℕ) (m : Memory) where
@@ -73,11 +73,7 @@ module _ (b : InBlock) (s : Option InTrbProcessingStatus) (bytes l : List ℕ) (
     unfolding delivery
     accepted-call = rw none
 
-    -- the log has its records
-    pub log-long : record_length * r.records ≤ length l'
-    log-long = done-fits b s (length bytes) l r l' h passed.completes
-
-    -- which are carried out
+    -- its records are carried out
     carried-done : (a : Answer) (m' : Memory) → Carried (take (record_length * r.records) l') bytes m a m' → m' ≡ written bytes m done.records
     carried-done a m' carried =
         let stored : take (record_length * r.records) l' ≡ encode_all done.records = done-bytes b s (length bytes) l r l' h passed.completes in

@@ -88,10 +88,6 @@ module _ (b : InBlock) (s : Option InTrbProcessingStatus) (n : ℕ) (l : List �
   pub done-bytes : take (record_length * r.records) l' ≡ encode_all records
   done-bytes = rw (done-count, done-meets.log) (take-logged l records)
 
-  -- so the log is long enough for them
-  pub done-fits : record_length * r.records ≤ length l'
-  done-fits = omega (arith, ap length done-bytes ∙ length-encode_all records, length-take (record_length * r.records) l', done-count)
-
   done-account : Account n (held_of b) (records_in r.records l') → Account n (held_of b) records
   done-account = subst (Account n (held_of b)) (rw (done-count, done-meets.log) (records_in-logged l 0 records (omega arith) done-meets.fits))
 

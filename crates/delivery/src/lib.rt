@@ -1,10 +1,10 @@
 // No torn frame: completion and carry-out in one call, with guest memory at the event that the guest relies on as its promise.
 #![tactic(auto)]
 
-ghost use Rattle.std.specs.Prelude.{◌≡◌, cond, ◌*◌, ◌≤◌, min, length, take};
+ghost use Rattle.std.specs.Prelude.{◌≡◌, cond, min, length};
 ghost use Rattle.trb.specs.Answers.{number_of};
-ghost use Rattle.trb.specs.Limits.{record_length};
 ghost use Rattle.trb.specs.Questions.{first_no};
+ghost use Rattle.call_log.specs.First.{first_records};
 ghost use Rattle.guest_memory.specs.Places.{range_inside};
 ghost use Rattle.guest_memory.specs.Lent.{lent, SameRegions};
 ghost use Rattle.carry_out.specs.CarryOut.{Carried};
@@ -48,6 +48,7 @@ pub fn write_inside(variant: TransferTrbVariant, count: u32, regions: Regions) -
 }
 
 // Do the writes of these TRBs lie in one of the regions each, where the device has given so many bytes?
+// Not one with `in_place_delivery`'s, over bytes: that takes a closure for each TRB, whose contract is no plainer than a second loop.
 fn writes_inside(trbs: &[TransferTrb], given: u32, regions: Regions) -> bool
     ensures { result ≡ writes_inside regions given trbs.now }
 {
@@ -102,19 +103,17 @@ fn ask(
 
 // ---- The call
 
-// Carries out the first records of a log.
+// Carries out the first records of a log, or all of one that has not so many.
 pub fn carry_out_first(
     log: &[u8],
     records: usize,
     data: &[u8],
     memory: &mut GuestMemory<'_>,
 ) -> Answer
-    requires { record_length * records ≤ length log.now }
-    ensures answer { Carried (take (record_length * records) log.now) «data».now (lent memory.old) result (lent memory.new) }
+    ensures answer { Carried (first_records records log.now) «data».now (lent memory.old) result (lent memory.new) }
     ensures same { SameRegions memory.old memory.new }
 {
-    let end = trb::RECORD_LENGTH * records;
-    carry_out::carry_out(&log[..end], data, memory)
+    carry_out::carry_out(call_log::first_records(log, records), data, memory)
 }
 
 // Completes what was submitted last, as `next_completion` does, and carries its log out on guest memory.

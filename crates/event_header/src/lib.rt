@@ -60,18 +60,7 @@ fn endpoint_zero(to_host: bool) -> u8
     if to_host { 128 } else { 0 }
 }
 
-// A table: each status has a number of its own.
-fn in_status(status: InTrbProcessingStatus) -> u32
-    ensures { result ≡ in_status status }
-{
-    match status {
-        InTrbProcessingStatus::Disconnect => capture_record::DISCONNECTED,
-        InTrbProcessingStatus::Stall => capture_record::STALLED,
-        InTrbProcessingStatus::TransactionError => capture_record::TRANSACTION_FAILED,
-        InTrbProcessingStatus::Success => 0,
-    }
-}
-
+// A table: each failure has a number of its own.
 fn error_status(error: TransferError) -> u32
     ensures { result ≡ error_status error }
 {
@@ -79,6 +68,15 @@ fn error_status(error: TransferError) -> u32
         TransferError::Disconnect => capture_record::DISCONNECTED,
         TransferError::Stall => capture_record::STALLED,
         TransferError::TransactionError => capture_record::TRANSACTION_FAILED,
+    }
+}
+
+fn in_status(status: InTrbProcessingStatus) -> u32
+    ensures { result ≡ in_status status }
+{
+    match status {
+        InTrbProcessingStatus::Success => 0,
+        failed => error_status(capture_record::transfer_error(failed)),
     }
 }
 
@@ -104,7 +102,7 @@ fn in_submission_header(stamp: Stamp, pipe: InPipe, id: u64, length: u32) -> Usb
         event_type: capture_record::SUBMISSION,
         transfer_type: u8::from(pipe.transfer_type),
         endpoint_address: pipe_address(pipe),
-        data_flag: submission_flag(capture_record::is_odd(pipe.endpoint_id.0)),
+        data_flag: submission_flag(capture_record::is_in(pipe.endpoint_id)),
         length,
         ..blank(stamp, id)
     }
@@ -119,7 +117,7 @@ fn in_completion_header(
 ) -> UsbHeader
     ensures { result ≡ header_of stamp.device stamp.time.seconds stamp.time.microseconds (CaptureEvent.InCompletion pipe id status) count }
 {
-    let input = capture_record::is_odd(pipe.endpoint_id.0);
+    let input = capture_record::is_in(pipe.endpoint_id);
     UsbHeader {
         event_type: capture_record::COMPLETION,
         transfer_type: u8::from(pipe.transfer_type),

@@ -1,9 +1,8 @@
-// Guest memory, lent as two regions of bytes, each at a base address: where a range of guest addresses lies in them, the bytes of
-// the range, and bytes moved into a region.
+// Guest memory, lent as two regions of bytes, each at a base address: where a range of guest addresses lies in them, and the bytes of the
+// range.
 #![tactic(auto)]
 
-ghost use Rattle.std.specs.Prelude.{◌≡◌, ◌+◌, ◌≤◌, length, take, drop};
-ghost use Rattle.buffers.specs.Patch.{patch};
+ghost use Rattle.std.specs.Prelude.{◌≡◌, ◌-◌, None, Some, cond};
 ghost use Rattle.guest_memory.specs.Regions.{guest_regions, holds, shares_at, share_an_address};
 ghost use Rattle.guest_memory.specs.Places.{in_region, place_of, is_inside, range_inside, regions_of, bytes_at};
 ghost use Rattle.guest_memory.specs.Lent.{seen, lent};
@@ -130,26 +129,24 @@ pub enum Place {
     InHigh(usize),
 }
 
-// Does the range lie in this region? Nothing but this and `holds` compares guest addresses.
-#[tactic(auto, unfolding(crate::specs::Places::in_region))]
-fn in_region(region: Region, pointer: u64, count: u32) -> bool
-    ensures { result ≡ in_region region pointer count }
+// From which index of the region's bytes on the range lies there, if it does. Nothing but this and `holds` compares guest addresses.
+fn offset_in(region: Region, pointer: u64, count: u32) -> Option<usize>
+    ensures { result ≡ cond (in_region region pointer count) (Some (pointer - region.start_addr)) None }
 {
-    let whole = region.len as u64;
-    region.start_addr <= pointer
-        && pointer - region.start_addr <= whole
-        && count as u64 <= whole - (pointer - region.start_addr)
+    let offset = pointer.checked_sub(region.start_addr)?;
+    let left = (region.len as u64).checked_sub(offset)?;
+    (count as u64 <= left).then_some(offset as usize)
 }
 
 // Places the `count` bytes from the address `pointer` on: the `find_region` and `to_region_addr` of a range.
-#[tactic(auto, unfolding(crate::specs::Places::in_region, crate::specs::Places::place_of))]
+// A range is its two numbers: who asks has them apart, in a TRB, a record or a place, and would make a struct for the question.
 pub fn place_range(regions: Regions, pointer: u64, count: u32) -> Place
     ensures { result ≡ place_of «regions» pointer count }
 {
-    if in_region(regions.low, pointer, count) {
-        Place::InLow((pointer - regions.low.start_addr) as usize)
-    } else if in_region(regions.high, pointer, count) {
-        Place::InHigh((pointer - regions.high.start_addr) as usize)
+    if let Some(start) = offset_in(regions.low, pointer, count) {
+        Place::InLow(start)
+    } else if let Some(start) = offset_in(regions.high, pointer, count) {
+        Place::InHigh(start)
     } else {
         Place::Outside
     }
@@ -173,6 +170,7 @@ pub fn range_inside(regions: Regions, pointer: u64, count: u32) -> bool
 // ---- Bytes
 
 // The `count` bytes from the address `pointer` on, of whichever region holds them; none where the range is outside.
+// No Option: a range of no bytes may lie outside, since question 6 does not ask where it lies, and its bytes are none too.
 pub fn get_slice<'a>(memory: &GuestView<'a>, pointer: u64, count: u32) -> &'a [u8]
     ensures { result.now ≡ bytes_at (seen memory.now) pointer count }
 {
@@ -181,12 +179,4 @@ pub fn get_slice<'a>(memory: &GuestView<'a>, pointer: u64, count: u32) -> &'a [u
         Place::InLow(start) => &memory.low[start..start + (count as usize)],
         Place::InHigh(start) => &memory.high[start..start + (count as usize)],
     }
-}
-
-// Moves `count` of the device's bytes from index `start` on to a region from index `offset` on; ports the bus's `write_bulk`.
-pub fn write_bulk(region: &mut [u8], offset: usize, data: &[u8], start: usize, count: usize)
-    requires { (offset + count ≤ length region.old) × (start + count ≤ length «data».now) }
-    ensures { region.new ≡ patch region.old offset (take count (drop start «data».now)) }
-{
-    buffers::copy_into(region, offset, &data[start..start + count]);
 }

@@ -73,7 +73,7 @@ pub fn are_sound(kind: EndpointKind, trbs: &[TransferTrb]) -> bool
     trbs.iter().all(|t| is_sound(kind, *t))
 }
 
-// How many places are tested: those that are held, and no more than there are.
+// How many of the places are held, by what a block says: no more than there are.
 pub fn places_held(held: usize) -> usize
     ensures { result ≡ min held max_held }
 {

@@ -3,13 +3,14 @@
 use Prim.Native.Nat.{ℕ, zero, suc, ◌+◌, ◌*◌, ◌-◌, ◌%◌, ◌^◌, ◌<◌, ◌≤◌}
 use mathlib.Core.Bool.{Bool, true, false, cond, ◌||◌}
 use mathlib.Core.Path.{◌≡◌, refl, sym, ap, ◌∙◌}
-use mathlib.Core.List.{List, ◌∷◌, ◌++◌, append_assoc}
+use mathlib.Core.List.{List, ◌∷◌, ◌++◌, append_assoc, map}
 use mathlib.Core.Logic.{⊎_elim}
 use native.Mathlib.Nat.{not-suc-le-zero, eq-or-lt_of_le, mul-suc}
 use native.Mathlib.Omega.{arith}
 use lib.Dec.{eqb}
 use lib.ListN.{length, take, drop, get_or, set, length-set, length-drop, length-append, replicate, length-replicate, get_or-replicate, replicate-append-replicate, get_or-append}
 use lib.Seq.{drop-drop, drop_at, get_or-drop, get_or-take, get_or-append-add, get_or-set_same, get_or-set_other, ext_get_or}
+use Rattle.std.specs.Simd.{first_chunks}
 use Rattle.trb.proofs.TestLaws.{le-or-lt}
 use Rattle.trb.specs.Limits.{max_transfer_length}
 use Rattle.trb.specs.Trbs.{transfer_length}
@@ -64,6 +65,13 @@ module _ (k : EndpointKind) where
   unfolding place_of
   place-take l =
       rw (take-drop-take 8 0 place_length l (omega arith), take-drop-take 8 8 place_length l (omega arith), take-drop-take 4 16 place_length l (omega arith), get_or-take place_length l 20 0 (omega arith), get_or-take place_length l 21 0 (omega arith))
+
+  -- the places by their bytes
+  pub chunked : (n m : ℕ) (l : List ℕ) → n ≤ m → map (place_of k) (take n (first_chunks place_length m l)) ≡ places_of k n l
+  unfolding places_of
+  chunked zero m l h = refl
+  chunked (suc n) zero l h = absurd (omega (arith, h))
+  chunked (suc n) (suc m) l h = λ i. place-take l i ∷ chunked n m (drop place_length l) (omega (arith, h)) i
 
   place_same : (l m : List ℕ) → take place_length l ≡ take place_length m → place_of k l ≡ place_of k m
   place_same l m e = sym (place-take l) ∙ ap (place_of k) e ∙ place-take m

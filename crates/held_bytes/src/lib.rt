@@ -12,10 +12,18 @@ use trb::{
     TransferTrbVariant,
 };
 
-// Bytes of a place.
+// Bytes of a place, and where its fields stand behind the address.
 pub const PLACE: usize = 24;
 
-// The layout that a block's first byte names.
+pub const VALUE_AT: usize = 8;
+
+pub const LENGTH_AT: usize = 16;
+
+pub const KIND_AT: usize = 20;
+
+pub const FLAGS_AT: usize = 21;
+
+// The layout that a block's first byte names: constants and no enum, since any byte may stand there.
 pub const IN_LAYOUT: u8 = 1;
 
 pub const CONTROL_LAYOUT: u8 = 2;
@@ -46,8 +54,7 @@ pub const DIRECTION: u8 = 32;
 
 // ---- From numbers
 
-// Is the bit of this weight on? By division, since the weight may be any number but 0: of one that is no power of two a mask says something
-// else.
+// Is the bit of this weight on? By division, as is promised of any weight but 0: what a mask says is this of powers of two alone.
 pub fn bit(n: u8, weight: u8) -> bool
     requires { 0 < weight }
     ensures { result ≡ bit_of n weight }
@@ -153,22 +160,26 @@ pub fn trb_of(numbers: TrbNumbers) -> TransferTrb
 
 // ---- To numbers
 
-fn flags_of(
+// The flags of a TRB, each by its name.
+#[derive(Clone, Copy)]
+struct Flags {
     cycle: bool,
     chain: bool,
-    completion: bool,
-    short: bool,
-    immediate: bool,
+    interrupt_on_completion: bool,
+    interrupt_on_short: bool,
+    immediate_data: bool,
     direction: bool,
-) -> u8
-    ensures { result ≡ flags_of cycle chain completion short immediate direction }
+}
+
+fn flags_of(flags: Flags) -> u8
+    ensures { result ≡ flags_of flags.cycle flags.chain flags.interrupt_on_completion flags.interrupt_on_short flags.immediate_data flags.direction }
 {
-    cycle as u8
-        | (chain as u8) << 1
-        | (completion as u8) << 2
-        | (short as u8) << 3
-        | (immediate as u8) << 4
-        | (direction as u8) << 5
+    flags.cycle as u8
+        | (flags.chain as u8) << 1
+        | (flags.interrupt_on_completion as u8) << 2
+        | (flags.interrupt_on_short as u8) << 3
+        | (flags.immediate_data as u8) << 4
+        | (flags.direction as u8) << 5
 }
 
 fn setup_value(t: SetupStageTrb) -> u64
@@ -185,10 +196,17 @@ fn setup_value(t: SetupStageTrb) -> u64
 pub fn numbers_of(t: TransferTrb) -> TrbNumbers
     ensures { (result ≡ numbers_of t) × (trb_of result ≡ t) }
 {
-    let cycle = t.cycle_bit;
+    let off = Flags {
+        cycle: t.cycle_bit,
+        chain: false,
+        interrupt_on_completion: false,
+        interrupt_on_short: false,
+        immediate_data: false,
+        direction: false,
+    };
     let bare = TrbNumbers {
         kind: 0,
-        flags: flags_of(cycle, false, false, false, false, false),
+        flags: flags_of(off),
         addr: t.addr,
         value: 0,
         transfer_length: 0,
@@ -196,80 +214,67 @@ pub fn numbers_of(t: TransferTrb) -> TrbNumbers
     match t.variant {
         TransferTrbVariant::SetupStage(setup) => TrbNumbers {
             kind: raw_trb::SETUP_STAGE,
-            flags: flags_of(
-                cycle,
-                false,
-                setup.interrupt_on_completion,
-                false,
-                false,
-                false,
-            ),
+            flags: flags_of(Flags {
+                interrupt_on_completion: setup.interrupt_on_completion,
+                ..off
+            }),
             value: setup_value(setup),
             ..bare
         },
         TransferTrbVariant::DataStage(data) => TrbNumbers {
             kind: raw_trb::DATA_STAGE,
-            flags: flags_of(
-                cycle,
-                data.chain,
-                data.interrupt_on_completion,
-                data.interrupt_on_short,
-                data.immediate_data,
-                data.direction,
-            ),
+            flags: flags_of(Flags {
+                chain: data.chain,
+                interrupt_on_completion: data.interrupt_on_completion,
+                interrupt_on_short: data.interrupt_on_short,
+                immediate_data: data.immediate_data,
+                direction: data.direction,
+                ..off
+            }),
             value: data.data_pointer,
             transfer_length: data.transfer_length,
             ..bare
         },
         TransferTrbVariant::StatusStage(status) => TrbNumbers {
             kind: raw_trb::STATUS_STAGE,
-            flags: flags_of(
-                cycle,
-                status.chain,
-                status.interrupt_on_completion,
-                false,
-                false,
-                status.direction,
-            ),
+            flags: flags_of(Flags {
+                chain: status.chain,
+                interrupt_on_completion: status.interrupt_on_completion,
+                direction: status.direction,
+                ..off
+            }),
             ..bare
         },
         TransferTrbVariant::Normal(normal) => TrbNumbers {
             kind: raw_trb::NORMAL,
-            flags: flags_of(
-                cycle,
-                normal.chain,
-                normal.interrupt_on_completion,
-                normal.interrupt_on_short,
-                normal.immediate_data,
-                false,
-            ),
+            flags: flags_of(Flags {
+                chain: normal.chain,
+                interrupt_on_completion: normal.interrupt_on_completion,
+                interrupt_on_short: normal.interrupt_on_short,
+                immediate_data: normal.immediate_data,
+                ..off
+            }),
             value: normal.data_pointer,
             transfer_length: normal.transfer_length,
             ..bare
         },
         TransferTrbVariant::EventData(event) => TrbNumbers {
             kind: raw_trb::EVENT_DATA,
-            flags: flags_of(
-                cycle,
-                event.chain,
-                event.interrupt_on_completion,
-                false,
-                false,
-                false,
-            ),
+            flags: flags_of(Flags {
+                chain: event.chain,
+                interrupt_on_completion: event.interrupt_on_completion,
+                ..off
+            }),
             value: event.event_data,
             ..bare
         },
         TransferTrbVariant::NoOp(no_op) => TrbNumbers {
             kind: raw_trb::NO_OP,
-            flags: flags_of(
-                cycle,
-                no_op.chain,
-                no_op.interrupt_on_completion,
-                false,
-                false,
-                false,
-            ),
+            flags: flags_of(Flags {
+                chain: no_op.chain,
+                interrupt_on_completion: no_op.interrupt_on_completion,
+                ..off
+            }),
             ..bare
         },
         TransferTrbVariant::Isoch => TrbNumbers {
@@ -288,11 +293,11 @@ pub fn numbers_at(block: &[u8], at: usize) -> TrbNumbers
     ensures { result ≡ numbers_at (drop at block.now) }
 {
     TrbNumbers {
-        kind: block[at + 20],
-        flags: block[at + 21],
+        kind: block[at + KIND_AT],
+        flags: block[at + FLAGS_AT],
         addr: buffers::le64(block, at),
-        value: buffers::le64(block, at + 8),
-        transfer_length: buffers::le32(block, at + 16) & trb::MAX_TRANSFER_LENGTH,
+        value: buffers::le64(block, at + VALUE_AT),
+        transfer_length: buffers::le32(block, at + LENGTH_AT) & trb::MAX_TRANSFER_LENGTH,
     }
 }
 
@@ -300,11 +305,11 @@ fn encoded(numbers: TrbNumbers) -> [u8; PLACE]
     ensures { result ≡ place_bytes numbers }
 {
     let mut cells = [0; PLACE];
-    cells[..8].copy_from_slice(&numbers.addr.to_le_bytes());
-    cells[8..16].copy_from_slice(&numbers.value.to_le_bytes());
-    cells[16..20].copy_from_slice(&numbers.transfer_length.to_le_bytes());
-    cells[20] = numbers.kind;
-    cells[21] = numbers.flags;
+    cells[..VALUE_AT].copy_from_slice(&numbers.addr.to_le_bytes());
+    cells[VALUE_AT..LENGTH_AT].copy_from_slice(&numbers.value.to_le_bytes());
+    cells[LENGTH_AT..KIND_AT].copy_from_slice(&numbers.transfer_length.to_le_bytes());
+    cells[KIND_AT] = numbers.kind;
+    cells[FLAGS_AT] = numbers.flags;
     cells
 }
 

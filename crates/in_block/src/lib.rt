@@ -22,7 +22,7 @@ pub struct InBlock {
     pub slot_id: SlotId,
     pub mode: InMode,
     pub state: TdBasedNormalSubmissionState,
-    // Of the places, the first so many are held. Places and their count, since there is no heap; question 2 asks any block for the bound.
+    // Of the places, the first so many are held. A count and no `ArrayVec`: any count is a block, and question 2 asks for the bound.
     pub held: usize,
     pub trbs: [TransferTrb; trb::MAX_HELD],
 }
@@ -55,7 +55,7 @@ pub fn with_state(block: InBlock, state: TdBasedNormalSubmissionState) -> InBloc
     InBlock { state, ..block }
 }
 
-// One TRB more is held. `control_block` has the same: what the two share is the store to a place, which is one line.
+// One TRB more is held. As in `control_block`: shared it would be a struct of places and count, and every definition of a block of that.
 pub fn store(block: &mut InBlock, t: TransferTrb)
     requires { block.old.held < max_held }
     ensures { block.new ≡ stored block.old t }

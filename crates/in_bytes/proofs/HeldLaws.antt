@@ -2,16 +2,16 @@
 -- questions need. Assumes nothing.
 use Prim.Native.Nat.{ℕ, zero, suc, ◌+◌, ◌*◌, ◌%◌, ◌<◌, ◌≤◌}
 use mathlib.Core.Path.{◌≡◌, refl, sym, ap, ◌∙◌}
-use mathlib.Core.Bool.{Bool, true, false, cond, not, ◌&&◌}
+use mathlib.Core.Bool.{Bool, true, false, cond, not, ◌||◌}
 use mathlib.Core.List.{List, [], ◌∷◌, map}
 use native.Mathlib.Nat.{zero-add}
 use native.Mathlib.Numerals.{add-one}
 use native.Mathlib.Omega.{arith}
 use lib.Dec.{eqb}
-use lib.ListN.{length, take, drop, get_or, drop_of_length-le}
-use lib.Seq.{drop-cons, get_or-take}
+use lib.ListN.{length, length-map, take, drop, get_or, drop_of_length-le}
+use lib.Seq.{drop-cons}
 use borrow.Author.Tests.{le-leb, ne_eqb}
-use Rattle.std.specs.List.{list_all}
+use Rattle.std.specs.List.{list_any}
 use Rattle.std.specs.Simd.{first_chunks}
 use Rattle.trb.specs.Limits.{max_held, max_transfer_length}
 use Rattle.held.specs.Places.{past_end}
@@ -26,8 +26,7 @@ use Rattle.in_block.specs.Facts.{in_sound}
 use Rattle.raw_trb.specs.Layouts.{normal_type, event_data_type, no_op_type}
 use Rattle.held_bytes.specs.Numbers.{variant_of}
 use Rattle.held_bytes.specs.Places.{place_length, place_of, places_of}
-use Rattle.held_bytes.proofs.ByteLaws.{take-drop-take}
-use Rattle.held_bytes.proofs.PlaceLaws.{length-places_of, take-places_of, place_at}
+use Rattle.held_bytes.proofs.PlaceLaws.{length-places_of, take-places_of, place_at, chunked}
 use Rattle.in_bytes.specs.Layout.{head_length, places}
 
 -- ---- What a place can say
@@ -76,41 +75,13 @@ sound-places (suc n) l = rw (sound-place l) (sound-places n (drop place_length l
 pub length-places : (b : List ℕ) → length (places b) ≡ max_held
 length-places b = length-places_of In max_held (drop head_length b)
 
-pub few-places : (b : List ℕ) (n : ℕ) → n ≤ max_held → n ≤ length (places b)
-few-places b n h = omega (arith, length-places b)
-
 pub placed : (b : List ℕ) (i : ℕ) → i < max_held → get_or (places b) i past_end ≡ place_of In (drop (head_length + place_length * i) b)
 placed b i h = place_at In head_length b max_held i past_end h
 
--- what a row of places requests
-pub requested-few : (b : List ℕ) (n : ℕ) → n ≤ max_held → requested (take n (places b)) ≤ max_transfer_length * n
-requested-few b n h =
-    let e : length (places_of In n (drop head_length b)) ≡ n = length-places_of In n (drop head_length b) in
-    rw (take-places_of In n max_held (drop head_length b) h)
-    (omega (arith, rw e at (requested-sound (places_of In n (drop head_length b)) (sound-places n (drop head_length b)))))
-
 -- ---- The places by their bytes
 
--- a place is its first 24 bytes
-place-take : (l : List ℕ) → place_of In (take place_length l) ≡ place_of In l
-unfolding place_of
-place-take l =
-    rw (
-      take-drop-take 8 0 place_length l (omega arith),
-      take-drop-take 8 8 place_length l (omega arith),
-      take-drop-take 4 16 place_length l (omega arith),
-      get_or-take place_length l 20 0 (omega arith),
-      get_or-take place_length l 21 0 (omega arith),
-    )
-
-chunked : (n m : ℕ) (l : List ℕ) → n ≤ m → map (place_of In) (take n (first_chunks place_length m l)) ≡ places_of In n l
-unfolding places_of
-chunked zero m l h = refl
-chunked (suc n) zero l h = absurd (omega (arith, h))
-chunked (suc n) (suc m) l h = λ i. place-take l i ∷ chunked n m (drop place_length l) (omega (arith, h)) i
-
 pub held-chunks : (b : List ℕ) (n m : ℕ) → n ≤ max_held → n ≤ m → map (place_of In) (take n (first_chunks place_length m (drop head_length b))) ≡ take n (places b)
-held-chunks b n m few h = chunked n m (drop head_length b) h ∙ sym (take-places_of In n max_held (drop head_length b) few)
+held-chunks b n m few h = chunked In n m (drop head_length b) h ∙ sym (take-places_of In n max_held (drop head_length b) few)
 
 -- the next place, and those behind it
 cells-next : (cells : List (List ℕ)) (i : ℕ) → i < length cells → map (place_of In) (drop i cells) ≡ place_of In (get_or cells i []) ∷ map (place_of In) (drop (i + 1) cells)
@@ -127,9 +98,17 @@ normals-next cells i h = ap normals (cells-next cells i h)
 pub normals-none : (cells : List (List ℕ)) (i : ℕ) → length cells ≤ i → normals-in (drop i cells) ≡ 0
 normals-none cells i h = ap normals-in (drop_of_length-le cells {i = i} h)
 
--- what they request
+-- what they request: no more than so many lengths
 abbrev pub requested-in : List (List ℕ) → ℕ
 requested-in cells = requested (map (place_of In) cells)
+
+sound-cells : (cells : List (List ℕ)) → all (sound_trb In) (map (place_of In) cells) ≡ true
+unfolding all
+sound-cells [] = refl
+sound-cells (l ∷ cells) = rw (sound-place l) (sound-cells cells)
+
+pub requested-few : (cells : List (List ℕ)) → requested-in cells ≤ max_transfer_length * length cells
+requested-few cells = omega (arith, length-map cells (place_of In), requested-sound (map (place_of In) cells) (sound-cells cells))
 
 pub requested-next : (cells : List (List ℕ)) (i : ℕ) → i < length cells
     → requested-in (drop i cells) ≡ length_of (normal_of (place_of In (get_or cells i [])).variant) + requested-in (drop (i + 1) cells)
@@ -138,16 +117,16 @@ requested-next cells i h = ap requested (cells-next cells i h)
 pub requested-none : (cells : List (List ℕ)) (i : ℕ) → length cells ≤ i → requested-in (drop i cells) ≡ 0
 requested-none cells i h = ap requested-in (drop_of_length-le cells {i = i} h)
 
--- is the TRB of these bytes no Normal?
-abbrev pub other : List ℕ → Bool
-other l = not (is_normal (place_of In l).variant)
+-- is the TRB of these bytes a Normal?
+abbrev pub normal : List ℕ → Bool
+normal l = is_normal (place_of In l).variant
 
--- a Normal more: is the sum 0?
-one-more : (x : Bool) (rest : ℕ) → (not x && eqb rest 0) ≡ eqb (cond x 1 0 + rest) 0
-one-more true rest = sym (ne_eqb (1 + rest) 0 (λ e. omega (arith, e)))
-one-more false rest = ap (λ (x : ℕ). eqb x 0) (sym (zero-add rest))
+-- a TRB more: is the sum not 0?
+one-more : (x : Bool) (rest : ℕ) → (x || not (eqb rest 0)) ≡ not (eqb (cond x 1 0 + rest) 0)
+one-more true rest = sym (ap not (ne_eqb (1 + rest) 0 (λ e. omega (arith, e))))
+one-more false rest = ap (λ (x : ℕ). not (eqb x 0)) (sym (zero-add rest))
 
--- none of them is a Normal
-pub none-normal : (cells : List (List ℕ)) → list_all other cells ≡ eqb (normals-in cells) 0
-none-normal [] = refl
-none-normal (l ∷ cells) = ap (λ (x : Bool). other l && x) (none-normal cells) ∙ one-more (is_normal (place_of In l).variant) (normals-in cells)
+-- one of them is a Normal
+pub some-normal : (cells : List (List ℕ)) → list_any normal cells ≡ not (eqb (normals-in cells) 0)
+some-normal [] = refl
+some-normal (l ∷ cells) = ap (λ (x : Bool). normal l || x) (some-normal cells) ∙ one-more (is_normal (place_of In l).variant) (normals-in cells)

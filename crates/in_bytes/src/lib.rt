@@ -2,7 +2,7 @@
 // bytes are.
 #![tactic(auto)]
 
-ghost use Rattle.std.specs.Prelude.{◌≡◌, true, cond, [], ◌∷◌, ◌+◌, ◌*◌, ◌≤◌, ◌%◌, ◌/◌, eqb, length, map, drop, take, set, replicate};
+ghost use Rattle.std.specs.Prelude.{◌≡◌, not, min, cond, [], ◌∷◌, ◌+◌, ◌*◌, ◌≤◌, ◌%◌, ◌/◌, eqb, length, get_or, map, drop, take, set, replicate};
 ghost use Rattle.trb.specs.Limits.{max_held, max_transfer_length};
 ghost use Rattle.buffers.specs.Patch.{patch};
 ghost use Rattle.buffers.specs.LittleEndian.{le_bytes, le_field};
@@ -11,7 +11,7 @@ ghost use Rattle.in_td.specs.Normals.{normal_of, length_of, requested};
 ghost use Rattle.in_td.specs.Td.{is_normal, normals};
 ghost use Rattle.held_bytes.specs.Numbers.{variant_of};
 ghost use Rattle.held_bytes.specs.Places.{place_length, in_layout, place_bytes, held_type, place_of};
-ghost use Rattle.in_bytes.specs.Layout.{head_length, block_length, endpoint_of, slot_of, mode_of, state_of, places};
+ghost use Rattle.in_bytes.specs.Layout.{head_length, block_length, endpoint_of, slot_of, mode_of, state_of, held_count, places};
 
 use held_bytes::TrbNumbers;
 use in_td::InMode;
@@ -19,9 +19,15 @@ use trb::{EndpointId, SlotId, TdBasedNormalSubmissionState, TransferTrb, Transfe
 
 // Bytes before the places, and bytes of a block. It is lent as a slice, and each function asks that the slice is long enough: an array
 // would say so by its type, but what a call promises is said of all bytes that were lent, of which the array would be the front alone.
+// Nor a struct with the length as invariant: reads and stores go by turns, and each read would make it anew of the lent slice.
 pub const HEAD: usize = 16;
 
 pub const BLOCK: usize = HEAD + held_bytes::PLACE * trb::MAX_HELD;
+
+// Where the head has the state, and the address of an unsupported TRB.
+pub const STATE_AT: usize = 6;
+
+pub const ADDRESS_AT: usize = 8;
 
 // States by number: constants and no enum, since any byte is a state.
 pub const DUE: u8 = 0;
@@ -63,15 +69,24 @@ pub fn slot_id(block: &[u8]) -> SlotId
     SlotId(known_id(block[0], block[2]))
 }
 
-// The mode by its number: 0 as ported, any other strict.
-pub fn mode_of(number: u8) -> InMode
-    ensures { result ≡ mode_of number }
+// The block's mode: 0 as ported, any other number strict.
+pub fn mode(block: &[u8]) -> InMode
+    requires { head_length ≤ length block.now }
+    ensures { result ≡ mode_of (get_or block.now 3 0) }
 {
-    if number == 0 {
+    if block[3] == 0 {
         InMode::AsPorted
     } else {
         InMode::Strict
     }
+}
+
+// TRBs held.
+pub fn held(block: &[u8]) -> u16
+    requires { head_length ≤ length block.now }
+    ensures { result ≡ held_count block.now }
+{
+    buffers::le16(block, 4)
 }
 
 // The state by its number, and the address of an unsupported TRB.
@@ -87,6 +102,7 @@ pub fn state_of(number: u8, addr: u64) -> TdBasedNormalSubmissionState
     }
 }
 
+// By `held_bytes::trb_of` the type would first be exchanged for that of a NoOp, in a match as long as this one.
 #[tactic(auto, unfolding(held_bytes::specs::Numbers::variant_of))]
 fn held_variant(numbers: TrbNumbers) -> TransferTrbVariant
     ensures { result ≡ variant_of (held_type In numbers.kind) numbers.flags numbers.value numbers.transfer_length }
@@ -108,7 +124,7 @@ pub fn trb_from(block: &[u8], at: usize) -> TransferTrb
     TransferTrb {
         variant: held_variant(numbers),
         addr: numbers.addr,
-        cycle_bit: held_bytes::bit(numbers.flags, 1),
+        cycle_bit: held_bytes::bit(numbers.flags, held_bytes::CYCLE),
     }
 }
 
@@ -125,50 +141,41 @@ pub fn length_at(block: &[u8], at: usize) -> u32
     requires { at + place_length ≤ length block.now }
     ensures { result ≡ le_field 16 4 (drop at block.now) % (max_transfer_length + 1) }
 {
-    buffers::le32(block, at + 16) & trb::MAX_TRANSFER_LENGTH
+    buffers::le32(block, at + held_bytes::LENGTH_AT) & trb::MAX_TRANSFER_LENGTH
 }
 
-// The first `held` places, each by its bytes.
-pub fn held_places(block: &[u8], held: usize) -> &[[u8; held_bytes::PLACE]]
-    requires { (held ≤ max_held) × (block_length ≤ length block.now) }
-    ensures trbs { map (place_of In) result.now ≡ take held (places block.now) }
-    ensures count { length result.now ≡ held }
+// The places held, each by its bytes.
+// Of the other layout likewise: what both read is one line over `HEAD`, and what they promise is of two layouts.
+pub fn held_places(block: &[u8]) -> &[[u8; held_bytes::PLACE]]
+    requires { block_length ≤ length block.now }
+    ensures trbs { map (place_of In) result.now ≡ take (held_count block.now) (places block.now) }
+    ensures count { length result.now ≡ min (held_count block.now) max_held }
 {
-    &block[HEAD..].as_chunks().0[..held]
+    let count = held::places_held(held(block) as usize);
+    &block[HEAD..].as_chunks().0[..count]
 }
 
 // Is the TRB in this place a Normal?
 fn is_normal(place: &[u8; held_bytes::PLACE]) -> bool
     ensures { result ≡ is_normal (place_of In place.now).variant }
 {
-    place[20] == raw_trb::NORMAL
+    place[held_bytes::KIND_AT] == raw_trb::NORMAL
 }
 
-// Is none of the first `held` TRBs a Normal? The first Normal ends the search.
-fn no_normal(block: &[u8], held: usize) -> bool
-    requires { (held ≤ max_held) × (block_length ≤ length block.now) }
-    ensures { result ≡ eqb (normals (take held (places block.now))) 0 }
+// Is one of the TRBs in these places a Normal? The first Normal ends the search.
+pub fn has_normal(places: &[[u8; held_bytes::PLACE]]) -> bool
+    ensures { result ≡ not (eqb (normals (map (place_of In) places.now)) 0) }
 {
-    held_places(block, held)
-        .iter()
-        .all(|place| !is_normal(place))
+    places.iter().any(|place| is_normal(place))
 }
 
-// 0 where none of the first `held` TRBs is a Normal, else 1. Where this is not asked, 0 without a look.
-pub fn normals_seen(asked: bool, block: &[u8], held: usize) -> usize
-    requires { (held ≤ max_held) × (block_length ≤ length block.now) }
-    ensures { asked ≡ true → eqb result 0 ≡ eqb (normals (take held (places block.now))) 0 }
-{
-    (asked && !no_normal(block, held)) as usize
-}
-
-// How many of the first `held` TRBs are Normals.
-pub fn count_normals(block: &[u8], held: usize) -> usize
-    requires { (held ≤ max_held) × (block_length ≤ length block.now) }
-    ensures { result ≡ normals (take held (places block.now)) }
+// How many of the TRBs in these places are Normals. By `filter` and `count` each TRB of a TD takes 8 instructions more.
+pub fn count_normals(places: &[[u8; held_bytes::PLACE]]) -> usize
+    requires { length places.now ≤ max_held }
+    ensures { result ≡ normals (map (place_of In) places.now) }
 {
     let mut count = 0;
-    for place in held_places(block, held) {
+    for place in places {
         count += is_normal(place) as usize;
     }
     count
@@ -185,14 +192,14 @@ fn normal_length(place: &[u8; held_bytes::PLACE]) -> u32
     }
 }
 
-// S, the sum of the Normal lengths of the first `held` TRBs. By value `in_request::requested_length`; here a place's type and length alone
+// S, the sum of the Normal lengths of the TRBs in these places. By value `in_request::requested_length`; here a place's type and length alone
 // are read, and no TRB is made.
-pub fn requested_length(block: &[u8], held: usize) -> u32
-    requires { (held ≤ max_held) × (block_length ≤ length block.now) }
-    ensures { result ≡ requested (take held (places block.now)) }
+pub fn requested_length(places: &[[u8; held_bytes::PLACE]]) -> u32
+    requires { length places.now ≤ max_held }
+    ensures { result ≡ requested (map (place_of In) places.now) }
 {
     let mut sum = 0;
-    for place in held_places(block, held) {
+    for place in places {
         sum += normal_length(place);
     }
     sum
@@ -217,7 +224,7 @@ pub fn put_head(block: &mut [u8], state: u8, held: u16)
     let [low, high] = held.to_le_bytes();
     block[4] = low;
     block[5] = high;
-    block[6] = state;
+    block[STATE_AT] = state;
 }
 
 // Stores the address of an unsupported TRB.
@@ -225,7 +232,7 @@ pub fn put_address(block: &mut [u8], addr: u64)
     requires { head_length ≤ length block.old }
     ensures { block.new ≡ patch block.old 8 (le_bytes 8 addr) }
 {
-    buffers::copy_into(block, 8, &addr.to_le_bytes());
+    buffers::copy_into(block, ADDRESS_AT, &addr.to_le_bytes());
 }
 
 // The first `held` places become blank.

@@ -15,7 +15,7 @@ use Rattle.trb.specs.declared.TdBasedNormalSubmissionState.{TdBasedNormalSubmiss
 use Rattle.trb.specs.declared.TransferTrb.{TransferTrb}
 use Rattle.call_log.specs.Calls.{Out, Meets}
 use Rattle.call_script.specs.declared.Call.{Call}
-use Rattle.call_script.specs.declared.Call.TheVariants.{Window, Buffers, CreateIn, CreateControl, Submit, CompleteWithResult, CompleteWithout, Cancel, Hold, MakeUpIn, MakeUpControl, AppendTrb, AppendResult, CompleteRow, Time, Captured}
+use Rattle.call_script.specs.declared.Call.TheVariants.{Window, Buffers, CreateIn, CreateControl, Submit, Complete, Cancel, Hold, MakeUpIn, MakeUpControl, AppendTrb, AppendResult, CompleteRow, Time, Captured}
 use Rattle.call_script.specs.declared.DeviceStatus.{DeviceStatus}
 use Rattle.call_log.specs.Logs.{logged}
 use Rattle.text.specs.declared.Text.{Text}
@@ -121,22 +121,21 @@ take-least n l e = rw e (take_min n l)
 -- ---- The calls that are none on an IN endpoint
 
 module _ (b : InBlock) (bytes log : List ℕ) (m : Memory) where
-  pub bad-call : (call : Call) → ((t : TransferTrb) → call ≡ Submit t → ⊥) → ((s : DeviceStatus) (n : ℕ) → call ≡ CompleteWithResult s n → ⊥) → ((n : ℕ) → call ≡ CompleteWithout n → ⊥) → (call ≡ Cancel → ⊥)
+  pub bad-call : (call : Call) → ((t : TransferTrb) → call ≡ Submit t → ⊥) → ((s : Option DeviceStatus) (n : ℕ) → call ≡ Complete s n → ⊥) → (call ≡ Cancel → ⊥)
       → ((t : TransferTrb) → call ≡ Hold t → ⊥) → ((state : TdBasedNormalSubmissionState) → call ≡ MakeUpIn state → ⊥) → in_call b call bytes log m ≡ called (bad_said b) log m
   unfolding in_call
-  bad-call (Window window) submit with_result without cancel hold make_up = refl
-  bad-call (Buffers l c) submit with_result without cancel hold make_up = refl
-  bad-call (CreateIn e s mode) submit with_result without cancel hold make_up = refl
-  bad-call (CreateControl e s release) submit with_result without cancel hold make_up = refl
-  bad-call (Submit t) submit with_result without cancel hold make_up = absurd (submit t refl)
-  bad-call (CompleteWithResult s n) submit with_result without cancel hold make_up = absurd (with_result s n refl)
-  bad-call (CompleteWithout n) submit with_result without cancel hold make_up = absurd (without n refl)
-  bad-call Cancel submit with_result without cancel hold make_up = absurd (cancel refl)
-  bad-call (Hold t) submit with_result without cancel hold make_up = absurd (hold t refl)
-  bad-call (MakeUpIn state) submit with_result without cancel hold make_up = absurd (make_up state refl)
-  bad-call (MakeUpControl phase state direction n) submit with_result without cancel hold make_up = refl
-  bad-call (AppendTrb t) submit with_result without cancel hold make_up = refl
-  bad-call (AppendResult s n) submit with_result without cancel hold make_up = refl
-  bad-call (CompleteRow n) submit with_result without cancel hold make_up = refl
-  bad-call (Time seconds microseconds) submit with_result without cancel hold make_up = refl
-  bad-call (Captured bus address transfer_type) submit with_result without cancel hold make_up = refl
+  bad-call (Window window) submit complete cancel hold make_up = refl
+  bad-call (Buffers l c) submit complete cancel hold make_up = refl
+  bad-call (CreateIn e s mode) submit complete cancel hold make_up = refl
+  bad-call (CreateControl e s release) submit complete cancel hold make_up = refl
+  bad-call (Submit t) submit complete cancel hold make_up = absurd (submit t refl)
+  bad-call (Complete s n) submit complete cancel hold make_up = absurd (complete s n refl)
+  bad-call Cancel submit complete cancel hold make_up = absurd (cancel refl)
+  bad-call (Hold t) submit complete cancel hold make_up = absurd (hold t refl)
+  bad-call (MakeUpIn state) submit complete cancel hold make_up = absurd (make_up state refl)
+  bad-call (MakeUpControl phase state direction n) submit complete cancel hold make_up = refl
+  bad-call (AppendTrb t) submit complete cancel hold make_up = refl
+  bad-call (AppendResult s n) submit complete cancel hold make_up = refl
+  bad-call (CompleteRow n) submit complete cancel hold make_up = refl
+  bad-call (Time time) submit complete cancel hold make_up = refl
+  bad-call (Captured device transfer_type) submit complete cancel hold make_up = refl

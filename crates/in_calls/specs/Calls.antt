@@ -16,7 +16,7 @@ use Rattle.state_text.specs.Widths.{max_state}
 use Rattle.call_answer.specs.Answers.{answer_text, carried_out, completion_text, row_text, completion_memory}
 use Rattle.call_answer.specs.Called.{Said, bad_said, silent_said, answered_said, Called, called}
 use Rattle.call_script.specs.declared.Call.{Call}
-use Rattle.call_script.specs.declared.Call.TheVariants.{Submit, CompleteWithResult, CompleteWithout, Cancel, Hold, MakeUpIn}
+use Rattle.call_script.specs.declared.Call.TheVariants.{Submit, Complete, Cancel, Hold, MakeUpIn}
 use Rattle.call_script.specs.declared.DeviceStatus.{DeviceStatus}
 use Rattle.call_script.specs.declared.DeviceStatus.TheVariants as device
 use Rattle.in_td.specs.declared.InMode.{InMode}
@@ -104,11 +104,15 @@ unfoldable pub result_call : InBlock → Option InTrbProcessingStatus → List �
 result_call b None bytes log m = called (bad_said b) log m
 result_call b (Some s) bytes log m = complete_call b (Some s) bytes log m
 
+-- `d`, and `l`, which gives no result
+unfoldable pub completion_call : InBlock → Option DeviceStatus → List ℕ → List ℕ → Memory → Called InBlock
+completion_call b (Some s) bytes log m = result_call b (result_of s) bytes log m
+completion_call b None bytes log m = complete_call b None bytes log m
+
 -- a call on the endpoint, of whose device these bytes are. (Those that are none on an endpoint, or not on this one, are bad lines.)
 unfoldable pub in_call : InBlock → Call → List ℕ → List ℕ → Memory → Called InBlock
 in_call b (Submit t) bytes log m = submit_call b t log m
-in_call b (CompleteWithResult s n) bytes log m = result_call b (result_of s) (take n bytes) log m
-in_call b (CompleteWithout n) bytes log m = complete_call b None (take n bytes) log m
+in_call b (Complete s n) bytes log m = completion_call b s (take n bytes) log m
 in_call b Cancel bytes log m = called (cancel_call b) log m
 in_call b (Hold t) bytes log m = called (hold_call b t) log m
 in_call b (MakeUpIn state) bytes log m = called (silent_said (with_state b state)) log m

@@ -1,4 +1,5 @@
 // The calls of a script on an IN endpoint.
+// What a call is lent stays apart: a struct of it would have to promise of each slice, call for call, that it is still the same.
 #![tactic(auto)]
 
 ghost use Rattle.std.specs.Prelude.{◌≡◌, ◌≤◌, length};
@@ -8,7 +9,7 @@ ghost use Rattle.state_text.specs.Widths.{max_state, max_answer};
 ghost use Rattle.guest_memory.specs.Lent.{seen, lent, SameRegions};
 ghost use Rattle.in_block.specs.Blocks.{with_state};
 ghost use Rattle.call_answer.specs.Called.{silent_said, ran_of, Says, Runs};
-ghost use Rattle.in_calls.specs.Calls.{create_call, submit_call, complete_call, row_call, cancel_call, hold_call, result_of, result_call, in_call, Stated};
+ghost use Rattle.in_calls.specs.Calls.{create_call, submit_call, complete_call, row_call, cancel_call, hold_call, result_of, result_call, completion_call, in_call, Stated};
 
 use call_answer::Ran;
 use call_script::{Call, DeviceStatus};
@@ -124,6 +125,26 @@ fn complete_with_result(
     }
 }
 
+// With the device result that a call gives, or without one.
+fn complete_with(
+    text: &mut Text<'_>,
+    log: &mut [u8],
+    block: InBlock,
+    status: Option<DeviceStatus>,
+    data: &[u8],
+    memory: &mut GuestMemory<'_>,
+) -> Ran<InBlock>
+    requires has_room { HasRoom max_answer text.old }
+    requires log_len_bound { length log.old ≤ min_row_log }
+    ensures answer { Runs (completion_call block status «data».now log.old (lent memory.old)) text.old result text.new log.new (lent memory.new) }
+    ensures same { SameRegions memory.old memory.new }
+{
+    match status {
+        None => complete(text, log, block, None, data, memory),
+        Some(status) => complete_with_result(text, log, block, status, data, memory),
+    }
+}
+
 fn cancel(text: &mut Text<'_>, block: InBlock) -> Ran<InBlock>
     requires { HasRoom max_answer text.old }
     ensures { Says (cancel_call block) text.old result text.new }
@@ -201,13 +222,9 @@ pub fn run(
 {
     match call {
         Call::Submit(t) => submit(text, log, block, t, &memory.view()),
-        Call::CompleteWithResult(status, n) => {
+        Call::Complete(status, n) => {
             let given = &data[..n.min(data.len())];
-            complete_with_result(text, log, block, status, given, memory)
-        }
-        Call::CompleteWithout(n) => {
-            let given = &data[..n.min(data.len())];
-            complete(text, log, block, None, given, memory)
+            complete_with(text, log, block, status, given, memory)
         }
         Call::Cancel => cancel(text, block),
         Call::Hold(t) => hold(block, t),

@@ -24,6 +24,7 @@ pub type Completed = trb::Completed<InBlock>;
 // ---- Creation
 
 // A fresh block for this endpoint of this slot, in this mode.
+// As `control_endpoint::create`: what the two share is one question; what is made is of two types, by two definitions.
 #[tactic(auto, unfolding(crate::specs::Creation::creation, trb::specs::Questions::first_no, trb::specs::Answers::refusal_of))]
 pub fn create(endpoint_id: EndpointId, slot_id: SlotId, mode: InMode) -> Created
     ensures { Creates endpoint_id slot_id mode result }
@@ -44,6 +45,7 @@ pub fn create(endpoint_id: EndpointId, slot_id: SlotId, mode: InMode) -> Created
 // ---- Completion
 
 // Reports the TRB at `addr`, which was of an unsupported kind.
+// That the log is long enough is what question 1 asked of the caller's slice: behind it only a type made for this call could say so.
 pub fn report_unsupported(log: &mut [u8], addr: u64, endpoint_id: EndpointId, slot_id: SlotId)
     requires { min_log ≤ length log.old }
     ensures { Put log.old 0 (unsupported_event addr endpoint_id slot_id ∷ []) log.new }

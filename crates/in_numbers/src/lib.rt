@@ -2,12 +2,13 @@
 // decoded TRB between.
 #![tactic(auto)]
 
-ghost use Rattle.std.specs.Prelude.{◌≡◌, cond, eqb, ◌≤◌};
+ghost use Rattle.std.specs.Prelude.{◌≡◌, cond, not, eqb, ◌≤◌};
 ghost use Rattle.trb.specs.Answers.{number_of};
 ghost use Rattle.trb.specs.Limits.{max_held};
 ghost use Rattle.trb.specs.Questions.{first_no};
 ghost use Rattle.trb.specs.Trbs.{chain_of};
 ghost use Rattle.in_block.specs.Outcomes.{outcome_of};
+ghost use Rattle.in_block.specs.declared.HeldTest.{HeldTest};
 ghost use Rattle.in_block.specs.declared.Outcome.TheVariants.{Collect, CompleteLocally, Request};
 ghost use Rattle.in_questions.specs.Questions.{trb_questions, submission_questions};
 ghost use Rattle.held_bytes.specs.Numbers.{normal_of, trb_of};
@@ -15,7 +16,7 @@ ghost use Rattle.trb.specs.declared.TransferTrbVariant.TheVariants.{Normal};
 
 use guest_memory::Regions;
 use held_bytes::TrbNumbers;
-use in_block::{BlockFacts, HeldTest, Outcome};
+use in_block::{BlockFacts, Outcome};
 use trb::{Answer, Refusal};
 
 // Questions 4, 21, 5 and 6, of a Normal behind `held` others.
@@ -28,7 +29,10 @@ pub fn ask_of_normal(held: usize, numbers: TrbNumbers, regions: Regions) -> Answ
         numbers.transfer_length <= trb::MAX_TRANSFER_LENGTH,
         Refusal::TransferTooLong,
     )?;
-    trb::ask(!held_bytes::bit(numbers.flags, 16), Refusal::ImmediateInput)?;
+    trb::ask(
+        !held_bytes::bit(numbers.flags, held_bytes::IMMEDIATE_DATA),
+        Refusal::ImmediateInput,
+    )?;
     trb::ask(held < trb::MAX_HELD, Refusal::TooManyHeld)?;
     trb::ask(
         guest_memory::range_inside(regions, numbers.value, numbers.transfer_length),
@@ -90,31 +94,31 @@ pub fn chain_of(numbers: TrbNumbers) -> bool
             | raw_trb::DATA_STAGE
             | raw_trb::STATUS_STAGE
     );
-    known && held_bytes::bit(numbers.flags, 2)
+    known && held_bytes::bit(numbers.flags, held_bytes::CHAIN)
 }
 
-// Of a TRB that is held: with chain off it ends a TD with so many Normals.
-fn outcome_of_held(chain: bool, normals: usize) -> Outcome
-    ensures { result ≡ cond chain Collect (cond (eqb normals 0) CompleteLocally Request) }
+// Of a TRB that is held: with chain off it ends a TD, with a Normal or without.
+fn outcome_of_held(chain: bool, has_normal: bool) -> Outcome
+    ensures { result ≡ cond chain Collect (cond has_normal Request CompleteLocally) }
 {
     if chain {
         Outcome::Collect
-    } else if normals == 0 {
-        Outcome::CompleteLocally
-    } else {
+    } else if has_normal {
         Outcome::Request
+    } else {
+        Outcome::CompleteLocally
     }
 }
 
-// Of a TRB behind those held, of which the loop found this.
+// Of a TRB behind those held, of which one is a Normal or none is.
 #[tactic(auto, unfolding(held_bytes::specs::Numbers::variant_of, in_block::specs::Outcomes::outcome_of))]
-pub fn outcome_of(found: HeldTest, numbers: TrbNumbers) -> Outcome
-    ensures { result ≡ outcome_of found (trb_of numbers) }
+pub fn outcome_of(has_normal: bool, numbers: TrbNumbers) -> Outcome
+    ensures { (found : HeldTest) → eqb found.normals 0 ≡ not has_normal → result ≡ outcome_of found (trb_of numbers) }
 {
-    let chain = held_bytes::bit(numbers.flags, 2);
+    let chain = held_bytes::bit(numbers.flags, held_bytes::CHAIN);
     match numbers.kind {
-        raw_trb::NORMAL => outcome_of_held(chain, 1),
-        raw_trb::EVENT_DATA | raw_trb::NO_OP => outcome_of_held(chain, found.normals),
+        raw_trb::NORMAL => outcome_of_held(chain, true),
+        raw_trb::EVENT_DATA | raw_trb::NO_OP => outcome_of_held(chain, has_normal),
         _ => Outcome::Drop,
     }
 }

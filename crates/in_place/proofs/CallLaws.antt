@@ -149,15 +149,15 @@ module _ (s : Option InTrbProcessingStatus) (n : ℕ) (l b : List ℕ) where
 
 -- ---- The TD was walked
 
-pub transferred-met : (b l l' : List ℕ) (td : InTd) (held : ℕ) (st : InTrbProcessingStatus) (n : ℕ) (r : TdProcessed) → td ≡ in_td (endpoint_of b) (slot_of b) (block_of b).mode st n
-    → held ≡ held_count b → Meets (process_td td (take held (places b))) 0 l r l'
+pub transferred-met : (b l l' : List ℕ) (td : InTd) (st : InTrbProcessingStatus) (n : ℕ) (r : TdProcessed) → td ≡ in_td (endpoint_of b) (slot_of b) (block_of b).mode st n
+    → Meets (process_td td (take (held_count b) (places b))) 0 l r l'
     → Meets (completed_numbers (completions.transferred (block_of b) st n)) 0 l (completion_answered (Ok r.result) r.progress.records) l'
 unfolding block_of completions.transferred
-transferred-met b l l' td held st n r et eh m =
+transferred-met b l l' td st n r et m =
     let known : InTd = in_td (endpoint_of b) (slot_of b) (mode_of (get_or b 3 0)) st n in
     let ts : List TransferTrb = take (held_count b) (places b) in
     let walked : Meets (process_td known ts) 0 l r l' =
-    subst (λ (k : ℕ). Meets (process_td known (take k (places b))) 0 l r l') eh (subst (λ (x : InTd). Meets (process_td x (take held (places b))) 0 l r l') et m) in
+    subst (λ (x : InTd). Meets (process_td x ts) 0 l r l') et m in
     record {
       state = ap (λ (x : TdProcessed). completion_answered (Ok x.result) x.progress.records) walked.state
           ∙ ap (λ (k : ℕ). completion_answered (Ok (process_td known ts).state.result) k) (process_td-counts known ts);

@@ -24,11 +24,9 @@ pub fn complete(
     requires { block_length ≤ length block.old }
     ensures { CompletesInPlace (length log.old) res data_length log.old block.old result log.new block.new }
 {
-    let held = buffers::le16(block, 4);
     let asked = in_place_questions::ask_completion(log.len(), block, res, data_length);
-    if asked.is_err() {
-        let refused = in_endpoint::completion_answer(asked, TrbProcessingResult::Ok);
-        return answer_numbers::completed_as(refused, 0);
+    if let Err(refusal) = asked {
+        return answer_numbers::completed_as(Err(refusal), 0);
     }
     let state = in_place_questions::state_of(block);
     match in_block::ending_of(state, res, data_length as u32) {
@@ -38,15 +36,16 @@ pub fn complete(
         }
         Ending::Transfer(status, device_length) => {
             let td = in_place_walk::td_of(block, status, device_length);
-            let processed = in_place_walk::walk(log, block, held as usize, td);
-            in_place_store::free(block, held);
+            let places = in_bytes::held_places(block);
+            let processed = in_place_walk::walk(log, places, td);
+            in_place_store::free(block);
             answer_numbers::completed_as(Ok(processed.result), processed.progress.records)
         }
         Ending::ReportUnsupported(addr) => {
             let endpoint_id = in_bytes::endpoint_id(block);
             let slot_id = in_bytes::slot_id(block);
             in_endpoint::report_unsupported(log, addr, endpoint_id, slot_id);
-            in_place_store::free(block, held);
+            in_place_store::free(block);
             answer_numbers::completed_as(Ok(TrbProcessingResult::TrbError), 1)
         }
     }
@@ -70,8 +69,8 @@ fn goes_on(log_length: usize, block: &[u8], status: u8, data_length: usize) -> b
         && data_length <= trb::MAX_DATA
 }
 
-// Completes what was submitted last; ports `next_completion` and the loop of `process_td`. Of the device's data only the length is asked
-// for. Status: 0 Success, 1 Stall, 2 a transaction error, 3 a disconnect; any other number, no device result is given.
+// Completes what was submitted last; ports `next_completion`. Of the device's data only the length is asked for. Status: 0 Success, 1 Stall,
+// 2 a transaction error, 3 a disconnect; any other number, no device result is given.
 pub fn next_completion(
     log: &mut [u8],
     block: &mut [u8],
@@ -95,6 +94,7 @@ pub fn next_completion(
 
 // The bytes become a fresh block for this endpoint of this slot; mode 0 as ported, any other strict. Where an id is refused, both are 0;
 // where the bytes are too few for a block, they stay.
+// As `control_in_place::create`: what the two share is one question; what is made is of two layouts, by two definitions.
 #[tactic(auto, unfolding(trb::specs::Questions::first_no, in_endpoint::specs::Creation::creation))]
 pub fn create(block: &mut [u8], endpoint_id: u8, slot_id: u8, mode: u8) -> Answer
     ensures { CreatesInPlace (record { 0 = endpoint_id }) (record { 0 = slot_id }) (mode_of mode) block.old (number_of result) block.new }
@@ -114,7 +114,6 @@ pub fn cancel(block: &mut [u8]) -> Answer
     ensures { CancelsInPlace block.old (number_of result) block.new }
 {
     trb::ask(in_bytes::BLOCK <= block.len(), Refusal::BufferTooShort)?;
-    let held = buffers::le16(block, 4);
-    in_place_store::free(block, held);
+    in_place_store::free(block);
     Ok(())
 }

@@ -33,7 +33,7 @@ use Rattle.in_place_questions.proofs.LentLaws.{lent-long, lent-short}
 use Rattle.in_place.proofs.CallLaws.{answer-parts, accepted-zero}
 use Rattle.delivery_laws.specs.Delivered.{Delivered}
 use Rattle.delivery.specs.Completing.{delivery_questions, delivery, Delivers}
-use Rattle.delivery.proofs.CallLaws.{delivers-no, log-long, delivers-yes}
+use Rattle.delivery.proofs.CallLaws.{delivers-no, delivers-yes}
 use Rattle.delivery.proofs.QuestionLaws.{passed-delivery}
 use Rattle.in_place_delivery.specs.Delivering.{DeliversInPlace}
 
@@ -83,10 +83,6 @@ module _ (s : Option InTrbProcessingStatus) (bytes l b : List ℕ) (m : Memory) 
 
     counted : r.records ≡ completed.records
     counted = ap (λ (x : CompletionAnswered). x.records) h.met.state ∙ (answer-parts completed.answer completed.records).1
-
-    -- the log has the records that were logged
-    pub log-long-in-place : record_length * r.records ≤ length l'
-    log-long-in-place = omega (arith, counted, log-long (block_of b) s bytes l m none completed l' by_value)
 
     pub delivered-in-place : (a : Answer) (m' : Memory) → Carried (take (record_length * r.records) l') bytes m a m' → DeliversInPlace (length l) s bytes l b m r l' b' m'
     delivered-in-place a m' carried =

@@ -1,12 +1,13 @@
 // No torn frame, in place: completion and carry-out in one call over an IN block that lies in a lent row of bytes.
 #![tactic(auto)]
 
-ghost use Rattle.std.specs.Prelude.{◌≡◌, ◌≤◌, length, take};
+ghost use Rattle.std.specs.Prelude.{◌≡◌, ◌≤◌, length, map};
 ghost use Rattle.trb.specs.Answers.{number_of};
-ghost use Rattle.trb.specs.Limits.{max_held};
 ghost use Rattle.trb.specs.Questions.{first_no};
 ghost use Rattle.guest_memory.specs.Lent.{lent, SameRegions};
-ghost use Rattle.in_bytes.specs.Layout.{block_length, places, block_of};
+ghost use Rattle.held.specs.declared.EndpointKind.TheVariants.{In};
+ghost use Rattle.held_bytes.specs.Places.{place_of};
+ghost use Rattle.in_bytes.specs.Layout.{block_length, block_of};
 ghost use Rattle.in_place_questions.specs.Lent.{lent_log};
 ghost use Rattle.in_place.specs.InPlace.{result_of};
 ghost use Rattle.delivery_laws.specs.Ranges.{writes_inside};
@@ -15,16 +16,15 @@ ghost use Rattle.in_place_delivery.specs.Delivering.{DeliversInPlace};
 
 use answer_numbers::CompletionAnswered;
 use guest_memory::{GuestMemory, Regions};
-use trb::{Answer, InTrbProcessingStatus, Refusal, TrbProcessingResult};
+use trb::{Answer, InTrbProcessingStatus, Refusal};
 
-// Question 11, of the first `held` places: do their writes lie in one of the regions each, where the device has given so many bytes?
-fn writes_inside(block: &[u8], held: usize, given: u32, regions: Regions) -> bool
-    requires { (held ≤ max_held) × (block_length ≤ length block.now) }
-    ensures { result ≡ writes_inside regions given (take held (places block.now)) }
+// Question 11, of the TRBs in these places: do their writes lie in one of the regions each, where the device has given so many bytes?
+fn writes_inside(places: &[[u8; held_bytes::PLACE]], given: u32, regions: Regions) -> bool
+    ensures { result ≡ writes_inside regions given (map (place_of In) places.now) }
 {
     let mut left = given;
     // A loop that a no ends, as in `delivery`.
-    for place in in_bytes::held_places(block, held) {
+    for place in places {
         let one = in_bytes::trb_from(place, 0);
         let count = delivery::bytes_taken(one.variant, left);
         if !delivery::write_inside(one.variant, count, regions) {
@@ -36,6 +36,7 @@ fn writes_inside(block: &[u8], held: usize, given: u32, regions: Regions) -> boo
 }
 
 // Questions 1, 13, 2, 3, 8, 9 and 11, of the block that the bytes are.
+// By value `delivery::ask`: of the steps the first two alone are shared, and the others are each a function of a block or of its bytes.
 #[tactic(auto, unfolding(trb::specs::Questions::first_no, delivery::specs::Completing::delivery_questions))]
 fn ask(
     log_length: usize,
@@ -55,9 +56,9 @@ fn ask(
     in_place_questions::ask_completion(log_length, block, res, data_length)?;
     let state = in_place_questions::state_of(block);
     let given = delivery::bytes_given(state, data_length as u32);
-    let held = buffers::le16(block, 4) as usize;
+    let places = in_bytes::held_places(block);
     trb::ask(
-        writes_inside(block, held, given, regions),
+        writes_inside(places, given, regions),
         Refusal::WriteOutOfRange,
     )
 }
@@ -76,9 +77,8 @@ fn deliver(
 {
     let regions = memory.regions();
     let asked = ask(log.len(), block, res, data.len(), regions);
-    if asked.is_err() {
-        let refused = in_endpoint::completion_answer(asked, TrbProcessingResult::Ok);
-        return answer_numbers::completed_as(refused, 0);
+    if let Err(refusal) = asked {
+        return answer_numbers::completed_as(Err(refusal), 0);
     }
     let done = in_place::complete(log, block, res, data.len());
     // What is asked of a log was asked above: it is carried out.

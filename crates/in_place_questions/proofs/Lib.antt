@@ -1,2 +1,3 @@
 pub mod FactLaws
 pub mod LentLaws
+pub mod AnswerLaws

@@ -21,26 +21,29 @@ pub fn state_of(block: &[u8]) -> TdBasedNormalSubmissionState
     requires { block_length ≤ length block.now }
     ensures { result ≡ (block_of block.now).state }
 {
-    in_bytes::state_of(block[6], buffers::le64(block, 8))
+    in_bytes::state_of(
+        block[in_bytes::STATE_AT],
+        buffers::le64(block, in_bytes::ADDRESS_AT),
+    )
 }
 
 // What the questions ask about. Of the TRBs held it is enough to know whether a block that awaits the device has a Normal: so the facts are
 // given one by one, and not by `in_block::facts_of` of a block.
-pub fn facts_of(block: &[u8], state: TdBasedNormalSubmissionState) -> BlockFacts
-    requires { (block_length ≤ length block.now) × (state ≡ (block_of block.now).state) }
+pub fn facts_of(block: &[u8]) -> BlockFacts
+    requires { block_length ≤ length block.now }
     ensures { SameFacts result (facts_of (block_of block.now)) }
 {
-    let held = buffers::le16(block, 4) as usize;
-    let places = held::places_held(held);
-    let normals = in_bytes::normals_seen(in_block::awaits_device(state), block, places);
+    let state = state_of(block);
+    let places = in_bytes::held_places(block);
+    let has_normal = in_block::awaits_device(state) && in_bytes::has_normal(places);
     BlockFacts {
         endpoint_id: in_bytes::endpoint_id(block),
         slot_id: in_bytes::slot_id(block),
         state,
-        held,
+        held: in_bytes::held(block) as usize,
         found: HeldTest {
             sound: true,
-            normals,
+            normals: has_normal as usize,
         },
     }
 }
@@ -50,8 +53,8 @@ pub fn is_sound_in(number: u8, block: &[u8]) -> bool
     requires { (block_length ≤ length block.now) × (number < 2) }
     ensures { result ≡ true → SoundIn number block.now }
 {
-    block[6] == number
-        && buffers::le16(block, 4) as usize <= trb::MAX_HELD
+    block[in_bytes::STATE_AT] == number
+        && in_bytes::held(block) as usize <= trb::MAX_HELD
         && trb::ids_in_range(in_bytes::endpoint_id(block), in_bytes::slot_id(block))
 }
 
@@ -65,7 +68,7 @@ pub fn ask_submission(
     requires { block_length ≤ length block.now }
     ensures { number_of result ≡ first_no (submission_questions log_length (facts_of (block_of block.now)) (trb_of numbers) regions) }
 {
-    let facts = facts_of(block, state_of(block));
+    let facts = facts_of(block);
     in_numbers::ask_submission(log_length, facts, numbers, regions)
 }
 
@@ -79,6 +82,6 @@ pub fn ask_completion(
     requires { block_length ≤ length block.now }
     ensures { number_of result ≡ first_no (completion_questions log_length (facts_of (block_of block.now)) res data_length) }
 {
-    let facts = facts_of(block, state_of(block));
+    let facts = facts_of(block);
     in_questions::ask_completion(log_length, facts, res, data_length)
 }

@@ -3,7 +3,7 @@ use Rattle.std.specs.Prelude.{Err, Ok}
 use Prim.Native.Nat.{ℕ, ◌+◌, ◌/◌, ◌%◌, ◌<◌, ◌≤◌, min}
 use mathlib.Core.Path.{◌≡◌, refl, sym, ap, ◌∙◌, subst}
 use mathlib.Core.Bool.{Bool, true, false, cond, ◌&&◌}
-use mathlib.Core.List.{List}
+use mathlib.Core.List.{List, map}
 use mathlib.Core.Logic.{⊎_elim}
 use native.Mathlib.Omega.{arith}
 use lib.Dec.{eqb}
@@ -28,7 +28,7 @@ use Rattle.in_block.specs.Facts.{facts_of}
 use Rattle.in_block.specs.declared.BlockFacts.{BlockFacts}
 use Rattle.in_endpoint.specs.Completion.{completion_answer}
 use Rattle.held.specs.declared.EndpointKind.TheVariants.{In}
-use Rattle.held_bytes.specs.Places.{place_length, places_of}
+use Rattle.held_bytes.specs.Places.{place_length, place_of, places_of}
 use Rattle.in_bytes.specs.Layout.{block_length, endpoint_of, slot_of, mode_of, block_of}
 use Rattle.in_place_questions.specs.Lent.{SameFacts, lent_log}
 use Rattle.in_place_questions.proofs.LentLaws.{lent-short}
@@ -46,7 +46,7 @@ use Rattle.in_row.specs.declared.TdsCompleted.{TdsCompleted}
 use Rattle.in_row.proofs.RowLaws.{known-row, refused-row, accepted-row}
 use Rattle.row_bytes.specs.Layout.{result_length, trbs_in, results_in, row_count}
 use Rattle.row_bytes.proofs.CellLaws.{length-trbs_in}
-use Rattle.in_place_row.proofs.KeptLaws.{row_kept}
+use Rattle.in_place_row.proofs.KeptLaws.{row_kept, trbs_of, as_many}
 use Rattle.in_place_row.specs.InPlaceRow.{row_answered, row_asked, started_of, CompletesTdsInPlace}
 use Rattle.in_place_row.specs.declared.RowAnswered.{RowAnswered}
 
@@ -134,13 +134,22 @@ module _ (b row results : List ℕ) (n : ℕ) (regions : Regions) (l : List ℕ)
 
     module _ (accepts : is_accepted a ≡ true) where
       -- behind every yes, what the walk asks for
-      pub walkable-row : (length (trbs_in row) ≤ max_row) × ((length (results_in results) ≤ max_row) × ((trbs_in row ≡ places_of In (length row / place_length) row) × Walkable (trbs_in row) (results_in results) (length l)))
+      walkable-row : (length (trbs_in row) ≤ max_row) × ((length (results_in results) ≤ max_row) × ((trbs_in row ≡ places_of In (length row / place_length) row) × Walkable (trbs_in row) (results_in results) (length l)))
       walkable-row =
           let known = known-row (block_of b) (row_count row results) (trbs_in row) (length (results_in results)) (results_in results) n regions l a e accepts in
           let fits = row_fits row results known.few in
           let few = row-few (length l) regions (facts_of (block_of b)) (row_count row results) (trbs_in row) (length (results_in results)) (results_in results) n known fits.1 in
           let walkable = row-walkable (length l) regions (facts_of (block_of b)) (row_count row results) (trbs_in row) (length (results_in results)) (results_in results) n known fits.1 refl in
           (fits.0, (few, (row_kept regions row known.kinds known.trbs, walkable)))
+
+      -- so it does of its places
+      pub walkable-cells : (cells : List (List ℕ)) → trbs_of cells ≡ trbs_in row → map (place_of In) cells ≡ places_of In (length row / place_length) row
+          → (length cells ≤ max_row) × ((length (results_in results) ≤ max_row) × ((trbs_of cells ≡ map (place_of In) cells) × Walkable (trbs_of cells) (results_in results) (length l)))
+      walkable-cells cells given held =
+          let w = walkable-row in (
+            omega (arith, as_many cells, ap (λ (ts : List TransferTrb). length ts) given, w.0),
+            (w.1.0, (given ∙ w.1.1.0 ∙ sym held, subst (λ (ts : List TransferTrb). Walkable ts (results_in results) (length l)) (sym given) w.1.1.1)),
+          )
 
       -- and what it comes to
       pub completes-accepted : {r : RowAnswered} (w : RowProgress) (l' : List ℕ)

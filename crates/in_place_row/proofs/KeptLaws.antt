@@ -1,22 +1,22 @@
 -- Behind question 15 and questions 4 of its TRBs a row lies in places as the TRBs of a block do: each place says its TRB. Assumes nothing.
-use Prim.Native.Nat.{ℕ, zero, suc, ◌+◌, ◌-◌, ◌*◌, ◌/◌, ◌%◌, ◌≤◌}
+use Prim.Native.Nat.{ℕ, zero, suc, ◌+◌, ◌/◌, ◌%◌, ◌<◌, ◌≤◌}
 use mathlib.Core.Path.{◌≡◌, refl, sym, ap, ◌∙◌}
 use mathlib.Core.Bool.{Bool, true, false, cond, true≢false}
-use mathlib.Core.List.{List, ◌∷◌}
-use native.Mathlib.Nat.{not-suc-le-zero}
-use native.Mathlib.Numerals.{unary_clauses}
+use mathlib.Core.List.{List, [], ◌∷◌, map}
 use native.Mathlib.Omega.{arith}
 use lib.Dec.{eqb}
-use lib.ListN.{length, take, drop, get_or}
-use lib.Seq.{drop-drop}
+use lib.ListN.{length, length-map, take, drop, get_or}
+use Rattle.std.proofs.lemmas.List.{get_or-map, drop-map, take-map}
 use borrow.Author.Tests.{leb-true}
-use Rattle.trb.specs.Limits.{max_held, max_transfer_length}
+use Rattle.trb.specs.Limits.{max_transfer_length}
 use Rattle.trb.specs.Questions.{first_no}
 use Rattle.trb.specs.Trbs.{transfer_length}
+use Rattle.trb.specs.declared.TransferTrb.{TransferTrb}
 use Rattle.trb.specs.declared.TransferTrbVariant.{TransferTrbVariant}
 use Rattle.trb.specs.declared.TransferTrbVariant.TheVariants.{SetupStage, DataStage, StatusStage, Normal, EventData, NoOp, Isoch, Unrecognized}
 use Rattle.trb.proofs.TestLaws.{and_left, and_right}
 use Rattle.buffers.specs.LittleEndian.{le_field}
+use Rattle.held.specs.Places.{past_end}
 use Rattle.held.specs.Sound.{supported}
 use Rattle.held.specs.declared.EndpointKind.TheVariants.{In}
 use Rattle.walks.specs.All.{all}
@@ -24,7 +24,6 @@ use Rattle.raw_trb.specs.Layouts.{normal_type, setup_stage_type, data_stage_type
 use Rattle.guest_memory.specs.declared.Regions.{Regions}
 use Rattle.held_bytes.specs.Numbers.{normal_of, setup_stage_of, data_stage_of, status_stage_of, event_data_of, no_op_of, variant_of, cycle_on}
 use Rattle.held_bytes.specs.Places.{place_length, place_of, places_of}
-use Rattle.held_bytes.proofs.PlaceLaws.{take-places_of}
 use Rattle.row_questions.specs.Questions.{in_supported, each_trb}
 use Rattle.row_questions.proofs.QuestionLaws.{passed-trb}
 use Rattle.row_bytes.specs.Layout.{cells_of, given_trb, trbs_in}
@@ -76,22 +75,21 @@ module _ (regions : Regions) where
   unfolding trbs_in
   row_kept row s e = kept-cells (length row / place_length) row 0 s e
 
--- ---- A part of a row
+-- ---- The places of a row
 
-drop-places : (i n : ℕ) (l : List ℕ) → i ≤ n → drop i (places_of In n l) ≡ places_of In (n - i) (drop (place_length * i) l)
-unfolding places_of
-drop-places zero n l h = simp unary_clauses refl
-drop-places (suc i) zero l h = absurd (not-suc-le-zero h)
-drop-places (suc i) (suc n) l h =
-    let left : n - i ≡ suc n - suc i = omega arith in
-    let next : place_length + place_length * i ≡ place_length * suc i = omega arith in
-    drop-places i n (drop place_length l) (omega arith)
-    ∙ ap (λ (x : ℕ). places_of In x (drop (place_length * i) (drop place_length l))) left
-    ∙ ap (places_of In (suc n - suc i)) (drop-drop (place_length * i) place_length l ∙ ap (λ (m : ℕ). drop m l) next)
+-- the TRBs that they say
+abbrev pub trbs_of : List (List ℕ) → List TransferTrb
+trbs_of cells = map given_trb cells
 
-pub places-from : (row : List ℕ) (n first size : ℕ) → first + size ≤ n → size ≤ max_held
-    → take size (drop first (places_of In n row)) ≡ take size (places_of In max_held (drop (place_length * first) row))
-places-from row n first size inside few =
-    ap (take size) (drop-places first n row (omega arith))
-    ∙ take-places_of In size (n - first) (drop (place_length * first) row) (omega arith)
-    ∙ sym (take-places_of In size max_held (drop (place_length * first) row) few)
+pub as_many : (cells : List (List ℕ)) → length (trbs_of cells) ≡ length cells
+as_many cells = length-map cells given_trb
+
+-- each where it is read
+pub read_at : (cells : List (List ℕ)) (i : ℕ) → i < length cells → get_or (trbs_of cells) i past_end ≡ given_trb (get_or cells i [])
+read_at cells i h = get_or-map given_trb cells i [] past_end h
+
+-- a part of them, as a walk reads them
+pub kept-part : (cells : List (List ℕ)) (first size : ℕ) → trbs_of cells ≡ map (place_of In) cells
+    → map (place_of In) (take size (drop first cells)) ≡ take size (drop first (trbs_of cells))
+kept-part cells first size e =
+    sym (ap (λ (ts : List TransferTrb). take size (drop first ts)) e ∙ ap (take size) (drop-map (place_of In) first cells) ∙ take-map (place_of In) size (drop first cells))

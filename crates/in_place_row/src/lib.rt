@@ -2,30 +2,29 @@
 // written where it stays.
 #![tactic(auto)]
 
-ghost use Rattle.std.specs.Prelude.{◌≡◌, true, ◌+◌, ◌*◌, ◌/◌, ◌<◌, ◌≤◌, ◌^◌, length, take, drop, get_or};
+ghost use Rattle.std.specs.Prelude.{◌≡◌, true, ◌+◌, ◌*◌, ◌<◌, ◌≤◌, ◌^◌, length, map, get_or};
 ghost use Rattle.trb.specs.Answers.{number_of};
 ghost use Rattle.trb.specs.Limits.{max_held, max_row};
 ghost use Rattle.trb.specs.Questions.{first_no};
 ghost use Rattle.call_log.specs.Calls.{Meets};
 ghost use Rattle.in_td.specs.Normals.{requested};
 ghost use Rattle.in_block.specs.Facts.{facts_of};
-ghost use Rattle.held.specs.Places.{past_end};
 ghost use Rattle.held.specs.declared.EndpointKind.TheVariants.{In};
-ghost use Rattle.held_bytes.specs.Places.{place_length, places_of};
+ghost use Rattle.held_bytes.specs.Places.{place_of};
 ghost use Rattle.in_bytes.specs.Layout.{block_length, block_of};
 ghost use Rattle.in_place_questions.specs.Lent.{lent_log};
 ghost use Rattle.row_walk.specs.Rows.{looked_at, past_results, process_row, Walkable};
 ghost use Rattle.row_walk.specs.Tds.{endsTd};
 ghost use Rattle.row_questions.specs.Questions.{row_questions};
 ghost use Rattle.row_questions.specs.Tests.{untested, tested_trb, tested_row};
-ghost use Rattle.row_bytes.specs.Layout.{trbs_in, results_in, row_count};
+ghost use Rattle.row_bytes.specs.Layout.{given_trb, trbs_in, results_in, row_count};
 ghost use Rattle.in_place_row.specs.InPlaceRow.{Taken, with_normal, row_answered, CompletesTdsInPlace};
 
 use guest_memory::Regions;
 use in_td::InMode;
 use row_questions::RowTest;
 use row_walk::{RowProgress, TdLooked};
-use trb::{Answer, CompletionAnswer, EndpointId, Refusal, SlotId, TrbProcessingResult};
+use trb::{Answer, CompletionAnswer, EndpointId, Refusal, SlotId};
 
 // What a row answers: the number of the question that said no, or 0; the failing result, else Ok (0 Ok, 1 Stall, 2 transaction error, 3
 // disconnect), with its completion code; whether it carries an address and a cycle bit, and these; TDs finished well; records logged.
@@ -46,16 +45,18 @@ pub struct RowAnswered {
 // ---- The walk
 
 // Looks at the TD whose first TRB has this index.
-fn look_at_td(row: &[u8], first: usize) -> TdLooked
-    requires { (first < length (trbs_in row.now)) × ((length (trbs_in row.now) ≤ max_row) × ((endsTd (trbs_in row.now) ≡ true) × (requested (trbs_in row.now) < 2 ^ 32))) }
-    ensures { result ≡ looked_at (trbs_in row.now) first }
+// Row and results stay two slices, as C hands them over: the walks go over either by itself.
+fn look_at_td(row: &[[u8; held_bytes::PLACE]], first: usize) -> TdLooked
+    requires { (first < length row.now) × ((length row.now ≤ max_row) × ((endsTd (map given_trb row.now) ≡ true) × (requested (map given_trb row.now) < 2 ^ 32))) }
+    ensures { result ≡ looked_at (map given_trb row.now) first }
 {
     let mut asked = row_walk::nothing_asked();
     let mut end = first;
     let mut more = true;
-    // The TRB that ends the TD is looked at too: the test stands behind it.
+    // By value `row_walk::look_at_td`: what both do of a TRB is `asked_more`'s, and a closure that reads TRB number i is no shorter.
+    // The TRB that ends the TD is looked at too: with its chain bit off it lets no turn follow.
     while more {
-        let t = row_bytes::trb_at(row, end);
+        let t = row_bytes::trb_in(&row[end]);
         asked = row_walk::asked_more(asked, t);
         more = trb::chain_of(t.variant);
         end += 1;
@@ -70,20 +71,20 @@ fn walk_row(
     endpoint_id: EndpointId,
     slot_id: SlotId,
     mode: InMode,
-    row: &[u8],
+    row: &[[u8; held_bytes::PLACE]],
     results: &[u8],
 ) -> RowProgress
-    requires { (length (trbs_in row.now) ≤ max_row) × ((length (results_in results.now) ≤ max_row) × ((trbs_in row.now ≡ places_of In (length row.now / place_length) row.now) × Walkable (trbs_in row.now) (results_in results.now) (length log.old))) }
-    ensures { Meets (process_row endpoint_id slot_id mode (trbs_in row.now) (results_in results.now)) 0 log.old result log.new }
+    requires { (length row.now ≤ max_row) × ((length (results_in results.now) ≤ max_row) × ((map given_trb row.now ≡ map (place_of In) row.now) × Walkable (map given_trb row.now) (results_in results.now) (length log.old))) }
+    ensures { Meets (process_row endpoint_id slot_id mode (map given_trb row.now) (results_in results.now)) 0 log.old result log.new }
 {
     let tds = row_bytes::result_count(results);
     let mut so_far = row_walk::at_start_of_row();
     let mut first = 0;
-    // An index: a TD's result is that of its number, and where its TRBs start is known once the TD before it was looked at.
+    // An index: of the results' bytes each is read where it lies, as number i.
     for i in 0..tds {
         let given = row_bytes::result_at(results, i);
         let TdLooked { asked, end } = look_at_td(row, first);
-        let head = row_bytes::trb_at(row, first);
+        let head = row_bytes::trb_in(&row[first]);
         let records = row_walk::log_request(
             log,
             so_far.records,
@@ -94,14 +95,7 @@ fn walk_row(
         );
         let td = row_walk::td_from(endpoint_id, slot_id, mode, so_far.start, given);
         let from = row_walk::unprocessed_from(so_far.start, records, asked.normals);
-        let processed = place_walk::walk_places(
-            log,
-            row,
-            held_bytes::PLACE * first,
-            end - first,
-            td,
-            from,
-        );
+        let processed = place_walk::walk_places(log, &row[first..end], td, from);
         so_far = row_walk::td_done(so_far, given, processed);
         if in_td::is_error(processed.result) {
             return so_far;
@@ -113,19 +107,18 @@ fn walk_row(
 
 // ---- The questions
 
-// Is the TRB in the place that starts at `at` a Normal with chain on, to which questions 4, 21 and 6 say yes? (Of a row
-// no TRB has so many others of its TD before it that 5 would say no.)
-fn is_taken(row: &[u8], at: usize, regions: Regions) -> bool
-    requires { at + place_length ≤ length row.now }
-    ensures { result ≡ true → Taken (drop at row.now) regions }
+// Is the TRB in this place a Normal with chain on, to which questions 4, 21 and 6 say yes? (Of a row no TRB has so many others of its TD
+// before it that 5 would say no.) By `in_numbers::ask_of_normal` its numbers would be made first, and question 5 asked as well.
+fn is_taken(place: &[u8; held_bytes::PLACE], regions: Regions) -> bool
+    ensures { result ≡ true → Taken place.now regions }
 {
-    let flags = row[at + 21];
-    let length = buffers::le32(row, at + 16);
-    row[at + 20] == raw_trb::NORMAL
-        && held_bytes::bit(flags, 2)
-        && !held_bytes::bit(flags, 16)
+    let flags = place[held_bytes::FLAGS_AT];
+    let length = buffers::le32(place, held_bytes::LENGTH_AT);
+    place[held_bytes::KIND_AT] == raw_trb::NORMAL
+        && held_bytes::bit(flags, held_bytes::CHAIN)
+        && !held_bytes::bit(flags, held_bytes::IMMEDIATE_DATA)
         && length <= trb::MAX_TRANSFER_LENGTH
-        && guest_memory::check_range(regions, buffers::le64(row, at + 8), length)
+        && guest_memory::check_range(regions, buffers::le64(place, held_bytes::VALUE_AT), length)
 }
 
 // With one Normal more, chained and taken.
@@ -141,27 +134,32 @@ fn with_normal(test: RowTest) -> RowTest
     }
 }
 
-// With TRB number j. Most TRBs of a row are chained Normals, for which a few tests are enough.
-fn test_at(test: RowTest, row: &[u8], j: usize, results: &[u8], regions: Regions) -> RowTest
-    requires { (j < length (trbs_in row.now)) × ((test.held < max_held) × ((test.tds ≤ max_row) × (test.given ≤ max_row * 2 ^ 32))) }
-    ensures { (result ≡ tested_trb regions test (get_or (trbs_in row.now) j past_end) (get_or (results_in results.now) test.tds past_results)) × (result.given ≤ test.given + 2 ^ 32) }
+// With the TRB in this place. Most TRBs of a row are chained Normals, for which a few tests are enough.
+fn test_at(
+    test: RowTest,
+    place: &[u8; held_bytes::PLACE],
+    results: &[u8],
+    regions: Regions,
+) -> RowTest
+    requires { (test.held < max_held) × ((test.tds ≤ max_row) × (test.given ≤ max_row * 2 ^ 32)) }
+    ensures { (result ≡ tested_trb regions test (given_trb place.now) (get_or (results_in results.now) test.tds past_results)) × (result.given ≤ test.given + 2 ^ 32) }
 {
-    if test.asked.is_ok() && is_taken(row, held_bytes::PLACE * j, regions) {
+    if test.asked.is_ok() && is_taken(place, regions) {
         return with_normal(test);
     }
-    let t = row_bytes::trb_at(row, j);
+    let t = row_bytes::trb_in(place);
     let given = row_bytes::result_at(results, test.tds);
     row_questions::test_trb(test, t, given, regions)
 }
 
-// What the questions ask of the first `count` TRBs.
-fn test_row(row: &[u8], results: &[u8], count: usize, regions: Regions) -> RowTest
-    requires { (count ≤ length (trbs_in row.now)) × (count ≤ max_row) }
-    ensures { result ≡ tested_row regions (results_in results.now) untested (take count (trbs_in row.now)) }
+// What the questions ask of the TRBs in these places.
+fn test_row(row: &[[u8; held_bytes::PLACE]], results: &[u8], regions: Regions) -> RowTest
+    requires { length row.now ≤ max_row }
+    ensures { result ≡ tested_row regions (results_in results.now) untested (map given_trb row.now) }
 {
     let mut test = row_questions::untested();
-    for j in 0..count {
-        test = test_at(test, row, j, results, regions);
+    for place in row {
+        test = test_at(test, place, results, regions);
     }
     test
 }
@@ -178,12 +176,12 @@ fn ask_row(
     requires { block_length ≤ length block.now }
     ensures { number_of result ≡ first_no (row_questions log_length regions (facts_of (block_of block.now)) (row_count row.now results.now) (trbs_in row.now) (length (results_in results.now)) (results_in results.now) data_length) }
 {
-    let state = in_place_questions::state_of(block);
-    let facts = in_place_questions::facts_of(block, state);
+    let facts = in_place_questions::facts_of(block);
     let count = row_bytes::row_count(row, results);
     let tds = row_bytes::result_count(results);
-    let tested = row_questions::places(row.len() / held_bytes::PLACE);
-    let test = test_row(row, results, tested, regions);
+    let places = row_bytes::places(row);
+    let tested = row_questions::places(places.len());
+    let test = test_row(&places[..tested], results, regions);
     row_questions::ask_row(log_length, regions, facts, count, test, tds, data_length)
 }
 
@@ -218,16 +216,15 @@ fn complete(
     ensures { CompletesTdsInPlace (length log.old) block.now row.now results.now data_length regions log.old result log.new }
 {
     let asked = ask_row(log.len(), block, row, results, regions, data_length);
-    if asked.is_err() {
-        let refused = in_endpoint::completion_answer(asked, TrbProcessingResult::Ok);
-        return answered_as(refused, 0, 0);
+    if let Err(refusal) = asked {
+        return answered_as(Err(refusal), 0, 0);
     }
     let endpoint_id = in_bytes::endpoint_id(block);
     let slot_id = in_bytes::slot_id(block);
-    let mode = in_bytes::mode_of(block[3]);
-    let walked = walk_row(log, endpoint_id, slot_id, mode, row, results);
-    let answer = in_endpoint::completion_answer(asked, walked.result);
-    answered_as(answer, walked.finished, walked.records)
+    let mode = in_bytes::mode(block);
+    let places = row_bytes::places(row);
+    let walked = walk_row(log, endpoint_id, slot_id, mode, places, results);
+    answered_as(Ok(walked.result), walked.finished, walked.records)
 }
 
 // Completes a row of whole TDs, with a result for each and the data joined, on an endpoint that holds nothing. Of the data and of guest

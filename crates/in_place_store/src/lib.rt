@@ -17,30 +17,33 @@ ghost use Rattle.in_place_store.specs.Becomes.{Becomes};
 use held_bytes::TrbNumbers;
 
 // The TRB is held too, and the block in this state.
-pub fn store(block: &mut [u8], held: u16, numbers: TrbNumbers, state: u8)
-    requires block_length_in_bounds { (block_length ≤ length block.old) × ((held ≡ held_count block.old) × (held < max_held)) }
+pub fn store(block: &mut [u8], numbers: TrbNumbers, state: u8)
+    requires block_length_in_bounds { (block_length ≤ length block.old) × (held_count block.old < max_held) }
     requires numbers_bound { (transfer_length (trb_of numbers).variant ≤ max_transfer_length) × (supported In (trb_of numbers).variant ≡ true) }
     ensures { Becomes block.old (with_state (stored (block_of block.old) (trb_of numbers)) (state_of state (le_field 8 8 block.old))) block.new }
 {
+    let held = in_bytes::held(block);
     in_bytes::put_trb(block, held as usize, numbers);
     in_bytes::put_head(block, state, held + 1);
 }
 
 // Nothing is held any more: the TRB at `addr` was of an unsupported kind.
-pub fn drop_held(block: &mut [u8], held: u16, addr: u64)
-    requires { (block_length ≤ length block.old) × (held ≡ held_count block.old) }
+pub fn drop_held(block: &mut [u8], addr: u64)
+    requires { block_length ≤ length block.old }
     ensures { Becomes block.old (emptied (block_of block.old) (UnsupportedTrb addr)) block.new }
 {
+    let held = in_bytes::held(block);
     in_bytes::put_address(block, addr);
     in_bytes::blank_places(block, held::places_held(held as usize));
     in_bytes::put_head(block, in_bytes::UNSUPPORTED, 0);
 }
 
 // Nothing is held any more, and a submission is due.
-pub fn free(block: &mut [u8], held: u16)
-    requires { (block_length ≤ length block.old) × (held ≡ held_count block.old) }
+pub fn free(block: &mut [u8])
+    requires { block_length ≤ length block.old }
     ensures { Becomes block.old (emptied (block_of block.old) SubmissionDue) block.new }
 {
+    let held = in_bytes::held(block);
     in_bytes::blank_places(block, held::places_held(held as usize));
     in_bytes::put_head(block, in_bytes::DUE, 0);
 }
@@ -50,7 +53,7 @@ pub fn keep(block: &mut [u8])
     requires { block_length ≤ length block.old }
     ensures { Becomes block.old (with_state (block_of block.old) SubmissionDue) block.new }
 {
-    block[6] = in_bytes::DUE;
+    block[in_bytes::STATE_AT] = in_bytes::DUE;
 }
 
 // The bytes become a fresh block with these ids, in this mode.

@@ -1,7 +1,8 @@
 -- What of the TRBs held the outcome of a TRB depends on. Assumes nothing.
 use Prim.Native.Nat.{ℕ, ◌+◌, min}
 use mathlib.Core.Path.{◌≡◌, refl, sym, ap, ◌∙◌}
-use mathlib.Core.Bool.{Bool, true, false, cond}
+use mathlib.Core.Bool.{Bool, true, false, cond, not}
+use mir.Val.{bool_byte}
 use mathlib.Core.List.{List}
 use native.Mathlib.Omega.{arith}
 use lib.Dec.{eqb}
@@ -46,6 +47,11 @@ pub outcome-same : (f g : HeldTest) (t : TransferTrb) → (chain_of t.variant �
 unfolding outcome_of
 outcome-same f g t e =
     outcome-by (supported In t.variant) (chain_of t.variant) _ _ (λ off. zero_more f.normals g.normals (normal_count t.variant) (e off))
+
+-- whether there is one, as a count
+pub as-count : (some : Bool) → eqb (bool_byte some) 0 ≡ not some
+as-count true = refl
+as-count false = refl
 
 -- the outcome behind the first n, once it was looked whether there is a Normal
 pub outcome-seen : (b : List ℕ) (n k : ℕ) (s : Bool) (t : TransferTrb) → (chain_of t.variant ≡ false → eqb k 0 ≡ eqb (normals (take n (places b))) 0)

@@ -1,6 +1,6 @@
 -- What a submission in place comes to, by its answer and what it stored. Assumes nothing.
 use Rattle.std.specs.Prelude.{Err, Ok}
-use Prim.Native.Nat.{ℕ, ◌+◌, ◌<◌}
+use Prim.Native.Nat.{ℕ, ◌<◌}
 use mathlib.Core.Path.{◌≡◌, refl, sym, ap, ◌∙◌, subst}
 use mathlib.Core.Bool.{Bool, true, false}
 use mathlib.Core.List.{List, [], ◌∷◌}
@@ -28,7 +28,7 @@ use Rattle.in_endpoint.specs.Submission as submissions
 use Rattle.in_endpoint.specs.Returned.{Submitted}
 use Rattle.answer_numbers.specs.Numbers.{answered_as}
 use Rattle.answer_numbers.specs.declared.Answered.{Answered}
-use Rattle.in_bytes.specs.Layout.{block_length, endpoint_of, slot_of, places, block_of}
+use Rattle.in_bytes.specs.Layout.{block_length, endpoint_of, slot_of, held_count, places, block_of}
 use Rattle.in_place_store.specs.Becomes.{Becomes}
 use Rattle.in_place_store.proofs.ChangeLaws.{becomes-same}
 use Rattle.in_place_questions.specs.Lent.{lent_log}
@@ -78,13 +78,16 @@ module _ (k : ℕ) (t : TransferTrb) (regions : Regions) (l b : List ℕ) where
       }
 
 -- the request of the TRBs that are held then
-pub request-said : (x : InBlock) (t : TransferTrb) (b' : List ℕ) (n : ℕ) (l l' : List ℕ) → n ≡ x.held + 1 → block_of b' ≡ with_state (stored x t) AwaitingRealTransfer
-    → Put l 0 (submissions.request_of (take n (places b')) (endpoint_of b') (slot_of b') ∷ []) l' → Put l 0 (submissions.request_of (held_of (stored x t)) x.endpoint_id x.slot_id ∷ []) l'
+pub request-said : (x : InBlock) (t : TransferTrb) (b' : List ℕ) (l l' : List ℕ) → block_of b' ≡ with_state (stored x t) AwaitingRealTransfer
+    → Put l 0 (submissions.request_of (take (held_count b') (places b')) (endpoint_of b') (slot_of b') ∷ []) l' → Put l 0 (submissions.request_of (held_of (stored x t)) x.endpoint_id x.slot_id ∷ []) l'
 unfolding block_of
-request-said x t b' n l l' e h put =
-    subst (λ (r : Record). Put l 0 (r ∷ []) l')
-    (ap (λ (z : InBlock). submissions.request_of (take n z.trbs) z.endpoint_id z.slot_id) h
-    ∙ ap (λ (k : ℕ). submissions.request_of (take k (stored x t).trbs) x.endpoint_id x.slot_id) e) put
+request-said x t b' l l' h put =
+    subst (λ (r : Record). Put l 0 (r ∷ []) l') (ap (λ (z : InBlock). submissions.request_of (held_of z) z.endpoint_id z.slot_id) h) put
+
+-- a TRB is held
+pub held-some : (x : InBlock) (t : TransferTrb) (b' : List ℕ) → block_of b' ≡ with_state (stored x t) AwaitingRealTransfer → 0 < held_count b'
+unfolding block_of
+held-some x t b' h = omega (arith, ap (λ (z : InBlock). z.held) h)
 
 -- bytes too few for a block
 pub submits-short : (t : TransferTrb) (regions : Regions) (l b : List ℕ) {r : Answered} → length b < block_length → r ≡ answered_as (Err BufferTooShort) 0

@@ -2,44 +2,42 @@
 #![tactic(auto)]
 
 ghost use Rattle.std.specs.Prelude.{◌≡◌, true, not, [], ◌∷◌, ◌≤◌, ◌<◌, length, take};
-ghost use Rattle.trb.specs.Limits.{max_held, min_log};
+ghost use Rattle.trb.specs.Limits.{min_log};
 ghost use Rattle.call_log.specs.Calls.{Put};
 ghost use Rattle.guest_memory.specs.Regions.{share_an_address};
 ghost use Rattle.in_block.specs.Facts.{held_test};
 ghost use Rattle.in_block.specs.Outcomes.{outcome_of};
 ghost use Rattle.in_endpoint.specs.Submission.{request_of};
 ghost use Rattle.held_bytes.specs.Numbers.{trb_of};
-ghost use Rattle.in_bytes.specs.Layout.{block_length, endpoint_of, slot_of, places};
+ghost use Rattle.in_bytes.specs.Layout.{block_length, endpoint_of, slot_of, held_count, places};
 ghost use Rattle.in_place_questions.specs.Lent.{lent_log};
 ghost use Rattle.in_place_submission.specs.Submission.{Collected, SubmitsInPlace};
 
 use answer_numbers::Answered;
 use guest_memory::Regions;
 use held_bytes::TrbNumbers;
-use in_block::{HeldTest, Outcome};
+use in_block::Outcome;
 use trb::Refusal;
 
-// What becomes of a TRB behind the first `held`. Only at the end of a TD it is asked whether that has a Normal.
-fn outcome_of(block: &[u8], held: usize, numbers: TrbNumbers) -> Outcome
-    requires { (block_length ≤ length block.now) × (held ≤ max_held) }
-    ensures { result ≡ outcome_of (held_test (take held (places block.now))) (trb_of numbers) }
+// What becomes of a TRB behind those held. Only at the end of a TD it is asked whether that has a Normal.
+fn outcome_of(block: &[u8], numbers: TrbNumbers) -> Outcome
+    requires { block_length ≤ length block.now }
+    ensures { result ≡ outcome_of (held_test (take (held_count block.now) (places block.now))) (trb_of numbers) }
 {
     let ends = !in_numbers::chain_of(numbers);
-    let normals = in_bytes::normals_seen(ends, block, held);
-    let found = HeldTest {
-        sound: true,
-        normals,
-    };
-    in_numbers::outcome_of(found, numbers)
+    let has_normal = ends && in_bytes::has_normal(in_bytes::held_places(block));
+    in_numbers::outcome_of(has_normal, numbers)
 }
 
-// Logs the request of the TD that the first `held` places are.
-fn log_request(log: &mut [u8], block: &[u8], held: usize)
-    requires { (block_length ≤ length block.now) × ((min_log ≤ length log.old) × ((0 < held) × (held ≤ max_held))) }
-    ensures { Put log.old 0 (request_of (take held (places block.now)) (endpoint_of block.now) (slot_of block.now) ∷ []) log.new }
+// Logs the request of the TD that is held.
+// By value `in_submission::log_request`; here of the first place the address is taken, and of the others type and length.
+// That the log is long enough is what question 1 asked of the caller's slice: behind it only a type made for this call could say so.
+fn log_request(log: &mut [u8], block: &[u8])
+    requires { (block_length ≤ length block.now) × ((min_log ≤ length log.old) × (0 < held_count block.now)) }
+    ensures { Put log.old 0 (request_of (take (held_count block.now) (places block.now)) (endpoint_of block.now) (slot_of block.now) ∷ []) log.new }
 {
     let first = in_bytes::trb_at(block, 0);
-    let length = in_bytes::requested_length(block, held);
+    let length = in_bytes::requested_length(in_bytes::held_places(block));
     let request = call_log::in_request(
         first.addr,
         length,
@@ -54,28 +52,27 @@ fn submit(log: &mut [u8], block: &mut [u8], numbers: TrbNumbers, regions: Region
     requires { block_length ≤ length block.old }
     ensures { SubmitsInPlace (length log.old) (trb_of numbers) regions log.old block.old result log.new block.new }
 {
-    let held = buffers::le16(block, 4);
-    let answer = in_place_questions::ask_submission(log.len(), block, numbers, regions);
-    if answer.is_err() {
-        return answer_numbers::answered_as(answer, 0);
+    let asked = in_place_questions::ask_submission(log.len(), block, numbers, regions);
+    if let Err(refusal) = asked {
+        return answer_numbers::answered_as(Err(refusal), 0);
     }
-    match outcome_of(block, held as usize, numbers) {
+    match outcome_of(block, numbers) {
         Outcome::Drop => {
-            in_place_store::drop_held(block, held, numbers.addr);
-            answer_numbers::answered_as(answer, 0)
+            in_place_store::drop_held(block, numbers.addr);
+            answer_numbers::answered_as(Ok(()), 0)
         }
         Outcome::Collect => {
-            in_place_store::store(block, held, numbers, in_bytes::COLLECTING);
-            answer_numbers::answered_as(answer, 0)
+            in_place_store::store(block, numbers, in_bytes::COLLECTING);
+            answer_numbers::answered_as(Ok(()), 0)
         }
         Outcome::CompleteLocally => {
-            in_place_store::store(block, held, numbers, in_bytes::LOCAL);
-            answer_numbers::answered_as(answer, 0)
+            in_place_store::store(block, numbers, in_bytes::LOCAL);
+            answer_numbers::answered_as(Ok(()), 0)
         }
         Outcome::Request => {
-            in_place_store::store(block, held, numbers, in_bytes::AWAITING);
-            log_request(log, block, held as usize + 1);
-            answer_numbers::answered_as(answer, 1)
+            in_place_store::store(block, numbers, in_bytes::AWAITING);
+            log_request(log, block);
+            answer_numbers::answered_as(Ok(()), 1)
         }
     }
 }
@@ -98,7 +95,7 @@ fn is_collected(log_length: usize, block: &[u8], numbers: TrbNumbers, regions: R
     if numbers.kind != raw_trb::NORMAL {
         return false;
     }
-    if !held_bytes::bit(numbers.flags, 2) {
+    if !held_bytes::bit(numbers.flags, held_bytes::CHAIN) {
         return false;
     }
     if !in_place_questions::is_sound_in(in_bytes::DUE, block) {
@@ -110,7 +107,7 @@ fn is_collected(log_length: usize, block: &[u8], numbers: TrbNumbers, regions: R
     if !share_none(regions) {
         return false;
     }
-    let held = buffers::le16(block, 4) as usize;
+    let held = in_bytes::held(block) as usize;
     let answer = in_numbers::ask_of_normal(held, numbers, regions);
     answer.is_ok()
 }
@@ -129,8 +126,7 @@ pub fn submit_trb(
         return answer_numbers::answered_as(Err(Refusal::BufferTooShort), 0);
     }
     if is_collected(log.len(), block, numbers, regions) {
-        let held = buffers::le16(block, 4);
-        in_place_store::store(block, held, numbers, in_bytes::COLLECTING);
+        in_place_store::store(block, numbers, in_bytes::COLLECTING);
         return answer_numbers::answered_as(Ok(()), 0);
     }
     submit(log, block, numbers, regions)

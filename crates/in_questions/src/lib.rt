@@ -54,6 +54,7 @@ pub fn ask_submission(
 }
 
 // Questions 1, 2, 3, 8 and 9, of a log and device data of these lengths.
+// As on the other endpoint: over facts of both types it would take a trait with three methods and their laws, for five questions.
 #[tactic(auto, unfolding(trb::specs::Questions::first_no, crate::specs::Questions::completion_questions))]
 pub fn ask_completion(
     log_length: usize,

@@ -11,7 +11,7 @@ use in_block::InBlock;
 use row_walk::TdResult;
 use trb::{CompletionAnswer, TransferTrb};
 
-// What a row comes to: the failing result, else Ok; TDs finished well; records.
+// What a row comes to: a refusal, or the failing result, else Ok; TDs finished well; records; the block behind it.
 #[derive(Clone, Copy)]
 pub struct TdsCompleted {
     pub answer: CompletionAnswer,

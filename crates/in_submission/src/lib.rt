@@ -15,6 +15,7 @@ use in_endpoint::Submitted;
 use trb::{EndpointId, SlotId, TransferTrb};
 
 // Logs the request of the TD that these TRBs are.
+// That the log is long enough is what question 1 asked of the caller's slice: behind it only a type made for this call could say so.
 fn log_request(log: &mut [u8], trbs: &[TransferTrb], endpoint_id: EndpointId, slot_id: SlotId)
     requires { (min_log ≤ length log.old) × ((0 < length trbs.now) × (requested trbs.now < 2 ^ 32)) }
     ensures { Put log.old 0 (request_of trbs.now endpoint_id slot_id ∷ []) log.new }

@@ -7,9 +7,6 @@ ghost use Rattle.kept_records.specs.Compact.{empty_write, same_endpoint_writes, 
 
 use call_log::Record;
 
-// The least number of bytes that no record's length can say.
-const LENGTH_END: u64 = 4294967296;
-
 // Is the record a write of 0 bytes?
 #[tactic(auto, unfolding(crate::specs::Compact::empty_write))]
 pub fn is_empty_write(record: Record) -> bool
@@ -29,13 +26,13 @@ fn same_endpoint_writes(first: Record, second: Record) -> bool
         && first.slot_id == second.slot_id
 }
 
-// Does the second write go on where the first ends, in guest address and in data start? No sum leaves its 64 bits.
+// Does the second write go on where the first ends, in guest address and in data start? No sum leaves its width.
 #[tactic(auto, unfolding(crate::specs::Compact::goes_on))]
 fn goes_on(first: Record, second: Record) -> bool
     ensures { result ≡ goes_on first second }
 {
     first.address.checked_add(first.length as u64) == Some(second.address)
-        && first.start as u64 + first.length as u64 == second.start as u64
+        && first.start.checked_add(first.length) == Some(second.start)
 }
 
 // Is the second record to be joined to the first?
@@ -45,5 +42,5 @@ pub fn joins(first: Record, second: Record) -> bool
 {
     same_endpoint_writes(first, second)
         && goes_on(first, second)
-        && first.length as u64 + (second.length as u64) < LENGTH_END
+        && first.length.checked_add(second.length).is_some()
 }

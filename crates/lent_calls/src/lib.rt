@@ -17,7 +17,7 @@ use in_block::InBlock;
 use in_calls::Row;
 use text::Text;
 
-// How much is lent: bytes of the log and of the collect buffer, and the regions of guest memory.
+// How much is lent: bytes of log and collect buffer, and the regions. Lengths: a later line of the script may lend more of the same.
 #[derive(Clone, Copy)]
 pub struct Lent {
     pub log: usize,

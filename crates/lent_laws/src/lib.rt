@@ -1,8 +1,8 @@
 // Layers over any function: a lent block is passed on by value, and the block of the answer is stored where it was lent.
 #![tactic(auto)]
 
-ghost use Rattle.std.specs.Fn.{FnOnceTakesAtMut, FnOnceReturnsAtMut};
-ghost use Rattle.lent_laws.specs.Layers.{TakesCompletion, CompletesBy, TakesSubmission, SubmitsBy, TakesCollecting, CollectsBy};
+ghost use Rattle.std.specs.Prelude.{◌≡◌};
+ghost use Rattle.lent_laws.specs.Layers.{returned_with, TakesCompletion, CompletesBy, TakesSubmission, SubmitsBy, TakesCollecting, CollectsBy};
 
 use trb::{Logged, Returned};
 
@@ -14,12 +14,15 @@ pub fn cancel_layer<B: Copy, F: FnOnce(B) -> B>(block: &mut B, callee: F)
     *block = callee(*block);
 }
 
-// A slice is lent again, for the time of a call, and comes back as the call left it.
-pub fn lent_again<T, R, F: FnOnce(&mut [T]) -> R>(row: &mut [T], callee: F) -> R
-    requires { FnOnceTakesAtMut F.FnOnce callee row.old }
-    ensures { FnOnceReturnsAtMut F.FnOnce callee row.old result row.new }
+// The block that the callee returned is left in the place of the one that was lent; the answer and the number of records stay.
+fn leave<A, B: Copy>(block: &mut B, returned: Returned<A, B>) -> Logged<A>
+    ensures { returned ≡ returned_with result block.new }
 {
-    callee(row)
+    *block = returned.block;
+    Logged {
+        answer: returned.answer,
+        records: returned.records,
+    }
 }
 
 // The layer of a completion: it ensures whatever the callee ensures, with the block of the answer left in the place of the one that was
@@ -34,12 +37,8 @@ pub fn completion_layer<A, B: Copy, X, F: FnOnce(&mut [u8], B, X, &[u8]) -> Retu
     requires { TakesCompletion F.FnOnce callee log.old block.old x bytes.now }
     ensures { CompletesBy F.FnOnce callee log.old block.old x bytes.now result block.new log.new }
 {
-    let r = callee(log, *block, x, bytes);
-    *block = r.block;
-    Logged {
-        answer: r.answer,
-        records: r.records,
-    }
+    let returned = callee(log, *block, x, bytes);
+    leave(block, returned)
 }
 
 // The layer of a submission, likewise, with guest memory lent to be read.
@@ -53,12 +52,8 @@ pub fn submission_layer<A, B: Copy, X, M, F: FnOnce(&mut [u8], B, X, &M) -> Retu
     requires { TakesSubmission F.FnOnce callee log.old block.old x memory.now }
     ensures { SubmitsBy F.FnOnce callee log.old block.old x memory.now result block.new log.new }
 {
-    let r = callee(log, *block, x, memory);
-    *block = r.block;
-    Logged {
-        answer: r.answer,
-        records: r.records,
-    }
+    let returned = callee(log, *block, x, memory);
+    leave(block, returned)
 }
 
 // The layer of a submission with a collect buffer, likewise.
@@ -72,10 +67,6 @@ pub fn collecting_layer<
     requires { TakesCollecting F.FnOnce callee log.old collect.old block.old x memory.now }
     ensures { CollectsBy F.FnOnce callee log.old collect.old block.old x memory.now result block.new log.new collect.new }
 {
-    let r = callee(log, collect, *block, x, memory);
-    *block = r.block;
-    Logged {
-        answer: r.answer,
-        records: r.records,
-    }
+    let returned = callee(log, collect, *block, x, memory);
+    leave(block, returned)
 }

@@ -23,6 +23,7 @@ fn joins_last(log: &[u8], kept: usize, record: Record) -> bool
 }
 
 // Writes row number `from` as row number `to` too.
+// By offsets: of the rows that `as_chunks_mut` gives no clause says what the log is at the end.
 #[tactic(auto, unfolding(buffers::specs::Patch::patch, kept_records::specs::Rows::row_at))]
 fn copy_row(log: &mut [u8], from: usize, to: usize)
     requires { (to ≤ from) × (record_length * (from + 1) ≤ length log.old) }

@@ -265,7 +265,7 @@ module _ (b : ControlBlock) (n : ℕ) (k : Kept b n) where
   input-behind KeepCollecting = k.input
   input-behind (ReportBadTrb a) = input-dropped true
   input-behind (Fail c r) = input-dropped true
-  input-behind (Realize input m) = input-dropped true
+  input-behind (Realize given) = input-dropped true
 
   -- where a Setup is expected behind it, nothing is held
   none-behind : (s : ControlSubmissionState) (r : Option ControlRequestProcessingResult) (m : ℕ) → agree (is_given r) (awaits_device s) ≡ true

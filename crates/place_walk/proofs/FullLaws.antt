@@ -2,10 +2,12 @@
 use Prim.Native.Nat.{ℕ, ◌+◌, ◌-◌, ◌%◌, ◌≤◌}
 use mathlib.Core.Path.{◌≡◌, refl, sym, ap, ◌∙◌, subst}
 use mathlib.Core.Bool.{Bool, true, false, true≢false}
-use mathlib.Core.List.{List, [], ◌∷◌}
+use mathlib.Core.List.{List, [], ◌∷◌, map}
 use native.Mathlib.Omega.{arith}
-use lib.ListN.{get_or}
+use lib.ListN.{length, length-map, length-drop, take, drop, get_or}
+use lib.Seq.{take_all}
 use borrow.Author.Tests.{ne_eqb}
+use Rattle.std.proofs.lemmas.List.{drop-map}
 use Rattle.trb.specs.Limits.{max_transfer_length}
 use Rattle.trb.specs.declared.CompletionCode.TheVariants.{Success}
 use Rattle.trb.specs.declared.InTrbProcessingStatus.{InTrbProcessingStatus}
@@ -32,10 +34,21 @@ use Rattle.in_td.specs.declared.InMode.TheVariants.{AsPorted, Strict}
 use Rattle.in_td.specs.declared.InTd.{InTd}
 use Rattle.in_td.specs.declared.TdProcessed.{TdProcessed}
 use Rattle.in_td.proofs.TdLaws.{normal-done, trb-by, td_walker}
+use Rattle.walks.specs.Walk.{walk}
 use Rattle.walks.proofs.WalkLaws.{Walked}
 use Rattle.held_bytes.specs.Numbers.{normal_of, variant_of}
 use Rattle.held_bytes.specs.Places.{place_of}
 use Rattle.place_walk.specs.Full.{SilentNormal, Reached}
+
+-- the TRBs of places
+abbrev pub trbs : List (List ℕ) → List TransferTrb
+trbs cells = map (place_of In) cells
+
+pub few : (cells : List (List ℕ)) → length cells ≤ length (trbs cells)
+few cells = omega (arith, length-map cells (place_of In))
+
+pub whole : (cells : List (List ℕ)) → take (length cells) (trbs cells) ≡ trbs cells
+whole cells = take_all (length cells) (trbs cells) (omega (arith, length-map cells (place_of In)))
 
 -- a TD that was not ended by an error goes on
 going-from : (p : TdProcessed) → ended p ≡ false → p ≡ going_on p.normals_left p.progress
@@ -132,3 +145,21 @@ module _ {td : InTd} {s₀ s : TdProcessed} {ts : List TransferTrb} {l₀ l : Li
 pub reached-from : {td : InTd} {s₀ s : TdProcessed} {ts : List TransferTrb} {l₀ l : List ℕ} {i : ℕ} → ended s₀ ≡ false
     → Walked (td_walker td) (going_on s₀.normals_left s₀.progress) ts l₀ l s i → ended s ≡ false → Reached td s₀ ts l₀ l s i
 reached-from {td} {s₀} {s} {ts} {l₀} {l} {i} going w on = subst (λ (p : TdProcessed). Reached td p ts l₀ l s i) (sym (going-from s₀ going)) (reached w on)
+
+-- the places behind the first i
+abbrev pub behind : ℕ → List (List ℕ) → List (List ℕ)
+behind i cells = take (length cells - i) (drop i cells)
+
+behind-all : (i : ℕ) (cells : List (List ℕ)) → behind i cells ≡ drop i cells
+behind-all i cells = take_all (length cells - i) (drop i cells) (omega (arith, length-drop i cells))
+
+pub length-behind : (i : ℕ) (cells : List (List ℕ)) → length (behind i cells) ≡ length cells - i
+length-behind i cells = ap (λ (xs : List (List ℕ)). length xs) (behind-all i cells) ∙ length-drop i cells
+
+-- the walk over them goes on with it
+pub went-on : {td : InTd} {s₀ s : TdProcessed} {l₀ l l' : List ℕ} {i : ℕ} {p : TdProcessed} (cells : List (List ℕ)) → Reached td s₀ (trbs cells) l₀ l s i
+    → Meets (walk (process_trb td) ended s (take (length (behind i cells)) (trbs (behind i cells)))) s.progress.records l p l' → Meets (walk (process_trb td) ended s₀ (trbs cells)) s₀.progress.records l₀ p l'
+went-on {td} {s₀} {s} {l₀} {l} {l'} {i} {p} cells r m =
+    let rest : take (length (behind i cells)) (trbs (behind i cells)) ≡ drop i (trbs cells) = whole (behind i cells) ∙ ap trbs (behind-all i cells) ∙ sym (drop-map (place_of In) i cells) in
+    let m' = subst (λ (ts : List TransferTrb). Meets (walk (process_trb td) ended s ts) s.progress.records l p l') rest m in
+    record { state = m'.state ∙ r.state; log = m'.log ∙ r.log; fits = r.fits m'.fits }

@@ -110,11 +110,12 @@ pub extern "C" fn polvihe_encode_trb(
 // ---- Stored logs, of any length
 
 // Question 10: is the log a multiple of 32 bytes with every kind 1, 2 or 3? Answers 10, or 0.
+#[tactic(auto, unfolding(trb::specs::Questions::first_no))]
 #[unsafe(no_mangle)]
 pub extern "C" fn polvihe_check_log(log: &[u8]) -> u32
     ensures { result ≡ first_no (check_questions log.now) }
 {
-    stored_logs::check(log)
+    trb::number_of(stored_logs::check(log)) as u32
 }
 
 // Compacts a log in its own buffer, and counts the records kept.

@@ -117,6 +117,7 @@ fn event_data(d: Dwords) -> EventDataTrb
     }
 }
 
+// As a Status Stage TRB's but for one bit, which its table has otherwise: each of the two is the rows of its own table.
 fn no_op_clear(d: Dwords) -> bool
     ensures { result ≡ all_zero (reserved_of no_op_table) d }
 {

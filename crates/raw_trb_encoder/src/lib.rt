@@ -1,9 +1,9 @@
 // The encoder of transfer TRBs.
 #![tactic(auto, unfolding(raw_trb::specs::Raw::encoded_dwords))]
 
-ghost use Rattle.std.specs.Prelude.{◌≡◌, [], ◌<◌};
+ghost use Rattle.std.specs.Prelude.{◌≡◌, ◌<◌, is_some, IfSome};
 ghost use Rattle.trb.specs.declared.TransferTrbVariant.TheVariants.{SetupStage, DataStage, StatusStage, Normal, EventData, NoOp};
-ghost use Rattle.raw_trb.specs.Fields.{dwords_with, bytes_of, control_dword};
+ghost use Rattle.raw_trb.specs.Fields.{bytes_of, control_dword};
 ghost use Rattle.raw_trb.specs.Raw.{has_fields, EncodedAs, Encodes};
 
 use raw_trb::Dwords;
@@ -149,53 +149,34 @@ fn no_op_dwords(t: NoOpTrb, cycle_bit: bool) -> Dwords
     }
 }
 
-fn encoded(variant: TransferTrbVariant, cycle_bit: bool) -> Dwords
-    ensures { EncodedAs variant cycle_bit result }
+// Of one of the six kinds with fields.
+fn encoded(variant: TransferTrbVariant, cycle_bit: bool) -> Option<Dwords>
+    ensures dwords { IfSome result (EncodedAs variant cycle_bit) }
+    ensures fields { is_some result ≡ has_fields variant }
 {
-    match variant {
+    Some(match variant {
         TransferTrbVariant::SetupStage(t) => setup_stage_dwords(t, cycle_bit),
         TransferTrbVariant::DataStage(t) => data_stage_dwords(t, cycle_bit),
         TransferTrbVariant::StatusStage(t) => status_stage_dwords(t, cycle_bit),
         TransferTrbVariant::Normal(t) => normal_dwords(t, cycle_bit),
         TransferTrbVariant::EventData(t) => event_data_dwords(t, cycle_bit),
         TransferTrbVariant::NoOp(t) => no_op_dwords(t, cycle_bit),
-        TransferTrbVariant::Isoch | TransferTrbVariant::Unrecognized => no_dwords(),
-    }
-}
-
-fn no_dwords() -> Dwords
-    ensures { result ≡ dwords_with [] }
-{
-    Dwords {
-        d0: 0,
-        d1: 0,
-        d2: 0,
-        d3: 0,
-    }
+        TransferTrbVariant::Isoch | TransferTrbVariant::Unrecognized => return None,
+    })
 }
 
 // ---- The 16 bytes
-
-// Is it one of the six kinds with fields?
-fn has_fields(variant: TransferTrbVariant) -> bool
-    ensures { result ≡ has_fields variant }
-{
-    !matches!(
-        variant,
-        TransferTrbVariant::Isoch | TransferTrbVariant::Unrecognized
-    )
-}
 
 // The 16 bytes of a TRB.
 pub fn encode(variant: TransferTrbVariant, cycle_bit: bool) -> Result<[u8; 16], Refusal>
     ensures { Encodes variant cycle_bit result }
 {
-    trb::ask(has_fields(variant), Refusal::NotEncodable)?;
+    let dwords = encoded(variant, cycle_bit).ok_or(Refusal::NotEncodable)?;
     trb::ask(
         trb::transfer_length(variant) <= trb::MAX_TRANSFER_LENGTH,
         Refusal::TransferTooLong,
     )?;
-    Ok(bytes_of(encoded(variant, cycle_bit)))
+    Ok(bytes_of(dwords))
 }
 
 // The bytes of four dwords.

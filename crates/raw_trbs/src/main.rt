@@ -10,21 +10,6 @@ use std::io;
 use std::io::{Read, Write};
 use text::Text;
 
-// How far a run has come: lines taken, and whether every one was good.
-#[derive(Clone, Copy)]
-struct Progress {
-    lines: u64,
-    good: bool,
-}
-
-// A line more, good or bad.
-fn line_behind(progress: Progress, good: bool) -> Progress {
-    Progress {
-        lines: script_lines::lines_behind(progress.lines, 1),
-        good,
-    }
-}
-
 // Takes one line, which comes without its line feed. Was it good?
 fn run_line<W: Write>(writer: &mut W, text: &mut Text<'_>, line: &[u8]) -> io::Result<bool>
     requires { max_raw_answer ≤ length text.old.bytes.now }
@@ -45,36 +30,33 @@ fn run_line<W: Write>(writer: &mut W, text: &mut Text<'_>, line: &[u8]) -> io::R
     Ok(true)
 }
 
-// Takes the input to its end, or to a bad line.
+// Takes the input to its end, or to a bad line, whose number it then gives.
 fn run_input<R: Read, W: Write>(
     reader: &mut R,
     writer: &mut W,
     text: &mut Text<'_>,
     input: &mut Input<'_>,
-) -> io::Result<Progress>
+) -> io::Result<Option<u64>>
     requires { max_raw_answer ≤ length text.old.bytes.now }
     ensures text { text.new.bytes.ghost_name ≡ text.old.bytes.ghost_name }
     ensures input { input.new.bytes.ghost_name ≡ input.old.bytes.ghost_name }
 {
-    let mut progress = Progress {
-        lines: 0,
-        good: true,
-    };
+    let mut lines = 0;
+    // A proved loop has to end, and nothing says that the input does: so its turns are counted, up to a number that no run uses up.
     for _ in 0..u64::MAX {
         match script_lines::next_line(reader, input)? {
             Found::Line(from, end) => {
-                let good = run_line(writer, text, &input.bytes[from..end])?;
-                progress = line_behind(progress, good);
+                lines = script_lines::lines_behind(lines, 1);
+                if !run_line(writer, text, &input.bytes[from..end])? {
+                    return Ok(Some(lines));
+                }
             }
             Found::Piece => (),
-            Found::End => return Ok(progress),
-            Found::Unfinished => progress = line_behind(progress, false),
-        }
-        if !progress.good {
-            return Ok(progress);
+            Found::End => return Ok(None),
+            Found::Unfinished => return Ok(Some(script_lines::lines_behind(lines, 1))),
         }
     }
-    Ok(progress)
+    Ok(None)
 }
 
 // Bytes of the text that is not yet written out.
@@ -90,6 +72,6 @@ fn main(rt: HostRuntime) -> io::Result<()> {
         bytes: &mut text_bytes,
         end: 0,
     };
-    let progress = run_input(&mut reader, &mut writer, &mut text, &mut input)?;
-    script_lines::finish(&mut writer, &text, progress.lines, progress.good)
+    let bad_line = run_input(&mut reader, &mut writer, &mut text, &mut input)?;
+    script_lines::finish(&mut writer, &text, bad_line)
 }

@@ -1,6 +1,6 @@
 -- Every record of every call has the ids of its endpoint: requests, writes and events, Success for the TRBs of a chain that is dropped, code 5, and what is told of a
 -- failed transfer; on both endpoints, single calls and rows. A no logs nothing. Assumes nothing.
-use Rattle.std.specs.Prelude.{Option}
+use Rattle.std.specs.Prelude.{Option, is_some, unwrap_or}
 use Prim.Native.Nat.{ℕ}
 use mathlib.Core.Bool.{Bool, true, false, cond}
 use mathlib.Core.Path.{◌≡◌, refl}
@@ -174,7 +174,7 @@ module _ (b : ControlBlock) where
       all_append b.endpoint_id b.slot_id (successes b.endpoint_id b.slot_id (held_control b)) _
       (successes-ids b.endpoint_id b.slot_id (held_control b)) (refl, refl, tt)
   ending-ids (does.Fail c r) a = (refl, refl, tt)
-  ending-ids (does.Realize input n) a = realize_chain-ids b.endpoint_id b.slot_id n input (held_control b)
+  ending-ids (does.Realize given) a = realize_chain-ids b.endpoint_id b.slot_id (unwrap_or given 0) (is_some given) (held_control b)
 
   pub control-completion-ids : (log : ℕ) (r : Option ControlRequestProcessingResult) (n : ℕ) → OwnControl (control_completing.completion log b r n).records
   unfolding control_completing.completion control_completing.accepted

@@ -1,15 +1,16 @@
 -- Laws of bytes as a row of cells: how many there are, where each is read, and what is read behind the last. Assumes nothing.
 use Prim.Native.Nat.{ℕ, zero, suc, ◌+◌, ◌*◌, ◌/◌, ◌<◌, ◌≤◌}
 use mathlib.Core.Path.{◌≡◌, refl, ap, ◌∙◌}
-use mathlib.Core.List.{List}
+use mathlib.Core.List.{List, ◌∷◌, map}
 use native.Mathlib.Nat.{not-suc-le-zero, mul-suc, add-zero}
 use native.Mathlib.Numerals.{unary_clauses}
 use native.Mathlib.Omega.{arith}
-use lib.ListN.{length, drop, get_or, get_or-eq_default}
-use lib.Seq.{drop-drop, get_or-drop}
+use lib.ListN.{length, take, drop, get_or, get_or-eq_default}
+use lib.Seq.{drop-drop, get_or-drop, get_or-take}
+use Rattle.std.specs.Simd.{first_chunks}
 use Rattle.buffers.specs.LittleEndian.{le_field}
-use Rattle.trb.specs.declared.TransferTrb.{TransferTrb}
 use Rattle.held_bytes.specs.Places.{place_length}
+use Rattle.held_bytes.proofs.ByteLaws.{take-drop-take}
 use Rattle.row_walk.specs.declared.TdResult.{TdResult}
 use Rattle.answer_numbers.specs.Numbers.{status_of}
 use Rattle.row_bytes.specs.Layout.{cells_of, given_trb, trbs_in, result_length, given_result, results_in}
@@ -36,9 +37,30 @@ pub length-trbs_in : (row : List ℕ) → length (trbs_in row) ≡ length row / 
 unfolding trbs_in
 length-trbs_in row = length-cells given_trb place_length (length row / place_length) row
 
-pub trb-in : (row : List ℕ) (i : ℕ) (d : TransferTrb) → i < length (trbs_in row) → get_or (trbs_in row) i d ≡ given_trb (drop (place_length * i) row)
+-- a TRB is its first 24 bytes
+given-take : (l : List ℕ) → given_trb (take place_length l) ≡ given_trb l
+unfolding given_trb
+given-take l =
+    rw (
+      take-drop-take 8 0 place_length l (omega arith),
+      take-drop-take 8 8 place_length l (omega arith),
+      take-drop-take 4 16 place_length l (omega arith),
+      get_or-take place_length l 20 0 (omega arith),
+      get_or-take place_length l 21 0 (omega arith),
+    )
+
+given-chunks : (n : ℕ) (l : List ℕ) → map given_trb (first_chunks place_length n l) ≡ cells_of given_trb place_length n l
+unfolding cells_of
+given-chunks zero l = refl
+given-chunks (suc n) l = λ i. given-take l i ∷ given-chunks n (drop place_length l) i
+
+pub length-chunks : (n : ℕ) (l : List ℕ) → length (first_chunks place_length n l) ≡ n
+length-chunks zero l = refl
+length-chunks (suc n) l = ap suc (length-chunks n (drop place_length l))
+
+pub trbs-chunked : (row : List ℕ) → map given_trb (first_chunks place_length (length row / place_length) row) ≡ trbs_in row
 unfolding trbs_in
-trb-in row i d h = get_or-cells given_trb place_length (length row / place_length) row i d (omega (arith, length-cells given_trb place_length (length row / place_length) row))
+trbs-chunked row = given-chunks (length row / place_length) row
 
 -- ---- Results
 

@@ -2,12 +2,12 @@
 // are.
 #![tactic(auto)]
 
-ghost use Rattle.std.specs.Prelude.{◌≡◌, ◌+◌, ◌<◌, ◌≤◌, length, drop, get_or};
-ghost use Rattle.held.specs.Places.{past_end};
+ghost use Rattle.std.specs.Prelude.{◌≡◌, ◌+◌, ◌/◌, ◌≤◌, length, map, drop, get_or};
+ghost use Rattle.held.specs.declared.EndpointKind.TheVariants.{In};
 ghost use Rattle.held_bytes.specs.Numbers.{trb_of};
-ghost use Rattle.held_bytes.specs.Places.{place_length};
+ghost use Rattle.held_bytes.specs.Places.{place_length, place_of, places_of};
 ghost use Rattle.row_walk.specs.Rows.{past_results};
-ghost use Rattle.row_bytes.specs.Layout.{given_numbers, trbs_in, result_length, given_result, results_in, row_count};
+ghost use Rattle.row_bytes.specs.Layout.{given_numbers, given_trb, trbs_in, result_length, given_result, results_in, row_count};
 
 use held_bytes::TrbNumbers;
 use row_walk::TdResult;
@@ -18,14 +18,21 @@ pub const RESULT: usize = 8;
 
 // ---- TRBs
 
-// The numbers in the place that starts at `at`, the length whole.
-fn numbers_at(row: &[u8], at: usize) -> TrbNumbers
-    requires { at + place_length ≤ length row.now }
-    ensures { result ≡ given_numbers (drop at row.now) }
+// The TRBs of the row, each by its bytes.
+pub fn places(row: &[u8]) -> &[[u8; held_bytes::PLACE]]
+    ensures given { map given_trb result.now ≡ trbs_in row.now }
+    ensures held { map (place_of In) result.now ≡ places_of In (length row.now / place_length) row.now }
+{
+    row.as_chunks().0
+}
+
+// The numbers in this place, the length whole.
+fn numbers_at(place: &[u8; held_bytes::PLACE]) -> TrbNumbers
+    ensures { result ≡ given_numbers place.now }
 {
     TrbNumbers {
-        transfer_length: buffers::le32(row, at + 16),
-        ..held_bytes::numbers_at(row, at)
+        transfer_length: buffers::le32(place, held_bytes::LENGTH_AT),
+        ..held_bytes::numbers_at(place, 0)
     }
 }
 
@@ -38,18 +45,17 @@ fn trb_of(numbers: TrbNumbers) -> TransferTrb
         return TransferTrb {
             variant: TransferTrbVariant::Normal(held_bytes::normal(numbers)),
             addr: numbers.addr,
-            cycle_bit: held_bytes::bit(numbers.flags, 1),
+            cycle_bit: held_bytes::bit(numbers.flags, held_bytes::CYCLE),
         };
     }
     held_bytes::trb_of(numbers)
 }
 
-// TRB number i of the row.
-pub fn trb_at(row: &[u8], i: usize) -> TransferTrb
-    requires { i < length (trbs_in row.now) }
-    ensures { result ≡ get_or (trbs_in row.now) i past_end }
+// The TRB in this place.
+pub fn trb_in(place: &[u8; held_bytes::PLACE]) -> TransferTrb
+    ensures { result ≡ given_trb place.now }
 {
-    trb_of(numbers_at(row, held_bytes::PLACE * i))
+    trb_of(numbers_at(place))
 }
 
 // ---- Results
@@ -89,6 +95,7 @@ pub fn result_count(results: &[u8]) -> usize
 }
 
 // How many TRBs the bytes are; bytes that do not split into whole TRBs and whole results are more than a row may have.
+// A number also of those, and no Option: question 15 asks of either no more than whether the row is short enough.
 pub fn row_count(row: &[u8], results: &[u8]) -> usize
     ensures { result ≡ row_count row.now results.now }
 {

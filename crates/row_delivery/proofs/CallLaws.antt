@@ -81,10 +81,6 @@ module _ (b : InBlock) (k : ℕ) (ts : List TransferTrb) (n : ℕ) (rs : List Td
   stored : take (record_length * r.records) l' ≡ encode_all called.records
   stored = rw (count, h.met.log) (take-logged l called.records)
 
-  -- so the log is long enough for them
-  pub log-long : record_length * r.records ≤ length l'
-  log-long = omega (arith, ap length stored ∙ length-encode_all called.records, length-take (record_length * r.records) l', count)
-
   -- ---- Accepted
 
   module _ (accepts : is_accepted r.answer ≡ true) where

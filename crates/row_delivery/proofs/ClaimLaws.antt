@@ -12,7 +12,8 @@ use Rattle.account.specs.Guest.{Distinct, IspOnNormals, LastNormalWithIoc, count
 use Rattle.row_walk.specs.Rows.{RowTd}
 use Rattle.delivery_laws.specs.Claims.{same_memory}
 use Rattle.delivery_laws.proofs.ClaimLaws.{same_bytes-refl}
-use Rattle.row_delivery.specs.Frames.{frame_over, first_records, EachDelivered}
+use Rattle.call_log.specs.First.{first_records}
+use Rattle.row_delivery.specs.Frames.{frame_over, EachDelivered}
 use Rattle.row_delivery.specs.Claims.{each_whole}
 
 -- demand 3's conditions, of each TD

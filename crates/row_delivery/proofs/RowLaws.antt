@@ -36,7 +36,8 @@ use Rattle.delivery_laws.proofs.ReadLaws.{byte_at-unnamed}
 use Rattle.delivery_laws.proofs.RangeLaws.{writes_in_range-append}
 use Rattle.delivery_laws.proofs.InsideLaws.{all_inside-bytes}
 use Rattle.delivery_laws.proofs.DeliveryLaws.{written-before, carried_first, frame-each}
-use Rattle.row_delivery.specs.Frames.{places_of, frame_over, first_records, DeliveredTd, frames_over, EachDelivered, RowDelivered}
+use Rattle.call_log.specs.First.{first_records}
+use Rattle.row_delivery.specs.Frames.{places_of, frame_over, DeliveredTd, frames_over, EachDelivered, RowDelivered}
 use Rattle.row_delivery.proofs.PlaceLaws.{PlacesInside, frames-unnamed, frames-each}
 use Rattle.row_delivery.proofs.TdLaws.{TdsInRegions, given_to, kinds-started, inside-started}
 

@@ -9,6 +9,7 @@ use Rattle.trb.specs.declared.SlotId.{SlotId}
 use Rattle.trb.specs.declared.TransferTrb.{TransferTrb}
 use Rattle.trb.specs.declared.TransferTrbVariant.TheVariants.{Normal}
 use Rattle.buffers.specs.Patch.{patch}
+use Rattle.call_log.specs.First.{first_records}
 use Rattle.call_log.specs.Logs.{encode_all}
 use Rattle.call_log.specs.Records.{guest_write, transfer_event, in_request}
 use Rattle.call_log.specs.declared.Record.{Record}
@@ -25,7 +26,7 @@ use Rattle.row_walk.specs.Accounts.{started_logs, joined}
 use Rattle.row_walk.specs.Rows.{RowTd, own_log}
 use Rattle.delivery_laws.specs.Laid.{laid_byte}
 use Rattle.delivery_laws.specs.Claims.{same_bytes, same_memory}
-use Rattle.row_delivery.specs.Frames.{frame_over, first_records}
+use Rattle.row_delivery.specs.Frames.{frame_over}
 
 -- ---- The test
 

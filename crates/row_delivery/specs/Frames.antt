@@ -1,6 +1,6 @@
 -- No torn frame, of a row of TDs: what guest memory is at the event that the guest relies on in each TD that was started. Assumes nothing.
-use Rattle.std.specs.Prelude.{ℕ, ◌+◌, ◌*◌, ◌<◌, min, false, ◌≡◌, List, [], ◌∷◌, ◌++◌, length, take, get_or, Ok}
-use Rattle.trb.specs.Limits.{record_length}
+use Rattle.std.specs.Prelude.{ℕ, ◌+◌, ◌<◌, min, false, ◌≡◌, List, [], ◌∷◌, ◌++◌, length, take, get_or, Ok}
+use Rattle.call_log.specs.First.{first_records}
 use Rattle.call_log.specs.declared.Record.{Record}
 use Rattle.guest_memory.specs.Places.{Memory, regions_of}
 use Rattle.carry_out.specs.Writes.{records_of}
@@ -26,10 +26,6 @@ frame_over bytes start x m = laid bytes m (numbered start (places_of x))
 abbrev pub AtPlaces : List ℕ → Memory → ℕ → RowTd → Type 0
 AtPlaces bytes m start x =
     (i : ℕ) → i < min x.given.length (requested x.trbs) → byte_at m (get_or (places x.trbs) i 0) ≡ get_or bytes (start + i) 0 ∷ []
-
--- the first k records of a log
-abbrev pub first_records : ℕ → List ℕ → List ℕ
-first_records k log = take (record_length * k) log
 
 -- of the joined data, guest memory m ahead of the row, the row's log, in which k records stand ahead of this TD's own ones, and guest memory as the TDs ahead
 -- left it

@@ -1,4 +1,4 @@
--- What the entry for a lent row does ahead of the walk: the questions, and the plan that they leave. Assumes nothing.
+-- What the entry for a lent row does ahead of the walk: the questions, and the TD that they leave. Assumes nothing.
 use Rattle.std.specs.Prelude.{ℕ, Err, None, Ok, Option, Result, Some}
 use Rattle.trb.specs.Answers.{refusal_of}
 use Rattle.trb.specs.Questions.{after_questions}
@@ -11,9 +11,9 @@ use Rattle.trb.specs.declared.TdBasedNormalSubmissionState.TheVariants.{Awaiting
 use Rattle.in_block.specs.declared.BlockFacts.{BlockFacts}
 use Rattle.in_block.specs.declared.HeldTest.{HeldTest}
 use Rattle.in_questions.specs.Questions.{completion_questions}
-use Rattle.in_td.specs.Td.{in_td, unprocessed}
+use Rattle.in_td.specs.Td.{in_td}
 use Rattle.in_td.specs.declared.InMode.{InMode}
-use Rattle.row_plan.specs.declared.RowPlan.{RowPlan}
+use Rattle.in_td.specs.declared.InTd.{InTd}
 
 -- ---- The questions
 
@@ -26,11 +26,7 @@ abbrev pub status_of : Option InTrbProcessingStatus → InTrbProcessingStatus
 status_of None = Success
 status_of (Some st) = st
 
--- every TRB of the row is walked
-abbrev pub accepted_plan : EndpointId → SlotId → InMode → ℕ → HeldTest → InTrbProcessingStatus → ℕ → RowPlan
-accepted_plan e s mode k found st n = record { td = in_td e s mode st n; start = unprocessed found.normals; count = k }
-
--- with a log of l bytes, a row of k TRBs and n bytes of data
-unfoldable pub row_plan : ℕ → EndpointId → SlotId → InMode → ℕ → HeldTest → Option InTrbProcessingStatus → ℕ → Result RowPlan Refusal
+-- as which TD the row is walked, with a log of l bytes, a row of k TRBs and n bytes of data
+unfoldable pub row_plan : ℕ → EndpointId → SlotId → InMode → ℕ → HeldTest → Option InTrbProcessingStatus → ℕ → Result InTd Refusal
 row_plan l e s mode k found r n =
-    after_questions (completion_questions l (row_facts e s k found) r n) (λ no. Err (refusal_of no)) (Ok (accepted_plan e s mode k found (status_of r) n))
+    after_questions (completion_questions l (row_facts e s k found) r n) (λ no. Err (refusal_of no)) (Ok (in_td e s mode (status_of r) n))

@@ -1,20 +1,12 @@
-// What the entry for a lent row of TRBs does ahead of walking the row: the questions, and what they leave to be walked.
+// What the entry for a lent row of TRBs does ahead of walking the row: the questions, and the TD that they leave to be walked.
 #![tactic(auto)]
 
 ghost use Rattle.std.specs.Prelude.{◌≡◌};
 ghost use Rattle.row_plan.specs.Plans.{status_of, row_plan};
 
 use in_block::{BlockFacts, HeldTest};
-use in_td::{InMode, InTd, TdProcessed};
+use in_td::{InMode, InTd};
 use trb::{EndpointId, InTrbProcessingStatus, Refusal, SlotId, TdBasedNormalSubmissionState};
-
-// What is to be walked: how many TRBs of the row, as which TD, and from which start.
-#[derive(Clone, Copy)]
-pub struct RowPlan {
-    pub td: InTd,
-    pub start: TdProcessed,
-    pub count: usize,
-}
 
 // The status of a device result; where none is given, question 8 refuses the row.
 fn status_of(res: Option<InTrbProcessingStatus>) -> InTrbProcessingStatus
@@ -23,7 +15,8 @@ fn status_of(res: Option<InTrbProcessingStatus>) -> InTrbProcessingStatus
     res.unwrap_or(InTrbProcessingStatus::Success)
 }
 
-// The questions that completion asks of a block that holds the row and awaits the device, by what was found of the row's TRBs.
+// The questions that completion asks of a block that holds the row and awaits the device, by what was found of the row's TRBs; behind them,
+// the TD as which the row is walked.
 pub fn ask(
     log_length: usize,
     endpoint_id: EndpointId,
@@ -33,7 +26,7 @@ pub fn ask(
     found: HeldTest,
     res: Option<InTrbProcessingStatus>,
     data_length: usize,
-) -> Result<RowPlan, Refusal>
+) -> Result<InTd, Refusal>
     ensures { result ≡ row_plan log_length endpoint_id slot_id mode row_length found res data_length }
 {
     // A row by itself has no block whose facts these were.
@@ -46,9 +39,5 @@ pub fn ask(
     };
     in_questions::ask_completion(log_length, facts, res, data_length)?;
     let status = status_of(res);
-    Ok(RowPlan {
-        td: in_td::td_of(endpoint_id, slot_id, mode, status, data_length as u32),
-        start: in_td::unprocessed(found.normals),
-        count: row_length,
-    })
+    Ok(in_td::td_of(endpoint_id, slot_id, mode, status, data_length as u32))
 }

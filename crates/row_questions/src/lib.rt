@@ -30,7 +30,8 @@ pub struct RowTest {
     pub given: u64,
 }
 
-// TRBs of a row that are tested: no more than there are places. `held::places_held` is that of a block, whose limit is another.
+// TRBs of a row that are tested: no more than there are places. `held::places_held` has the limit of a block: the two have one number, and
+// two names, by which the contracts go.
 pub fn places(count: usize) -> usize
     ensures { result ≡ min count max_row }
 {

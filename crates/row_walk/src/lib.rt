@@ -11,7 +11,7 @@ ghost use Rattle.row_walk.specs.Rows.{nothing_asked, asked_more, looked_at, unst
 ghost use Rattle.row_walk.specs.Tds.{endsTd};
 
 use in_td::{InMode, InTd, TdProcessed};
-use td_part::{TdProcessingState, TdProgress};
+use td_part::TdProgress;
 use trb::{
     EndpointId, InTrbProcessingStatus, SlotId, TransferTrb, TransferTrbVariant, TrbProcessingResult,
 };
@@ -73,21 +73,27 @@ pub fn asked_more(asked: TdAsk, t: TransferTrb) -> TdAsk
 }
 
 // Looks at the TD whose first TRB has this index.
+// Not one with `in_place_row`'s, over bytes: that takes a closure for each TRB, whose contract is no plainer than a second loop.
 fn look_at_td(row: &[TransferTrb], first: usize) -> TdLooked
     requires { (first < length row.now) × ((length row.now ≤ max_row) × ((endsTd row.now ≡ true) × (requested row.now < 2 ^ 32))) }
     ensures { result ≡ looked_at row.now first }
 {
     let mut asked = nothing_asked();
-    let mut end = first;
-    let mut more = true;
-    // An index: it is what is looked for, and the TRB that ends the TD is looked at too.
-    while more {
-        let t = row[end];
+    // An index: it is what is looked for. By `position` and `fold` the TRBs of each TD would be gone over once more.
+    for last in first..row.len() {
+        let t = row[last];
         asked = asked_more(asked, t);
-        more = trb::chain_of(t.variant);
-        end += 1;
+        if !trb::chain_of(t.variant) {
+            return TdLooked {
+                asked,
+                end: last + 1,
+            };
+        }
     }
-    TdLooked { asked, end }
+    TdLooked {
+        asked,
+        end: row.len(),
+    }
 }
 
 // Logs the request of a TD whose first TRB is at `addr`, if it has a Normal.
@@ -125,16 +131,12 @@ pub fn td_from(
 pub fn unprocessed_from(start: u32, records: usize, normals: usize) -> TdProcessed
     ensures { result ≡ from start records normals }
 {
-    TdProcessed {
-        progress: TdProgress {
-            start,
-            edtla: 0,
-            state: TdProcessingState::Default,
-            records,
-        },
-        normals_left: normals,
-        result: TrbProcessingResult::Ok,
-    }
+    let progress = TdProgress {
+        start,
+        records,
+        ..td_part::at_start_of_td()
+    };
+    in_td::going_on(normals, progress)
 }
 
 // Before the first TD.

@@ -32,6 +32,7 @@ fn device_byte(k: usize) -> u8
 }
 
 // Fills a buffer with the device's bytes.
+// As `fill_guest`: the two loops differ in the byte of a number, and a closure for that would bring its contract with it.
 pub fn fill_device(device: &mut [u8])
     ensures { device.new ≡ device_bytes (length device.old) }
 {

@@ -1,18 +1,19 @@
 -- Laws of fields: what the loop over a line meets. Assumes nothing.
-use Prim.Native.Nat.{ℕ, zero, suc, ◌<◌, ◌≤◌}
+use Prim.Native.Nat.{ℕ, zero, suc, ◌+◌, ◌<◌, ◌≤◌}
 use mathlib.Core.Path.{◌≡◌, refl, ◌∙◌}
 use mathlib.Core.Bool.{Bool, true, false, ◌&&◌}
 use mathlib.Core.List.{List, [], ◌∷◌}
 use native.Mathlib.Omega.{arith}
 use lib.Dec.{eqb, leb}
-use lib.ListN.{length, drop, get_or}
+use lib.ListN.{length, take, drop, get_or}
+use lib.Seq.{get_or-take}
 use borrow.Author.Tests.{eq-eqb, ne_eqb, lt-ltb, le-ltb, leb-true}
 use Rattle.std.specs.Prelude.{Option, Some, None}
 use Rattle.std.specs.List.{list_all, zip}
 use Rattle.call_number.specs.Numbers.{number_of}
 use Rattle.script_fields.specs.declared.Fields.{Fields}
 use Rattle.script_fields.specs.Words.{space, first_word, words_behind}
-use Rattle.script_fields.specs.Fields.{max_numbers, with_number, then_number, with_words, behind_letter, fields_of, all_at_most, within_limits}
+use Rattle.script_fields.specs.Fields.{max_numbers, with_number, then_number, with_words, behind_letter, fields_of, all_at_most, within_limits, AtMost}
 use Rattle.script_fields.proofs.WordLaws.{words_behind-rest, first_word-rest}
 
 -- at the end of the line
@@ -81,3 +82,17 @@ all_at_most-at (n ∷ ns) (m ∷ ms) (suc i) h k = all_at_most-at ns ms i (and-t
 pub within_limits-at : (limits : List ℕ) (f : Fields) (i : ℕ) → within_limits limits f ≡ true → i < length limits → get_or f.numbers i 0 ≤ get_or limits i 0
 unfolding within_limits
 within_limits-at limits f i h k = all_at_most-at f.numbers limits i (and-true (eqb f.count (length limits)) (all_at_most f.numbers limits) h).1 k
+
+at-most : (ms : List ℕ) (f : Fields) (n k : ℕ) → k + length ms ≤ n → ((i j : ℕ) → j ≡ k + i → i < length ms → get_or f.numbers j 0 ≤ get_or ms i 0)
+    → AtMost (take n f.numbers) f k ms
+at-most [] f n k h each = tt
+at-most (m ∷ ms) f n k h each = (
+  get_or-take n f.numbers k 0 (omega (arith, h)),
+  each 0 k (omega arith) (omega arith),
+  at-most ms f n (k + 1) (omega (arith, h)) (λ i j e l. each (suc i) j (omega (arith, e)) (omega (arith, l))),
+)
+
+-- the numbers of a line that is within its limits
+pub within-at-most : (limits : List ℕ) (f : Fields) (n : ℕ) → within_limits limits f ≡ true → length limits ≡ n → AtMost (take n f.numbers) f 0 limits
+within-at-most limits f n w size =
+    at-most limits f n 0 (omega (arith, size)) (λ i j e l. let same : j ≡ i = omega (arith, e) in rw same (within_limits-at limits f i w l))

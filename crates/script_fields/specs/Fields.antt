@@ -1,5 +1,5 @@
 -- A line of a script: a letter, then fields, each behind one space, each a numeral. Assumes nothing.
-use Rattle.std.specs.Prelude.{ℕ, ◌+◌, ◌-◌, Bool, true, false, cond, ◌&&◌, List, [], ◌∷◌, eqb, leb, ltb, length, take, drop, get_or, set, replicate, Option, Some, None}
+use Rattle.std.specs.Prelude.{ℕ, ◌≡◌, ◌≤◌, ◌+◌, ◌-◌, Bool, true, false, cond, ◌&&◌, List, [], ◌∷◌, eqb, leb, ltb, length, take, drop, get_or, set, replicate, Option, Some, None}
 use Rattle.call_number.specs.Numbers.{number_of}
 use Rattle.call_number.specs.RawBytes.{raw_places, raw_of}
 use Rattle.script_fields.specs.declared.Fields.{Fields}
@@ -51,10 +51,15 @@ all_at_most (n ∷ ns) (m ∷ ms) = leb n m && all_at_most ns ms
 unfoldable pub within_limits : List ℕ → Fields → Bool
 within_limits limits f = eqb f.count (length limits) && all_at_most f.numbers limits
 
+-- the numbers ns are those of a line, from number k on, and each is at most its limit
+abbrev pub AtMost : List ℕ → Fields → ℕ → List ℕ → Type 0
+AtMost ns f k [] = Unit {0}
+AtMost ns f k (m ∷ ms) = (get_or ns k 0 ≡ field f k) × (field f k ≤ m) × AtMost ns f (k + 1) ms
+
 -- ---- Raw TRBs
 
 abbrev pub behind_numbers : Option Fields → Option (List ℕ) → Option RawFields
-behind_numbers (Some f) (Some raw) = Some (record { letter = f.letter; count = f.count; first = field f 0; bytes = raw })
+behind_numbers (Some f) (Some raw) = Some (record { before = f; bytes = raw })
 behind_numbers (Some f) None = None
 behind_numbers None raw = None
 

@@ -1,15 +1,15 @@
 // A line of a script taken apart: its letter, and the fields behind it, each behind one space.
 #![tactic(auto)]
 
-ghost use Rattle.std.specs.Prelude.{◌≡◌, ◌+◌, ◌≤◌, length, not, eqb, leb};
+ghost use Rattle.std.specs.Prelude.{◌≡◌, ◌+◌, ◌≤◌, length, not, eqb, leb, true, false, MatchOption};
 ghost use Rattle.std.specs.List.{take_while, list_all, zip};
 ghost use Rattle.script_fields.specs.Words.{space};
-ghost use Rattle.script_fields.specs.Fields.{max_numbers, fields_of, within_limits, raw_fields_of};
+ghost use Rattle.script_fields.specs.Fields.{max_numbers, fields_of, within_limits, AtMost, raw_fields_of};
 
 // Numbers of a line.
 pub const MAX_NUMBERS: usize = 5;
 
-// A line's letter, and the numbers behind it; zeros behind the last number. A count beside the places: there is no heap.
+// A line's letter, and its numbers; zeros behind the last. A count beside them: the kit's `ArrayVec` has no `Copy`.
 #[derive(Clone, Copy)]
 pub struct Fields {
     pub letter: u8,
@@ -60,21 +60,31 @@ fn all_at_most(numbers: &[u64], limits: &[u64]) -> bool
 }
 
 // Has the line as many numbers as there are limits, and is each at most its limit?
-pub fn within_limits(fields: Fields, limits: &[u64]) -> bool
+fn within_limits(fields: Fields, limits: &[u64]) -> bool
     requires { length limits.now ≤ max_numbers }
     ensures { result ≡ within_limits limits.now fields }
 {
     fields.count == limits.len() && all_at_most(&fields.numbers, limits)
 }
 
+// The line's numbers, if there are as many as limits, and each is at most its limit.
+pub fn within<const N: usize>(fields: Fields, limits: [u64; N]) -> Option<[u64; N]>
+    requires { N ≤ max_numbers }
+    ensures cases { MatchOption result (within_limits limits.entry fields ≡ false) (λ ns. (within_limits limits.entry fields ≡ true) × AtMost ns fields 0 limits.entry) }
+{
+    if !within_limits(fields, &limits) {
+        return None;
+    }
+    let (numbers, _) = fields.numbers.split_first_chunk()?;
+    Some(*numbers)
+}
+
 // ---- Raw TRBs
 
-// A line whose last field is a raw TRB: its letter, how many numbers stand between them, the first of these, and the TRB's bytes.
+// A line whose last field is a raw TRB: what stands before it, as in any other line, and the TRB's bytes.
 #[derive(Clone, Copy)]
 pub struct RawFields {
-    pub letter: u8,
-    pub count: usize,
-    pub first: u64,
+    pub before: Fields,
     pub bytes: [u8; 16],
 }
 
@@ -90,12 +100,7 @@ pub fn read_raw_fields(line: &[u8]) -> Option<RawFields>
     if line[from - 1] != b' ' {
         return None;
     }
-    let fields = read_fields(&line[..from - 1])?;
+    let before = read_fields(&line[..from - 1])?;
     let bytes = call_number::read_raw(&line[from..])?;
-    Some(RawFields {
-        letter: fields.letter,
-        count: fields.count,
-        first: fields.numbers[0],
-        bytes,
-    })
+    Some(RawFields { before, bytes })
 }

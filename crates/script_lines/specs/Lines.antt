@@ -1,5 +1,5 @@
 -- The lines of an input, and the bytes of an unfinished one. Assumes nothing.
-use Rattle.std.specs.Prelude.{ℕ, ◌+◌, ◌-◌, ◌^◌, ◌≤◌, min, ◌≡◌, Bool, cond, List, [], ◌∷◌, ◌++◌, eqb, leb, length, take, drop, codes, decimal, Option}
+use Rattle.std.specs.Prelude.{ℕ, ◌+◌, ◌-◌, ◌^◌, ◌≤◌, min, ◌≡◌, cond, List, [], ◌∷◌, ◌++◌, eqb, leb, length, take, drop, codes, decimal, Option, Some, None}
 use Rattle.std.specs.Io.KnownBytes.{Appends}
 use Rattle.text.specs.declared.Text.{Text}
 use Rattle.text.specs.Wrote.{HasRoom}
@@ -39,6 +39,7 @@ pub record KeepsText (t t' : Text) (old new : Option (List ℕ)) : Type 0 where
   pub appends : Appends old new written
   pub left : written ++ take t'.end t'.bytes.now ≡ take t.end t.bytes.now
 
--- what is written behind a run of so many lines: where the last one is bad, `bad line` and their number
-abbrev pub bad_line_text : ℕ → Bool → List ℕ
-bad_line_text lines good = cond good [] (codes "bad line " ++ decimal lines ++ (line_feed ∷ []))
+-- what is written behind a run: where it ended at a bad line, `bad line` and its number
+abbrev pub bad_line_text : Option ℕ → List ℕ
+bad_line_text (Some number) = codes "bad line " ++ decimal number ++ (line_feed ∷ [])
+bad_line_text None = []

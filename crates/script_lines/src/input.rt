@@ -2,6 +2,7 @@
 ghost use Rattle.std.specs.Prelude.{◌≡◌, ◌≤◌, length, take};
 
 // The bytes from `from` up to `filled` are read and not yet taken.
+// No `BufRead`: `BufReader` asks for an allocator, and a locked stdin that cannot seek is read byte by byte.
 #[derive(Drop)]
 pub struct Input<'a> {
     pub bytes: &'a mut [u8],

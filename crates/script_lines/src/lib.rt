@@ -23,7 +23,7 @@ pub const MAX_LINE: usize = 3 + numerals::HEX_PLACES + call_number::RAW_PLACES;
 pub const PIECE: usize = 65536;
 
 // What was found: a line, which stands from an index up to another one; a piece of input; its end; or a line that is too long or that no
-// line feed ends. Each is taken for itself.
+// line feed ends. Four cases and no Option: each is taken for itself.
 #[derive(Clone, Copy)]
 pub enum Found {
     Line(usize, usize),
@@ -164,16 +164,17 @@ pub fn make_room<W: Write>(writer: &mut W, text: &mut Text<'_>, most: usize) -> 
 }
 
 // Writes out the number of the bad line at which a run ended, if it did.
-pub fn print_bad_line<W: Write>(writer: &mut W, lines: u64, good: bool) -> io::Result<()>
-    ensures { OnOk result (Appends (W.contents writer.old) (W.contents writer.new) (bad_line_text lines good)) }
+pub fn print_bad_line<W: Write>(writer: &mut W, bad_line: Option<u64>) -> io::Result<()>
+    ensures { OnOk result (Appends (W.contents writer.old) (W.contents writer.new) (bad_line_text bad_line)) }
 {
-    if !good {
-        writeln!(writer, "bad line {lines}")?;
+    if let Some(number) = bad_line {
+        writeln!(writer, "bad line {number}")?;
     }
     Ok(())
 }
 
 // Writes the text out: its first `end` characters, or as many as there are.
+// A writer and its text go side by side, and are no `BufWriter`: that one's buffer is on the heap, and a text is filled by proved writers.
 pub fn write_text<W: Write>(writer: &mut W, text: &Text<'_>) -> io::Result<()>
     ensures { OnOk result (Appends (W.contents writer.old) (W.contents writer.new) (take text.now.end text.now.bytes.now)) }
 {
@@ -181,9 +182,9 @@ pub fn write_text<W: Write>(writer: &mut W, text: &Text<'_>) -> io::Result<()>
 }
 
 // Writes out what is left of the text and, where the run ended at a bad line, its number.
-pub fn finish<W: Write>(writer: &mut W, text: &Text<'_>, lines: u64, good: bool) -> io::Result<()>
-    ensures { OnOk result (Appends (W.contents writer.old) (W.contents writer.new) (take text.now.end text.now.bytes.now ++ bad_line_text lines good)) }
+pub fn finish<W: Write>(writer: &mut W, text: &Text<'_>, bad_line: Option<u64>) -> io::Result<()>
+    ensures { OnOk result (Appends (W.contents writer.old) (W.contents writer.new) (take text.now.end text.now.bytes.now ++ bad_line_text bad_line)) }
 {
     write_text(writer, text)?;
-    print_bad_line(writer, lines, good)
+    print_bad_line(writer, bad_line)
 }

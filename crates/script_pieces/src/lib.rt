@@ -22,6 +22,7 @@ pub struct Taken {
 
 // Takes the whole lines of the input from index `from` on, as long as they are good and the text has room for a further answer. The text
 // starts anew.
+// How long the text's buffer is stays as a writer writes: a fact of the slice that was lent, which a text of any length does not say.
 pub fn take_lines(
     text: &mut Text<'_>,
     session: Session,

@@ -42,6 +42,9 @@ const STATUS_STAGE_FLAGS: u8 = CYCLE | CHAIN | INTERRUPT_ON_COMPLETION | DIRECTI
 
 const CHAINED_FLAGS: u8 = CYCLE | CHAIN | INTERRUPT_ON_COMPLETION;
 
+// The kind of a script's TRB that is of none of xHCI's transfer types.
+const UNRECOGNIZED: u8 = 0;
+
 // B is at most this where the kind has it.
 const MAX_LENGTH: u64 = 0xffff_ffff;
 
@@ -85,14 +88,14 @@ fn has_only_its_own(fields: TrbFields) -> bool
     ensures answer { result ≡ has_only_its_own fields }
     ensures fits { OnTrue result ((fields.kind ≤ 8) × (fields.flags ≤ 63) × (fields.b < 2 ^ 32)) }
 {
-    match fields.kind {
-        0 | 5 => has_only(fields, CYCLE, 0, 0),
-        1 => has_only(fields, NORMAL_FLAGS, u64::MAX, MAX_LENGTH),
-        2 => has_only(fields, SETUP_STAGE_FLAGS, u64::MAX, 0),
-        3 => has_only(fields, ALL_FLAGS, u64::MAX, MAX_LENGTH),
-        4 => has_only(fields, STATUS_STAGE_FLAGS, 0, 0),
-        7 => has_only(fields, CHAINED_FLAGS, u64::MAX, 0),
-        8 => has_only(fields, CHAINED_FLAGS, 0, 0),
+    match u8::try_from(fields.kind) {
+        Ok(UNRECOGNIZED | raw_trb::ISOCH) => has_only(fields, CYCLE, 0, 0),
+        Ok(raw_trb::NORMAL) => has_only(fields, NORMAL_FLAGS, u64::MAX, MAX_LENGTH),
+        Ok(raw_trb::SETUP_STAGE) => has_only(fields, SETUP_STAGE_FLAGS, u64::MAX, 0),
+        Ok(raw_trb::DATA_STAGE) => has_only(fields, ALL_FLAGS, u64::MAX, MAX_LENGTH),
+        Ok(raw_trb::STATUS_STAGE) => has_only(fields, STATUS_STAGE_FLAGS, 0, 0),
+        Ok(raw_trb::EVENT_DATA) => has_only(fields, CHAINED_FLAGS, u64::MAX, 0),
+        Ok(raw_trb::NO_OP) => has_only(fields, CHAINED_FLAGS, 0, 0),
         _ => false,
     }
 }

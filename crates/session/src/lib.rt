@@ -80,6 +80,7 @@ pub fn is_in(endpoint: Option<EndpointKind>) -> bool
 }
 
 // What a call on an IN endpoint leaves, which calls are made on from here on.
+// One for each kind here and in `session_calls`: they name the block's field, and a session has one field for each kind.
 pub fn after_in(session: Session, ran: Ran<InBlock>) -> Ran<Session>
     ensures { result ≡ in_ran session ran }
 {

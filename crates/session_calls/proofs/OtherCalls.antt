@@ -10,8 +10,10 @@ use Rattle.trb.specs.declared.TransferTrb.{TransferTrb}
 use Rattle.control_block.specs.declared.GuestRelease.{GuestRelease}
 use Rattle.in_td.specs.declared.InMode.{InMode}
 use Rattle.call_script.specs.declared.Call.{Call}
-use Rattle.call_script.specs.declared.Call.TheVariants.{Window, Buffers, CreateIn, CreateControl, Submit, CompleteWithResult, CompleteWithout, Cancel, Hold, MakeUpIn, MakeUpControl, AppendTrb, AppendResult, CompleteRow, Time, Captured}
+use Rattle.call_script.specs.declared.Call.TheVariants.{Window, Buffers, CreateIn, CreateControl, Submit, Complete, Cancel, Hold, MakeUpIn, MakeUpControl, AppendTrb, AppendResult, CompleteRow, Time, Captured}
+use Rattle.capture_file.specs.declared.CaptureTime.{CaptureTime}
 use Rattle.capture_record.specs.declared.InTransferType.{InTransferType}
+use Rattle.capture_record.specs.declared.UsbDevice.{UsbDevice}
 use Rattle.session_calls.specs.Answers.{State, endpoint_answer, answer_of}
 
 -- a call that is none of the session's lines, and no row
@@ -23,8 +25,8 @@ pub record OnEndpoint (c : Call) : Type 0 where
   pub append_trb : (t : TransferTrb) → c ≡ AppendTrb t → ⊥
   pub append_result : (status : InTrbProcessingStatus) (n : ℕ) → c ≡ AppendResult status n → ⊥
   pub complete_row : (n : ℕ) → c ≡ CompleteRow n → ⊥
-  pub time : (seconds microseconds : ℕ) → c ≡ Time seconds microseconds → ⊥
-  pub captured : (bus address : ℕ) (transfer_type : InTransferType) → c ≡ Captured bus address transfer_type → ⊥
+  pub time : (time : CaptureTime) → c ≡ Time time → ⊥
+  pub captured : (device : UsbDevice) (transfer_type : InTransferType) → c ≡ Captured device transfer_type → ⊥
 
 module _ (bytes : List ℕ) (s : State) where
   pub answer_of-other : (c : Call) → OnEndpoint c → answer_of bytes s c ≡ endpoint_answer s.session.endpoint bytes s c
@@ -34,8 +36,7 @@ module _ (bytes : List ℕ) (s : State) where
   answer_of-other (CreateIn e i mode) h = absurd (h.create_in e i mode refl)
   answer_of-other (CreateControl e i release) h = absurd (h.create_control e i release refl)
   answer_of-other (Submit t) h = refl
-  answer_of-other (CompleteWithResult status n) h = refl
-  answer_of-other (CompleteWithout n) h = refl
+  answer_of-other (Complete status n) h = refl
   answer_of-other Cancel h = refl
   answer_of-other (Hold t) h = refl
   answer_of-other (MakeUpIn state) h = refl
@@ -43,5 +44,5 @@ module _ (bytes : List ℕ) (s : State) where
   answer_of-other (AppendTrb t) h = absurd (h.append_trb t refl)
   answer_of-other (AppendResult status n) h = absurd (h.append_result status n refl)
   answer_of-other (CompleteRow n) h = absurd (h.complete_row n refl)
-  answer_of-other (Time seconds microseconds) h = absurd (h.time seconds microseconds refl)
-  answer_of-other (Captured bus address transfer_type) h = absurd (h.captured bus address transfer_type refl)
+  answer_of-other (Time time) h = absurd (h.time time refl)
+  answer_of-other (Captured device transfer_type) h = absurd (h.captured device transfer_type refl)

@@ -11,7 +11,7 @@ use Rattle.in_td.specs.declared.InMode.{InMode}
 use Rattle.control_block.specs.declared.GuestRelease.{GuestRelease}
 use Rattle.call_answer.specs.Called.{Said, Called}
 use Rattle.call_script.specs.declared.Call.{Call}
-use Rattle.call_script.specs.declared.Call.TheVariants.{Window, Buffers, CreateIn, CreateControl, Submit, CompleteWithResult, CompleteWithout, Cancel, Hold, MakeUpIn, MakeUpControl, AppendTrb, AppendResult, CompleteRow, Time, Captured}
+use Rattle.call_script.specs.declared.Call.TheVariants.{Window, Buffers, CreateIn, CreateControl, Submit, Complete, Cancel, Hold, MakeUpIn, MakeUpControl, AppendTrb, AppendResult, CompleteRow, Time, Captured}
 use Rattle.in_calls.specs.Calls.{in_call, row_call, create_call}
 use Rattle.control_calls.specs.Calls.{control_call, collect_behind, create_call as create_control_call}
 use Rattle.lent_calls.specs.Lent.{lent_memory, behind_lent}
@@ -134,8 +134,7 @@ answer_of bytes s (Buffers log collect) = quietly s (good_quiet (with_lengths s.
 answer_of bytes s (CreateIn e i mode) = in_creation s e i mode
 answer_of bytes s (CreateControl e i release) = control_creation s e i release
 answer_of bytes s (Submit t) = endpoint_answer s.session.endpoint bytes s (Submit t)
-answer_of bytes s (CompleteWithResult status n) = endpoint_answer s.session.endpoint bytes s (CompleteWithResult status n)
-answer_of bytes s (CompleteWithout n) = endpoint_answer s.session.endpoint bytes s (CompleteWithout n)
+answer_of bytes s (Complete status n) = endpoint_answer s.session.endpoint bytes s (Complete status n)
 answer_of bytes s Cancel = endpoint_answer s.session.endpoint bytes s Cancel
 answer_of bytes s (Hold t) = endpoint_answer s.session.endpoint bytes s (Hold t)
 answer_of bytes s (MakeUpIn state) = endpoint_answer s.session.endpoint bytes s (MakeUpIn state)
@@ -143,8 +142,8 @@ answer_of bytes s (MakeUpControl phase state direction n) = endpoint_answer s.se
 answer_of bytes s (AppendTrb t) = quietly s (append_trb s.session t)
 answer_of bytes s (AppendResult status n) = quietly s (append_result s.session (record { status = status; length = n }))
 answer_of bytes s (CompleteRow n) = endpoint_row_answer s.session.endpoint bytes s n
-answer_of bytes s (Time seconds microseconds) = quietly s (good_quiet s.session)
-answer_of bytes s (Captured bus address transfer_type) = quietly s (good_quiet s.session)
+answer_of bytes s (Time time) = quietly s (good_quiet s.session)
+answer_of bytes s (Captured device transfer_type) = quietly s (good_quiet s.session)
 
 -- a line, which asks for this call or for none: it is bad then
 abbrev pub line_answer : List ℕ → State → Option Call → Answer

@@ -1,4 +1,5 @@
 // Each call of a script, made on what the script has come to, with its answer.
+// Session and buffers stay two: a session is copied, and is read as it was before a call too; what is lent can be neither.
 #![tactic(auto)]
 
 ghost use Rattle.std.specs.Prelude.{List, ℕ};
@@ -200,8 +201,8 @@ pub fn run_call(
             session_lines::append_result(session, TdResult { status, length })
         }
         Call::CompleteRow(length) => run_row_on_endpoint(text, session, length, buffers),
-        Call::Time(_, _) => call_answer::silent(session),
-        Call::Captured(_, _, _) => call_answer::silent(session),
+        Call::Time(_) => call_answer::silent(session),
+        Call::Captured(_, _) => call_answer::silent(session),
         _ => run_on_endpoint(text, session, call, buffers),
     }
 }

@@ -21,7 +21,7 @@ pub const MAX_TEXT: usize = 24579;
 
 // ---- Letters
 
-// The letters chosen so far: the first `size` of these. There is no heap, so that they have the room of the longest shape.
+// The letters chosen so far, the first `size` of these. The kit's `ArrayVec` has no `Copy`, and two letters go on from the same ones.
 #[derive(Clone, Copy)]
 pub struct Chosen {
     pub letters: [u8; MAX_SHAPE],

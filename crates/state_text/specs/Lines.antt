@@ -9,7 +9,7 @@ use Rattle.trb.specs.declared.ControlSubmissionState.TheVariants.{NoTrbSubmitted
 use Rattle.trb.specs.declared.UsbRequest.{UsbRequest}
 use Rattle.numerals.specs.Digits.{decimal_of, hex_of, bytes_hex}
 use Rattle.log_text.specs.Lines.{line_feed}
-use Rattle.call_text.specs.Lines.{behind}
+use Rattle.call_text.specs.Lines.{behind, count_of}
 use Rattle.state_text.specs.declared.ControlStanding.{ControlStanding}
 use Rattle.state_text.specs.Words.{in_word, control_word, submit_word, collecting_word, real_word, local_word, unsupported_word, setup_word, maybe_word, more_word, status_word, final_word, parser_word, unexpected_word, request_word, direction_in, direction_out}
 
@@ -53,10 +53,10 @@ request_fields r = behind (hex_of r.address) ++ behind (bytes_hex (request_bytes
 -- `st control PHASE STATE HELD DIRECTION`
 unfoldable pub standing_fields : ControlStanding → List ℕ
 standing_fields s =
-    control_word ++ phase_word s.phase ++ control_state s.state ++ behind (decimal_of s.held) ++ cond s.direction direction_in direction_out
+    control_word ++ phase_word s.transfer.phase ++ control_state s.state ++ behind (decimal_of s.held) ++ cond s.transfer.direction direction_in direction_out
 
 -- `st control PHASE STATE HELD DIRECTION LENGTH COLLECTED SUM ADDRESS REQUEST`
 unfoldable pub control_line : ControlStanding → List ℕ
 control_line s =
-    standing_fields s ++ behind (decimal_of s.request.length) ++ behind (decimal_of s.collected) ++ behind (hex_of s.sum)
-    ++ request_fields s.request ++ (line_feed ∷ [])
+    standing_fields s ++ behind (decimal_of s.transfer.request.length) ++ behind (decimal_of (count_of s.transfer.collected)) ++ behind (hex_of s.sum)
+    ++ request_fields s.transfer.request ++ (line_feed ∷ [])

@@ -9,6 +9,7 @@ ghost use Rattle.state_text.specs.Words.{direction_in, direction_out};
 ghost use Rattle.state_text.specs.Widths.{max_submission_state, max_standing, max_request, max_state, answer_limits};
 ghost use Rattle.state_text.specs.Lines.{in_state, in_line, phase_word, control_state, request_bytes, request_fields, standing_fields, control_line};
 
+use control_block::ControlTransfer;
 use text::Text;
 use trb::{ControlSubmissionState, ControlTransferState, TdBasedNormalSubmissionState, UsbRequest};
 
@@ -140,12 +141,9 @@ fn put_request(text: &mut Text<'_>, request: UsbRequest)
 // What a control block is at; `sum` is the sum over the collected bytes of (k + 1) times byte k, modulo 2^32.
 #[derive(Clone, Copy)]
 pub struct ControlStanding {
-    pub phase: ControlTransferState,
+    pub transfer: ControlTransfer,
     pub state: ControlSubmissionState,
     pub held: u32,
-    pub direction: bool,
-    pub request: UsbRequest,
-    pub collected: u32,
     pub sum: u32,
 }
 
@@ -154,10 +152,10 @@ fn put_standing(text: &mut Text<'_>, standing: ControlStanding)
     ensures { Wrote max_standing text.old (standing_fields standing) text.new }
 {
     text.put_word(b"st control ");
-    put_phase(text, standing.phase);
+    put_phase(text, standing.transfer.phase);
     put_control_state(text, standing.state);
     call_text::put_decimal_behind(text, standing.held);
-    put_direction(text, standing.direction);
+    put_direction(text, standing.transfer.direction);
 }
 
 // The state line of a control endpoint.
@@ -166,9 +164,9 @@ pub fn put_control_line(text: &mut Text<'_>, standing: ControlStanding)
     ensures { Wrote max_state text.old (control_line standing) text.new }
 {
     put_standing(text, standing);
-    call_text::put_decimal_behind(text, standing.request.length);
-    call_text::put_decimal_behind(text, standing.collected);
+    call_text::put_decimal_behind(text, standing.transfer.request.length);
+    call_text::put_decimal_behind(text, call_text::count(standing.transfer.collected));
     call_text::put_hex_behind(text, standing.sum as u64);
-    put_request(text, standing.request);
+    put_request(text, standing.transfer.request);
     text.put_char(b'\n');
 }

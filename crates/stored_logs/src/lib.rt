@@ -1,22 +1,22 @@
-// Stored logs of any length, checked, compacted and printed; each call answers with plain numbers.
+// Stored logs of any length, checked, compacted and printed.
 #![tactic(auto)]
 
-ghost use Rattle.std.specs.Prelude.{◌≡◌};
-ghost use Rattle.trb.specs.Questions.{first_no};
+ghost use Rattle.std.specs.Prelude.{◌≡◌, cond, Ok, Err};
+ghost use Rattle.trb.specs.declared.Refusal.TheVariants.{MalformedLog};
+ghost use Rattle.log_check.specs.WellFormed.{well_formed};
 ghost use Rattle.log_text.specs.Widths.{max_line};
 ghost use Rattle.answer_numbers.specs.Numbers.{counted};
-ghost use Rattle.stored_logs.specs.Stored.{check_questions, Compacts, Prints};
+ghost use Rattle.stored_logs.specs.Stored.{Compacts, Prints};
 
 use answer_numbers::Answered;
 use text::Text;
-use trb::Refusal;
+use trb::{Answer, Refusal};
 
-// Question 10: is the log a multiple of 32 bytes with every kind 1, 2 or 3? Answers 10, or 0.
-#[tactic(auto, unfolding(trb::specs::Questions::first_no))]
-pub fn check(log: &[u8]) -> u32
-    ensures { result ≡ first_no (check_questions log.now) }
+// Question 10: is the log a multiple of 32 bytes with every kind 1, 2 or 3?
+pub fn check(log: &[u8]) -> Answer
+    ensures { result ≡ cond (well_formed log.now) (Ok tt) (Err MalformedLog) }
 {
-    trb::number_of(trb::ask(log_check::well_formed(log), Refusal::MalformedLog)) as u32
+    trb::ask(log_check::well_formed(log), Refusal::MalformedLog)
 }
 
 // Compacts a log in its own buffer, and counts the records kept.
@@ -42,7 +42,7 @@ fn put_lines(log: &[u8], text: &mut [u8]) -> Result<usize, Refusal>
         log.len() / trb::RECORD_LENGTH <= text.len() / log_text::MAX_LINE,
         Refusal::BufferTooShort,
     )?;
-    trb::ask(log_check::well_formed(log), Refusal::MalformedLog)?;
+    check(log)?;
     let mut text = Text {
         bytes: text,
         end: 0,

@@ -48,6 +48,7 @@ pub struct TrbDmaInfo {
 }
 
 // A Normal as a TRB that moves data.
+// Two functions and no trait or `From`: no function takes a TRB of either kind, and its address stands beside it.
 pub fn of_normal(normal: NormalTrb, addr: u64) -> TrbDmaInfo
     ensures { result ≡ of_normal normal addr }
 {
@@ -124,11 +125,7 @@ pub fn code_for(residual: u32) -> CompletionCode
 pub fn due_for(dma: TrbDmaInfo, residual: u32) -> bool
     ensures { result ≡ due_for dma residual }
 {
-    if residual == 0 {
-        dma.interrupt_on_completion
-    } else {
-        dma.interrupt_on_completion || dma.interrupt_on_short
-    }
+    dma.interrupt_on_completion || residual != 0 && dma.interrupt_on_short
 }
 
 // The residual of a short TRB is kept.

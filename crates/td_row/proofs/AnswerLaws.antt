@@ -1,16 +1,16 @@
 -- The entry for a lent row answers as completion does for a block that holds the row and awaits the device. Assumes nothing.
 use Rattle.std.specs.Prelude.{Err, None, Ok, Option, Result, Some}
-use Prim.Native.Nat.{ℕ, ◌≤◌}
+use Prim.Native.Nat.{ℕ, ◌*◌, ◌≤◌}
 use mathlib.Core.Path.{◌≡◌, refl, sym, ap, ◌∙◌, subst}
 use mathlib.Core.Bool.{Bool, true, false, true≢false}
 use mathlib.Core.List.{List, ◌++◌}
 use native.Mathlib.Omega.{arith}
 use lib.Dec.{leb, eqb}
-use lib.ListN.{length, take, replicate}
-use lib.Seq.{take-length, take-take, take-append_seam}
+use lib.ListN.{length, replicate}
+use lib.Seq.{take-take, take-append_seam}
 use borrow.Author.Tests.{leb-true, eqb-true}
 use Rattle.trb.specs.Answers.{number_of, refusal_of, CompletionAnswer}
-use Rattle.trb.specs.Limits.{max_held}
+use Rattle.trb.specs.Limits.{max_held, record_length}
 use Rattle.trb.specs.Questions.{first_no, agree}
 use Rattle.trb.specs.declared.EndpointId.{EndpointId}
 use Rattle.trb.specs.declared.InTrbProcessingStatus.{InTrbProcessingStatus}
@@ -23,7 +23,7 @@ use Rattle.call_log.specs.Logs.{records_in}
 use Rattle.call_log.proofs.CallLaws.{meets-silent}
 use Rattle.held.specs.Places.{blank_trb}
 use Rattle.account.specs.Guest.{Distinct, IspOnNormals, LastNormalWithIoc, Account}
-use Rattle.in_td.specs.Td.{in_td, unprocessed, process_td}
+use Rattle.in_td.specs.Td.{in_td, normals, process_td}
 use Rattle.in_td.specs.declared.InMode.{InMode}
 use Rattle.in_td.specs.declared.InTd.{InTd}
 use Rattle.in_td.specs.declared.TdProcessed.{TdProcessed}
@@ -39,11 +39,9 @@ use Rattle.in_questions.proofs.PassedLaws.{PassedCompletion, passed-completion}
 use Rattle.in_endpoint.specs.Completion.{transferred, completed_as, completion, is_accepted}
 use Rattle.in_endpoint.specs.Returned.{Completed}
 use Rattle.in_endpoint.proofs.CompletionLaws.{process_td-counts, accepted-none, accounted-completion, completion-number}
-use Rattle.row_plan.specs.Plans.{row_facts, status_of, accepted_plan, row_plan}
+use Rattle.row_plan.specs.Plans.{row_facts, status_of, row_plan}
 use Rattle.row_plan.specs.Rows.{row_block, row_completion, CompletesRow, AccountedRow}
 use Rattle.trb.specs.declared.Logged.{Logged}
-use Rattle.row_plan.specs.declared.RowPlan.{RowPlan}
-use Rattle.td_row.specs.Walkable.{Walkable}
 
 module _ (e : EndpointId) (s : SlotId) (mode : InMode) (ts : List TransferTrb) where
   abbrev block : InBlock
@@ -116,10 +114,14 @@ module _ (e : EndpointId) (s : SlotId) (mode : InMode) (ts : List TransferTrb) w
     abbrev walked_as : TdProcessed → Logged CompletionAnswer
     walked_as p = record { answer = Ok p.result; records = p.progress.records }
 
-    -- of the refusal, or of what a walk by the plan made of the log
-    abbrev Answers : Result RowPlan Refusal → Type 0
+    -- what the walk asks for: as many Normals as the row has, and two records for each TRB in the log
+    abbrev Walkable : Type 0
+    Walkable = ((held_test ts).normals ≡ normals ts) × (record_length * (2 * length ts) ≤ length l)
+
+    -- of the refusal, or of what a walk over the row as that TD made of the log
+    abbrev Answers : Result InTd Refusal → Type 0
     Answers (Err r) = Answered (record { answer = Err r; records = 0 }) l
-    Answers (Ok plan) = Walkable plan ts (length l) × ((p : TdProcessed) (l' : List ℕ) → Meets (process_td plan.td (take plan.count ts)) 0 l p l' → Answered (walked_as p) l')
+    Answers (Ok td) = Walkable × ((p : TdProcessed) (l' : List ℕ) → Meets (process_td td ts) 0 l p l' → Answered (walked_as p) l')
 
     refused-met : eqb asked 0 ≡ false → Met (record { answer = Err (refusal_of asked); records = 0 }) l
     unfolding completion
@@ -129,30 +131,26 @@ module _ (e : EndpointId) (s : SlotId) (mode : InMode) (ts : List TransferTrb) w
     walked-of None agreed = absurd (true≢false (sym agreed))
     walked-of (Some st) agreed = refl
 
-    abbrev plan : RowPlan
-    plan = accepted_plan e s mode (length ts) (held_test ts) (status_of res) n
+    abbrev td : InTd
+    td = in_td e s mode (status_of res) n
 
-    walkable : asked ≡ 0 → Walkable plan ts (length l)
-    walkable none =
-        let most = few none in let long = (known none).log-long in
-        record { start = rw take-length (ap unprocessed (all-counted ts most)); few = omega arith; room = omega arith }
+    walkable : asked ≡ 0 → Walkable
+    walkable none = let most = few none in let long = (known none).log-long in (all-counted ts most, omega arith)
 
-    walked-met : asked ≡ 0 → (p : TdProcessed) (l' : List ℕ) → Meets (process_td plan.td (take plan.count ts)) 0 l p l' → Met (walked_as p) l'
+    walked-met : asked ≡ 0 → (p : TdProcessed) (l' : List ℕ) → Meets (process_td td ts) 0 l p l' → Met (walked_as p) l'
     unfolding completion transferred
-    walked-met none p l' m =
-        let td : InTd = in_td e s mode (status_of res) n in
-        let k : Meets (process_td td ts) 0 l p l' = rw take-length at m in
+    walked-met none p l' k =
         let counted : p.progress.records ≡ length (process_td td ts).records = ap (λ (x : TdProcessed). x.progress.records) k.state ∙ process_td-counts td ts in
         rw (asked-block, none, walked-of res (known none).agreed, held_of-row_block (few none)) (record { state = rw (counted, k.state); log = k.log; fits = k.fits })
 
-    answers-plan : Answers (row_plan (length l) e s mode (length ts) (held_test ts) res n)
+    answers-td : Answers (row_plan (length l) e s mode (length ts) (held_test ts) res n)
     unfolding row_plan
-    answers-plan = by_number (eqb asked 0) refl
+    answers-td = by_number (eqb asked 0) refl
       where
         by_number : (b : Bool) → eqb asked 0 ≡ b → Answers (row_plan (length l) e s mode (length ts) (held_test ts) res n)
         by_number true same = let none = eqb-true asked 0 same in rw same (walkable none, λ p l' m. answered-row (walked_as p) l' (walked-met none p l' m))
         by_number false some = rw some (answered-row _ l (refused-met some))
 
-    -- of what was found of the row, and of the plan that was made by it
-    pub answers : (t : HeldTest) (r : Result RowPlan Refusal) → t ≡ held_test ts → r ≡ row_plan (length l) e s mode (length ts) t res n → Answers r
-    answers t r tested planned = subst Answers (sym (planned ∙ ap (λ (x : HeldTest). row_plan (length l) e s mode (length ts) x res n) tested)) answers-plan
+    -- of what was found of the row, and of the TD that the questions leave
+    pub answers : (t : HeldTest) (r : Result InTd Refusal) → t ≡ held_test ts → r ≡ row_plan (length l) e s mode (length ts) t res n → Answers r
+    answers t r tested planned = subst Answers (sym (planned ∙ ap (λ (x : HeldTest). row_plan (length l) e s mode (length ts) x res n) tested)) answers-td

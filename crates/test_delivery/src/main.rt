@@ -48,6 +48,7 @@ fn case_with_log(
     rt.write_all(name)?;
     rt.write_all(b": ")?;
     print_answer(rt, done)?;
+    // Three lines as in the other programs of tests: a crate of its own for them would be longer.
     rt.write_all(&low)?;
     rt.write_all(b" ")?;
     rt.write_all(&high)?;
@@ -90,12 +91,10 @@ fn awaiting(mode: InMode, first: u64, second: u64, third: u64) -> InBlock {
     trbs[1] = normal(0x1010, second, 4, false);
     trbs[2] = normal(0x1020, third, 2, true);
     InBlock {
-        endpoint_id: EndpointId(3),
-        slot_id: SlotId(2),
-        mode,
         state: TdBasedNormalSubmissionState::AwaitingRealTransfer,
         held: 3,
         trbs,
+        ..in_block::fresh(EndpointId(3), SlotId(2), mode)
     }
 }
 

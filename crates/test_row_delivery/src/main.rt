@@ -79,6 +79,7 @@ fn case_with_log(
     rt.write_all(name)?;
     rt.write_all(b": ")?;
     print_answer(rt, done)?;
+    // Three lines as in the other programs of tests: a crate of its own for them would be longer.
     rt.write_all(&low)?;
     rt.write_all(b" ")?;
     rt.write_all(&high)?;
@@ -149,12 +150,8 @@ fn fresh(mode: InMode) -> InBlock {
 // A block whose completion is due.
 fn awaiting() -> InBlock {
     InBlock {
-        endpoint_id: EndpointId(3),
-        slot_id: SlotId(2),
-        mode: InMode::AsPorted,
         state: TdBasedNormalSubmissionState::AwaitingLocalCompletion,
-        held: 0,
-        trbs: [held::blank(); trb::MAX_HELD],
+        ..fresh(InMode::AsPorted)
     }
 }
 

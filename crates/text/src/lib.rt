@@ -6,6 +6,7 @@ ghost use Rattle.text.specs.Wrote.{HasRoom, Wrote};
 
 // A text buffer, and how much of it is written. A writer asks for room for the longest that it may write, and uses up what it writes: so
 // that is a fact of each call, and no invariant.
+// By writers and no `Display`: 02, R-3 wants decimals without division, which `write!` of a number does not promise.
 #[derive(Drop)]
 pub struct Text<'a> {
     pub bytes: &'a mut [u8],

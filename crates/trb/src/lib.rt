@@ -189,6 +189,7 @@ pub fn transfer_length(variant: TransferTrbVariant) -> u32
 }
 
 // The immediate data flag of a DataStage or Normal TRB; of any other, off.
+// A match each: by way of one struct of both, as `control_transfer::data_of` has it, the pointer would be read for nothing.
 pub fn immediate_data(variant: TransferTrbVariant) -> bool
     ensures { result ≡ immediate_of variant }
 {
@@ -314,8 +315,8 @@ pub enum TdBasedNormalSubmissionState {
 
 // ---- Answers
 
-// The questions of documents 01 and 02: a case for each no, with the number that they give it, but for 16, 22 and 24, which no call on an
-// endpoint, a log or a whole capture answers.
+// The questions of documents 01 and 02: a case for each no, with the number that they give it. 16, 22 and 24 stand where they are answered:
+// of a list of shapes, of a capture that is read, and of a record that is written to one.
 #[derive(Clone, Copy, Debug, PartialEq, Eq)]
 pub enum Refusal {
     BufferTooShort = 1,
@@ -376,14 +377,14 @@ pub fn number_of<A: Copy>(answer: Result<A, Refusal>) -> u8
     }
 }
 
-// What creation returns: the answer, and the block.
+// What creation returns: its answer, and the block, which is there either way (01: where an id is refused, fresh but for both ids 0).
 #[derive(Clone, Copy)]
 pub struct Created<B> {
     pub answer: Answer,
     pub block: B,
 }
 
-// What a call returns: its answer, how many records it logged, and the block behind it.
+// What a call returns: its answer and, whatever that is, how many records it logged and the block behind it.
 #[derive(Clone, Copy)]
 pub struct Returned<A, B> {
     pub answer: A,

@@ -47,7 +47,7 @@ fn put_trimmed(text: &mut Text<'_>, digits: &[u8])
 fn hex_digits(n: u64) -> [u8; numerals::HEX_PLACES]
     ensures { result ≡ digits 16 hex_places n }
 {
-    // Written out: over `array::from_fn` what is inferred of the closure proves no digit, and with clauses of its own it is no plainer.
+    // Written out: the proof over `array::from_fn` does not close.
     [
         (n >> 60 & 0xf) as u8,
         (n >> 56 & 0xf) as u8,

@@ -1,6 +1,6 @@
 -- `capture_convert::write_front` meets its contract: three parts one behind the other. Assumes nothing.
 use Prim.Native.Nat.{ℕ, ◌+◌, ◌-◌}
-use mathlib.Core.Path.{◌≡◌, sym}
+use mathlib.Core.Path.{◌≡◌}
 use mathlib.Core.List.{List, ◌++◌}
 use native.Mathlib.Omega.{arith}
 use lib.ListN.{length, take, drop, replicate, length-append, length-drop, length-replicate}
@@ -18,9 +18,6 @@ pub slice_bounds-put_word-end-2 : goal.slice_bounds-put_word-end-2
 slice_bounds-put_word-end-2 c =
     let long = (sized c.requires.0).long in
     search rules
-
-pub slice_bounds-put_word-end-3 : goal.slice_bounds-put_word-end-3
-slice_bounds-put_word-end-3 c = sym (length-take-le c.args.added.to (replicate {A = ℕ} 16 0) c.requires.0.small.1)
 
 pub returns : goal.returns
 unfolding resized_front head

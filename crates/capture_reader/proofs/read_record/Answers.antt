@@ -1,6 +1,7 @@
 -- `capture_reader::read_record` meets its contract: the fields of a record of the writer's are read at their offsets. Assumes nothing.
 use Rattle.std.proofs.Common.{◌≡◌, ◌∙◌, ◌≤◌, true, length, drop, None, sym, arith}
 use Rattle.capture_file.proofs.ReadingLaws.{part-from}
+use Rattle.capture_file.specs.Reading.{delivered_at}
 use Rattle.capture_reader.specs.Reading.{made_record}
 use Rattle.capture_reader.proofs.ReadingLaws.{read_past, read_none, read_found}
 use Rattle.capture_reader.proofs.read_record.Goals.{In_ok-rest}
@@ -21,8 +22,9 @@ returns-then-not-is_record c =
     read_none c.args.input.now c.args.at (rw (behind (goal.at.returns-then-not-is_record c).In_ok-rest) at (sym c.is_record.ensures.answer ∙ c.if-not-is_record.true))
 
 pub returns : goal.returns
+unfolding delivered_at
 returns c =
     let here = behind (goal.at.returns c).In_ok-rest in
     let passes : made_record c.in_ok-rest.rest.now ≡ true = sym c.is_record.ensures.answer ∙ c.if-not-is_record.false in
-    rw (c.header_in.ensures, c.time_at.ensures, c.le32-payload_length.ensures, here)
+    rw (c.header_in.ensures, c.time_at.ensures, c.delivered_at-payload_length.ensures, here)
     (read_found c.args.input.now c.args.at (rw here at passes))

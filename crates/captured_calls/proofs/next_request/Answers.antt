@@ -1,7 +1,7 @@
 -- `captured_calls::next_request` meets its contract: no record in front of the one that `position` found is a request. Assumes nothing.
 use Rattle.std.proofs.Common.{rules, tests, true, false}
 use Rattle.std.proofs.lemmas.Iterator.{IsFirst-from_position, YieldsList-from_slice}
-use Rattle.captured_calls.proofs.RowLaws.{Request, First, request-found, request-below}
+use Rattle.captured_calls.proofs.RowLaws.{Request, First, request-found}
 use Rattle.captured_calls.proofs.next_request.Goals.{After-position}
 use Rattle.captured_calls.proofs.next_request.Goals as goal
 
@@ -12,6 +12,3 @@ module _ (c : After-position) where
 
 pub returns-clause-rest : goal.returns-clause-rest
 returns-clause-rest c = request-found c.args.rows.now _ (first c)
-
-pub returns-clause-below : goal.returns-clause-below
-returns-clause-below c = request-below c.args.rows.now _ (first c)

@@ -21,5 +21,5 @@ loop-cells-preserved g c = λ events tells.
 pub returns : goal.returns
 returns g c = λ events tells.
     let l = c.loop-cells in
-    let none = drop_of_length-le c.first_records-cells-items.result.now c.loop-cells-test.false in
-    rw (← c.first_records-cells-items.ensures) (remaining-none refl (rw none at l.invariant events tells))
+    let none = drop_of_length-le c.args.rows.now c.loop-cells-test.false in
+    remaining-none refl (rw none at l.invariant events tells)

@@ -12,5 +12,5 @@ use Rattle.captured_calls.proofs.put_requests.Given as goal
 abbrev pub invariant-loop-cells : goal.invariant-loop-cells
 invariant-loop-cells g l =
     (events : Record → Option CaptureEvent) → Tells (goal.F-post g l.event) events
-    → Remaining l.initial.capture (request_captures (captured_of l.initial.capture.setting) events l.payload (map decode l.cells-items)) l.capture
-    (request_captures (captured_of l.initial.capture.setting) events l.payload (map decode (drop l.cells-index l.cells-items)))
+    → Remaining l.initial.capture (request_captures (captured_of l.initial.capture.setting) events l.payload (map decode l.rows)) l.capture
+    (request_captures (captured_of l.initial.capture.setting) events l.payload (map decode (drop l.cells-index l.rows)))

@@ -13,7 +13,7 @@ use Rattle.captured_calls.proofs.RowLaws.{row-turn, row-end}
 use Rattle.captured_calls.proofs.put_row.Goals as goal
 
 pub loop-given-init : goal.loop-given-init
-loop-given-init c = rw c.first_records-rows.ensures (remaining-all _)
+loop-given-init c = remaining-all _
 
 pub split_at-requires : goal.split_at-requires
 split_at-requires c = rw c.td_length.ensures (length-first_td _)

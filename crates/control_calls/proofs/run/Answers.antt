@@ -9,20 +9,13 @@ use Rattle.control_calls.proofs.run.Goals as goal
 pub slice_bounds-given-end : goal.slice_bounds-given-end
 slice_bounds-given-end c = rw c.min.ensures (sym (length-take-le _ _ (omega arith)))
 
-pub slice_bounds-given-end-in-CompleteWithout : goal.slice_bounds-given-end-in-CompleteWithout
-slice_bounds-given-end-in-CompleteWithout c = rw c.min-in-CompleteWithout.ensures (sym (length-take-le _ _ (omega arith)))
-
 pub returns-in-Submit-clause-answer : goal.returns-in-Submit-clause-answer
 unfolding control_call collect_behind
 returns-in-Submit-clause-answer c = rw c.in-Submit.is (rw c.view.ensures at c.submit.ensures)
 
-pub returns-in-CompleteWithResult-clause-answer : goal.returns-in-CompleteWithResult-clause-answer
+pub returns-in-Complete-clause-answer : goal.returns-in-Complete-clause-answer
 unfolding control_call collect_behind
-returns-in-CompleteWithResult-clause-answer c = rw (c.in-CompleteWithResult.is, ← c.result_of.ensures, ← take-least _ _ c.min.ensures) (record { runs = c.complete.ensures.answer; collected = refl })
-
-pub returns-in-CompleteWithout-clause-answer : goal.returns-in-CompleteWithout-clause-answer
-unfolding control_call collect_behind
-returns-in-CompleteWithout-clause-answer c = rw (c.in-CompleteWithout.is, ← take-least _ _ c.min-in-CompleteWithout.ensures) (record { runs = c.complete-in-CompleteWithout.ensures.answer; collected = refl })
+returns-in-Complete-clause-answer c = rw (c.in-Complete.is, ← c.result_given-result.ensures, ← take-least _ _ c.min.ensures) (record { runs = c.complete.ensures.answer; collected = refl })
 
 pub returns-in-Cancel-clause-answer : goal.returns-in-Cancel-clause-answer
 unfolding control_call collect_behind
@@ -39,5 +32,5 @@ returns-in-MakeUpControl-clause-answer c = rw c.in-MakeUpControl.is (record { ru
 pub returns-in_default-clause-answer : goal.returns-in_default-clause-answer
 returns-in_default-clause-answer c =
     let no = c.in_default in
-    rw (bad-call _ _ _ _ _ _ c.args.call no.not-Submit no.not-CompleteWithResult no.not-CompleteWithout no.not-Cancel no.not-Hold no.not-MakeUpControl, kept-collect _ _ _ _ _ c.args.call no.not-Submit)
+    rw (bad-call _ _ _ _ _ _ c.args.call no.not-Submit no.not-Complete no.not-Cancel no.not-Hold no.not-MakeUpControl, kept-collect _ _ _ _ _ c.args.call no.not-Submit)
     (record { runs = record { says = says-silent refl c.requires.has_room c.bad.ensures; log = refl; memory = refl }; collected = refl })

@@ -1,6 +1,9 @@
 -- `control_completion::next_completion` meets its contract: the TRBs that it frees have their turn and their places are blank; one event may
 -- follow. Assumes nothing.
-use Rattle.std.proofs.Common.{◌≡◌, ℕ, ◌+◌, ◌*◌, ◌≤◌, List, length, take, length-take, sym, ap, ◌∙◌, subst, arith, rules, Ok}
+use Rattle.std.proofs.Common.{◌≡◌, ℕ, ◌+◌, ◌*◌, ◌≤◌, List, length, take, length-take, sym, refl, ap, ◌∙◌, subst, arith, rules, Ok}
+use Rattle.trb.specs.declared.ControlSubmissionState.TheVariants.{NoTrbSubmitted}
+use Rattle.trb.specs.declared.ControlTransferState.{ControlTransferState}
+use Rattle.trb.specs.declared.TrbProcessingResult.{TrbProcessingResult}
 use Rattle.trb.specs.Answers.{number_of}
 use Rattle.trb.specs.Limits.{max_held, max_records, record_length}
 use Rattle.trb.specs.Questions.{first_no}
@@ -13,17 +16,20 @@ use Rattle.walks.specs.Walk.{walk}
 use Rattle.control_chain.specs.Chain.{never}
 use Rattle.control_block.specs.declared.ControlBlock.{ControlBlock}
 use Rattle.control_block.specs.declared.Ending.{Ending}
-use Rattle.control_block.specs.Blocks.{held_of}
-use Rattle.control_block.specs.Endings.{places_freed}
+use Rattle.control_block.specs.declared.Ending.TheVariants.{KeepCollecting, ReportBadTrb, Fail, Realize}
+use Rattle.control_block.specs.Blocks.{at_phase, held_of, emptied, advanced}
+use Rattle.control_block.specs.Endings.{result_of, places_freed, phase_behind}
 use Rattle.control_block.specs.Facts.{facts_of}
 use Rattle.control_block.specs.Stages.{error_address}
 use Rattle.control_block.proofs.BlockLaws.{freed-held}
 use Rattle.control_chain.specs.Endings.{next_trb, info_of, last_records, ending_records}
 use Rattle.control_questions.specs.Completion.{completion_questions}
 use Rattle.control_questions.proofs.CompletionLaws.{Passed, passed}
+use Rattle.control_endpoint.specs.Completion.{held_behind, block_behind, accepted}
+use Rattle.control_endpoint.specs.Returned.{Completed}
 use Rattle.control_endpoint.proofs.FreeingLaws.{ended-counts, ended-then}
-use Rattle.control_endpoint.proofs.CompletionLaws.{completes-refused, completes-accepted, completed-by, walk-ending_records, length-freed}
-use Rattle.control_completion.proofs.next_completion.Goals.{After-ask_completion-asked}
+use Rattle.control_endpoint.proofs.CompletionLaws.{completes-refused, completes-accepted, walk-ending_records, length-freed}
+use Rattle.control_completion.proofs.next_completion.Goals.{After-ask_completion-asked, in-KeepCollecting, in_default}
 use Rattle.control_completion.proofs.next_completion.Goals as goal
 
 -- ---- The questions
@@ -62,6 +68,32 @@ module _ (b : ControlBlock) (x : Ending) (info : TdInfo) (l₀ : List ℕ) (n d 
         subst (λ (rs : List Record). Put l₀ 0 rs l' × (k ≡ length rs)) (walk-ending_records b x info d own frees)
         (ended-then x info (take d b.trbs) l₀ l w m (last_records x (error_address b) b.endpoint_id b.slot_id) k l' room n)
 
+-- ---- The block
+
+-- where the turn goes back first, and the places are freed behind it
+freed-behind : (b : ControlBlock) (x : Ending) → held_behind x (advanced b (at_phase (phase_behind b.state b.transfer.phase) b.transfer) NoTrbSubmitted) ≡ block_behind x b
+unfolding block_behind
+freed-behind b KeepCollecting = refl
+freed-behind b (ReportBadTrb a) = refl
+freed-behind b (Fail c r) = refl
+freed-behind b (Realize given) = refl
+
+-- of an ending but that one
+freed-else : (x : Ending) (y : ControlBlock) → (x ≡ KeepCollecting → ⊥) → held_behind x y ≡ emptied y
+freed-else KeepCollecting y other = absurd (other refl)
+freed-else (ReportBadTrb a) y other = refl
+freed-else (Fail c r) y other = refl
+freed-else (Realize given) y other = refl
+
+-- the answer, the records and the block that a completion leaves
+completed-as : (b : ControlBlock) (x : Ending) (result : TrbProcessingResult) (n : ℕ) (phase : ControlTransferState) (y : ControlBlock) → result ≡ result_of x
+    → n ≡ length (ending_records x (error_address b) b.endpoint_id b.slot_id (held_of b)) → phase ≡ phase_behind b.state b.transfer.phase
+    → y ≡ held_behind x (advanced b (at_phase phase b.transfer) NoTrbSubmitted)
+    → ◌≡◌ {A = Completed} (record { answer = Ok result; records = n; block = y }) (accepted x b).state
+unfolding accepted
+completed-as b x result n phase y end count at places =
+    rw (end, count, places, at, freed-behind b x) refl
+
 -- ---- The goals
 
 pub overflow_cast-data : goal.overflow_cast-data
@@ -93,18 +125,22 @@ log_ending-records-requires c =
     let few = total s.block c.ending_of-ending.result c.info_of-info.result s.log.now (length s.data.now) c.places_freed-freed.result p c.info_of-info.ensures c.places_freed-freed.ensures e.new.log e.result e.ensures in
     rw c.error_address-error_address.ensures (omega (arith, few, e.auto.log, p.log-long))
 
-pub returns-in-Ok : goal.returns-in-Ok
-returns-in-Ok c =
+pub returns-after-ending : goal.returns-after-ending
+returns-after-ending c =
     let s = c.args in
-    let k = (goal.at.returns-in-Ok c).After-ask_completion-asked in
+    let k = (goal.at.returns-after-ending c).After-ask_completion-asked in
     let p = pass k c.in-Ok.is in
     let b = s.block in
     let x = c.ending_of-ending.result in
-    let info = c.info_of-info.result in
-    let d = c.places_freed-freed.result in
     let e = c.end_held-progress in
-    let written = logged b x info s.log.now (length s.data.now) d p c.info_of-info.ensures c.places_freed-freed.ensures e.new.log e.result e.ensures c.log_ending-records.result c.log_ending-records.new.log
+    let written = logged b x c.info_of-info.result s.log.now (length s.data.now) c.places_freed-freed.result p c.info_of-info.ensures c.places_freed-freed.ensures e.new.log e.result e.ensures c.log_ending-records.result c.log_ending-records.new.log
     (rw c.error_address-error_address.ensures at c.log_ending-records.ensures) in
+    let behind : ControlBlock = advanced b (at_phase c.phase_behind-block.result b.transfer) NoTrbSubmitted in
+    let places : c.match-ending.block ≡ held_behind x behind =
+    elim c.match-ending.branch [
+      | in-KeepCollecting w ↦ w.block-is ∙ ap (λ (y : Ending). held_behind y behind) (sym w.in-KeepCollecting.is)
+      | in_default w ↦ w.block-is ∙ w.empty.ensures ∙ sym (freed-else x behind (search rules))
+    ] in
     completes-accepted b s.res (length s.data.now) s.log.now x c.ending_of-ending.ensures (none k c.in-Ok.is) _ _
-    (completed-by b x c.result_of.result c.log_ending-records.result c.phase_behind-phase.result d c.clear.new.trbs c.result_of.ensures written.1 c.phase_behind-phase.ensures c.places_freed-freed.ensures c.clear.ensures)
+    (completed-as b x c.result_of.result c.log_ending-records.result c.phase_behind-block.result c.match-ending.block c.result_of.ensures written.1 c.phase_behind-block.ensures places)
     written.0

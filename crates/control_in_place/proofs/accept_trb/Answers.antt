@@ -15,27 +15,27 @@ use Rattle.control_in_place.proofs.AcceptLaws.{pass, holdable}
 use Rattle.control_in_place.proofs.accept_trb.Goals.{Start}
 use Rattle.control_in_place.proofs.accept_trb.Goals as goal
 
-passed : (s : Start) → let a = s.args in Passed (length a.log.now) (length a.collect.now) (facts_of (block_of a.block.now)) a.outcome (trb_of a.numbers)
-passed s = let a = s.args in pass a.log.now a.collect.now a.block.now (trb_of a.numbers) (seen a.memory.now) a.outcome s.requires.acceptable
+passed : (s : Start) → let a = s.args in Passed (length a.log.now) (length a.collect.now) (facts_of (block_of a.block.now)) a.outcome (trb_of a.t.numbers)
+passed s = let a = s.args in pass a.log.now a.collect.now a.block.now (trb_of a.t.numbers) (seen a.memory.now) a.outcome s.requires
 
 pub log_submission-records-requires : goal.log_submission-records-requires
-log_submission-records-requires c = (c.requires.acceptable.long, ((passed (goal.at.log_submission-records-requires c).Start).log-long, (passed (goal.at.log_submission-records-requires c).Start).held))
+log_submission-records-requires c = (c.requires.long, ((passed (goal.at.log_submission-records-requires c).Start).log-long, (passed (goal.at.log_submission-records-requires c).Start).held))
 
 pub collect_data-requires : goal.collect_data-requires
 collect_data-requires c =
     let old = c.transfer-transfer.ensures in
-    ((passed (goal.at.collect_data-requires c).Start).collect-long, (λ j. collectable c.args.outcome (old j).direction (old j).collected (c.requires.data_value j)) ∙ (passed (goal.at.collect_data-requires c).Start).size)
+    ((passed (goal.at.collect_data-requires c).Start).collect-long, (λ j. collectable c.args.outcome (old j).direction (old j).collected (c.args.t.by_kind j)) ∙ (passed (goal.at.collect_data-requires c).Start).size)
 
 pub take_trb-requires : goal.take_trb-requires
 take_trb-requires c =
     let a = c.args in
-    record { block_length_in_bounds = (c.requires.acceptable.long, ((passed (goal.at.take_trb-requires c).Start).held, ((passed (goal.at.take_trb-requires c).Start).collected, c.requires.data_value))); holdable = holdable a.log.now a.collect.now a.block.now (trb_of a.numbers) (seen a.memory.now) a.outcome c.requires.acceptable }
+    record { block_length_in_bounds = (c.requires.long, ((passed (goal.at.take_trb-requires c).Start).held, (passed (goal.at.take_trb-requires c).Start).collected)); holdable = holdable a.log.now a.collect.now a.block.now (trb_of a.t.numbers) (seen a.memory.now) a.outcome c.requires }
 
 pub returns : goal.returns
 returns c =
     let old = c.transfer-transfer.ensures in
     record {
       log = c.log_submission-records.ensures;
-      collect = c.collect_data.ensures ∙ (λ j. patch c.args.collect.now (old j).collected (cond (collects c.args.outcome (old j).direction) (bytes_of (seen c.args.memory.now) (c.requires.data_value j)) []));
+      collect = c.collect_data.ensures ∙ (λ j. patch c.args.collect.now (old j).collected (cond (collects c.args.outcome (old j).direction) (bytes_of (seen c.args.memory.now) (c.args.t.by_kind j)) []));
       becomes = c.take_trb.ensures;
     }

@@ -10,15 +10,15 @@ use Rattle.control_endpoint.specs.Submission.{questions_of}
 use Rattle.control_in_place.proofs.ask_submission.Goals.{After-ask_submission}
 use Rattle.control_in_place.proofs.ask_submission.Goals as goal
 
-becomes : (k : After-ask_submission) → let a = k.args in k.outcome_of-outcome.result ≡ trb_outcome (block_of a.block.now).transfer.phase (trb_of a.numbers).variant
-becomes k = let a = k.args in k.outcome_of-outcome.ensures ∙ (λ j. trb_outcome (k.facts-facts.ensures j).phase (trb_of a.numbers).variant)
+becomes : (k : After-ask_submission) → let a = k.args in k.outcome_of-outcome.result ≡ trb_outcome (block_of a.block.now).transfer.phase (trb_of a.t.numbers).variant
+becomes k = let a = k.args in k.outcome_of-outcome.ensures ∙ (λ j. trb_outcome (k.facts-facts.ensures j).phase (trb_of a.t.numbers).variant)
 
 number : (k : After-ask_submission) → let a = k.args in
-    number_of k.ask_submission.result ≡ first_no (questions_of a.log_length a.collect_length (block_of a.block.now) (trb_of a.numbers) a.regions)
+    number_of k.ask_submission.result ≡ first_no (questions_of a.log_length a.collect_length (block_of a.block.now) (trb_of a.t.numbers) a.regions)
 number k =
     let a = k.args in
-    k.ask_submission.ensures (trb_of a.numbers) k.requires.1
-    ∙ (λ j. first_no (submission_questions a.log_length a.collect_length (k.facts-facts.ensures j) (becomes k j) (trb_of a.numbers) a.regions))
+    k.ask_submission.ensures (trb_of a.t.numbers) a.t.by_kind
+    ∙ (λ j. first_no (submission_questions a.log_length a.collect_length (k.facts-facts.ensures j) (becomes k j) (trb_of a.t.numbers) a.regions))
 
 pub returns-in_err-ask_submission : goal.returns-in_err-ask_submission
 returns-in_err-ask_submission c =

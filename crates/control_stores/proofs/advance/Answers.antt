@@ -15,7 +15,7 @@ use Rattle.control_stores.proofs.advance.Goals as goal
 pub returns-then-begins : goal.returns-then-begins
 returns-then-begins c =
     let a = c.args in
-    let m = a.numbers in
+    let m = a.t.numbers in
     headed-as a.block.now c.begun-begun.result (transfer_after a.outcome (trb_of m).variant m.addr a.transfer) _ _ a.held _
     (c.begun-begun.ensures ∙ (λ j. begun (c.phase_after-phase.ensures j) (setup_stage_of m.flags m.value) m.addr)
     ∙ begun-by m.kind m.flags m.value m.transfer_length m.addr a.transfer a.outcome (sym c.begins.ensures ∙ c.if-begins.true))
@@ -27,10 +27,10 @@ put_counts-requires c = (omega (arith, c.put_turn.ensures.long, c.requires.head_
 pub returns : goal.returns
 returns c =
     let a = c.args in
-    let m = a.numbers in
+    let m = a.t.numbers in
     let w = a.transfer in
     let own = c.requires.transfer_value.0 in
-    let size = c.size_taken-size.ensures ∙ ap (λ (d : TrbData). size_taken a.outcome d) c.requires.transfer_value.1.1 in
+    let size = c.size_taken-size.ensures ∙ ap (λ (d : TrbData). size_taken a.outcome d) a.t.by_kind in
     let v = c.grow-grown.result in
     headed-as a.block.now (counting v.collected v.request.length (turned c.phase_after-phase.result w.direction (block_of a.block.now).transfer)) (transfer_after a.outcome (trb_of m).variant m.addr w) _ _ a.held _
     (ap (λ (x : ControlTransfer). counting v.collected v.request.length (turned c.phase_after-phase.result w.direction x)) (sym own)

@@ -26,15 +26,15 @@ pub overflow_sub-held : goal.overflow_sub-held
 overflow_sub-held c = omega (arith, c.places_dropped-dropped.ensures, dropped-held c.is_restart.result c.held-held.result)
 
 pub hold_trb-next-requires : goal.hold_trb-next-requires
-hold_trb-next-requires c = (c.requires.block_length_in_bounds.0, λ hold. subst (λ (n : ℕ). Holdable n (trb_of c.args.numbers)) (sym (kept (goal.at.hold_trb-next-requires c).After-places_dropped-dropped)) (c.requires.holdable hold))
+hold_trb-next-requires c = (c.requires.block_length_in_bounds.0, λ hold. subst (λ (n : ℕ). Holdable n (trb_of c.args.t.numbers)) (sym (kept (goal.at.hold_trb-next-requires c).After-places_dropped-dropped)) (c.requires.holdable hold))
 
 pub advance-requires : goal.advance-requires
-advance-requires c = let few = next-few (holds c.args.outcome) (c.held-held.result - c.places_dropped-dropped.result) c.hold_trb-next.result c.hold_trb-next.ensures.held in record { head_length_in_bounds = (omega (arith, c.hold_trb-next.ensures.long, c.requires.block_length_in_bounds.0), omega (arith, few, c.held-held.ensures.0, c.requires.block_length_in_bounds.1.0)); transfer_value = (c.transfer-transfer.ensures ∙ sym c.hold_trb-next.ensures.transfer, (omega (arith, ap (λ (w : ControlTransfer). w.collected) c.transfer-transfer.ensures, c.requires.block_length_in_bounds.1.1.0), c.requires.block_length_in_bounds.1.1.1)) }
+advance-requires c = let few = next-few (holds c.args.outcome) (c.held-held.result - c.places_dropped-dropped.result) c.hold_trb-next.result c.hold_trb-next.ensures.held in record { head_length_in_bounds = (omega (arith, c.hold_trb-next.ensures.long, c.requires.block_length_in_bounds.0), omega (arith, few, c.held-held.ensures.0, c.requires.block_length_in_bounds.1.0)); transfer_value = (c.transfer-transfer.ensures ∙ sym c.hold_trb-next.ensures.transfer, omega (arith, ap (λ (w : ControlTransfer). w.collected) c.transfer-transfer.ensures, c.requires.block_length_in_bounds.1.1)) }
 
 pub returns : goal.returns
 returns c =
     let a = c.args in
-    let v = (trb_of a.numbers).variant in
-    let at = (trb_of a.numbers).addr in
-    taken a.block.now c.hold_trb-next.new.block a.outcome (trb_of a.numbers) (c.held-held.result - c.places_dropped-dropped.result) c.hold_trb-next.result (kept (goal.at.returns c).After-places_dropped-dropped) c.hold_trb-next.ensures
+    let v = (trb_of a.t.numbers).variant in
+    let at = (trb_of a.t.numbers).addr in
+    taken a.block.now c.hold_trb-next.new.block a.outcome (trb_of a.t.numbers) (c.held-held.result - c.places_dropped-dropped.result) c.hold_trb-next.result (kept (goal.at.returns c).After-places_dropped-dropped) c.hold_trb-next.ensures
     (transfer_after a.outcome v at c.transfer-transfer.result) (state_after a.outcome at) c.advance.new.block (ap (transfer_after a.outcome v at) c.transfer-transfer.ensures) refl c.advance.ensures

@@ -1,6 +1,6 @@
 -- `control_submission::submit_trb` meets its contract: the loop keeps to the walk over the TRBs that are dropped, with the places behind it blank; the TRB is then held, if it is taken.
 -- Assumes nothing.
-use Rattle.std.proofs.Common.{◌≡◌, ℕ, ◌+◌, ◌*◌, ◌-◌, ◌<◌, ◌≤◌, Bool, true, List, length, take, length-take, set, sym, refl, ap, ◌∙◌, subst, arith, Ok}
+use Rattle.std.proofs.Common.{◌≡◌, ℕ, ◌+◌, ◌*◌, ◌-◌, ◌<◌, ◌≤◌, Bool, true, false, cond, List, length, take, length-take, sym, ap, ◌∙◌, subst, arith, Ok}
 use Rattle.trb.specs.Answers.{Answer, number_of}
 use Rattle.trb.specs.Limits.{max_held, record_length}
 use Rattle.trb.specs.Questions.{first_no}
@@ -8,7 +8,6 @@ use Rattle.trb.specs.declared.ControlSubmissionState.{ControlSubmissionState}
 use Rattle.trb.specs.declared.TransferTrb.{TransferTrb}
 use Rattle.call_log.specs.declared.Record.{Record}
 use Rattle.call_log.specs.Calls.{Put, Meets, counted}
-use Rattle.held.specs.Places.{cleared}
 use Rattle.guest_memory.specs.declared.Regions.{Regions}
 use Rattle.guest_memory.specs.Places.{regions_of}
 use Rattle.guest_memory.specs.Lent.{seen}
@@ -18,7 +17,7 @@ use Rattle.walks.specs.Walk.{walk}
 use Rattle.phase_table.specs.declared.Outcome.{Outcome}
 use Rattle.phase_table.specs.Outcomes.{holds, restarts, state_after}
 use Rattle.control_block.specs.declared.ControlBlock.{ControlBlock}
-use Rattle.control_block.specs.Blocks.{advanced}
+use Rattle.control_block.specs.Blocks.{stored, emptied, advanced}
 use Rattle.control_block.specs.Facts.{facts_of}
 use Rattle.control_block.specs.declared.ControlTransfer.{ControlTransfer}
 use Rattle.control_block.specs.declared.Ending.TheVariants.{ReportBadTrb}
@@ -30,8 +29,8 @@ use Rattle.control_questions.proofs.SubmissionLaws.{Passed, passed}
 use Rattle.control_endpoint.specs.Returned.{Submitted}
 use Rattle.control_endpoint.specs.Submission.{places_dropped, records_of, questions_of, dropped_before, held_after, block_after, accepted}
 use Rattle.control_endpoint.proofs.FreeingLaws.{ended-counts, ended-then}
-use Rattle.control_endpoint.proofs.SubmissionLaws.{submits-refused, submits-accepted, leaves-stored, leaves_kept, place-free, dropped-held, info_of, walk-records_of, length-dropped}
-use Rattle.control_submission.proofs.submit_trb.Goals.{After-ask_submission-answer, After-places_dropped-dropped, then-is_held, else-is_held}
+use Rattle.control_endpoint.proofs.SubmissionLaws.{submits-refused, submits-accepted, place-free, dropped-held, info_of, walk-records_of, length-dropped}
+use Rattle.control_submission.proofs.submit_trb.Goals.{After-ask_submission-answer, After-places_dropped-dropped, Joined-restarts, then-restarts, else-restarts, then-is_held, else-is_held}
 use Rattle.control_submission.proofs.submit_trb.Goals as goal
 
 -- ---- The questions
@@ -74,9 +73,13 @@ module _ (b : ControlBlock) (t : TransferTrb) (l₀ collect : List ℕ) (o : Out
   dropped-room : record_length * (2 * d) ≤ length l₀
   dropped-room = omega (arith, dropped-few, p.held, p.log-long)
 
+  left : (restart : Bool) → (cond restart (emptied b) b).held ≡ b.held - places_dropped restart b.held
+  left true = omega arith
+  left false = omega arith
+
   -- a TRB that is held has a place
-  free : holds o ≡ true → b.held - d < max_held
-  free hold = rw drops (place-free o b.held p.room hold)
+  free : holds o ≡ true → (dropped_before o b).held < max_held
+  free hold = omega (arith, left (restarts o), place-free o b.held p.room hold)
 
   module _ (l : List ℕ) (w : TdProgress) (m : Meets (walk (next_trb (ReportBadTrb 0) (info_of b)) never at_start (take d b.trbs)) 0 l₀ w l) where
     -- one record for each TRB dropped at most
@@ -100,6 +103,16 @@ unfolding accepted block_after
 submitted-as b t o answer n w state x accepts count at now places =
     rw (accepts, count, at, now)
     (ap (λ (y : ControlBlock). record { answer = Ok tt; records = length (records_of o b); block = advanced y (transfer_after o t.variant t.addr b.transfer) (state_after o t.addr) }) places)
+
+-- where a transfer starts anew, nothing is held any more
+emptied-first : (j : Joined-restarts) → j.if-restarts.block ≡ dropped_before j.trb_outcome-outcome.result j.args.block
+emptied-first j =
+    let b = j.args.block in
+    let told = j.is_restart-restarts.ensures in
+    elim j.if-restarts.branch [
+      | then-restarts w ↦ w.block-is ∙ w.empty.ensures ∙ ap (λ (restart : Bool). cond restart (emptied b) b) (sym (sym told ∙ w.if-restarts.true))
+      | else-restarts w ↦ w.block-is ∙ ap (λ (restart : Bool). cond restart (emptied b) b) (sym (sym told ∙ w.if-restarts.false))
+    ]
 
 -- ---- The goals
 
@@ -127,12 +140,6 @@ log_request-records-requires c =
 pub collect_data-requires : goal.collect_data-requires
 collect_data-requires c = let p = pass (goal.at.collect_data-requires c).After-ask_submission-answer c.in-Ok.is in (p.collect-long, rw c.data_of-data.ensures p.size)
 
-pub store-requires : goal.store-requires
-store-requires c =
-    let s = c.args in
-    let g = goal.at.store-requires c in
-    free s.block s.t s.log.now s.collect.now c.trb_outcome-outcome.result c.places_dropped-dropped.result (pass g.After-ask_submission-answer c.in-Ok.is) (dropped-by g.After-places_dropped-dropped) (sym c.is_held.ensures ∙ c.if-is_held.true)
-
 pub transfer_after-transfer-requires : goal.transfer_after-transfer-requires
 transfer_after-transfer-requires c = (pass (goal.at.transfer_after-transfer-requires c).After-ask_submission-answer c.in-Ok.is).collected
 
@@ -140,6 +147,13 @@ pub returns-in-Err : goal.returns-in-Err
 returns-in-Err c =
     let s = c.args in
     submits-refused s.block s.t (seen s.memory.now) s.log.now s.collect.now _ c.ask_submission-answer.result c.in-Err.is (numbered (goal.at.returns-in-Err c).After-ask_submission-answer)
+
+pub store-requires : goal.store-requires
+store-requires c =
+    let s = c.args in
+    let g = goal.at.store-requires c in
+    let place = free s.block s.t s.log.now s.collect.now c.trb_outcome-outcome.result c.places_dropped-dropped.result (pass g.After-ask_submission-answer c.in-Ok.is) (dropped-by g.After-places_dropped-dropped) (sym c.is_held.ensures ∙ c.if-is_held.true) in
+    omega (arith, place, ap (λ (x : ControlBlock). x.held) (emptied-first g.Joined-restarts))
 
 pub returns-after-is_held : goal.returns-after-is_held
 returns-after-is_held c =
@@ -149,18 +163,15 @@ returns-after-is_held c =
     let drops = dropped-by k.After-places_dropped-dropped in
     let b = s.block in
     let o = c.trb_outcome-outcome.result in
-    let d = c.places_dropped-dropped.result in
     let e = c.end_held-progress in
-    let us = c.clear.new.trbs in
-    let told = c.in-Ok.is in
-    let empty = c.clear.ensures ∙ ap (λ (n : ℕ). cleared n b.trbs) drops in
-    let written = logged b s.t s.log.now s.collect.now o d p drops e.new.log e.result e.ensures c.log_request-records.result c.log_request-records.new.log c.log_request-records.ensures in
+    let first = emptied-first k.Joined-restarts in
+    let told = sym c.is_held.ensures in
+    let written = logged b s.t s.log.now s.collect.now o c.places_dropped-dropped.result p drops e.new.log e.result e.ensures c.log_request-records.result c.log_request-records.new.log c.log_request-records.ensures in
     let places : c.if-is_held.block ≡ held_after o (dropped_before o b) s.t =
     elim c.if-is_held.branch [
-      | then-is_held w ↦ w.block-is ∙ w.store.ensures
-          ∙ leaves-stored b s.t o (b.held - d + 1) us (set us (b.held - d) s.t) (sym c.is_held.ensures ∙ w.if-is_held.true) empty (ap (λ (n : ℕ). b.held - n + 1) drops) (ap (λ (n : ℕ). set us (b.held - n) s.t) drops)
-      | else-is_held w ↦ w.block-is ∙ leaves_kept b s.t o (b.held - d) us us (sym c.is_held.ensures ∙ w.if-is_held.false) empty (ap (λ (n : ℕ). b.held - n) drops) refl
+      | then-is_held w ↦ w.block-is ∙ w.store.ensures ∙ (λ j. cond (sym (told ∙ w.if-is_held.true) j) (stored (first j) s.t) (first j))
+      | else-is_held w ↦ w.block-is ∙ (λ j. cond (sym (told ∙ w.if-is_held.false) j) (stored (first j) s.t) (first j))
     ] in
-    submits-accepted b s.t (seen s.memory.now) s.log.now s.collect.now o c.trb_outcome-outcome.ensures (sym (numbered k.After-ask_submission-answer) ∙ ap number_of told) _ _ _
-    (submitted-as b s.t o c.ask_submission-answer.result c.log_request-records.result c.transfer_after-transfer.result c.state_after-block.result c.if-is_held.block told written.1 c.transfer_after-transfer.ensures c.state_after-block.ensures places)
+    submits-accepted b s.t (seen s.memory.now) s.log.now s.collect.now o c.trb_outcome-outcome.ensures (sym (numbered k.After-ask_submission-answer) ∙ ap number_of c.in-Ok.is) _ _ _
+    (submitted-as b s.t o c.ask_submission-answer.result c.log_request-records.result c.transfer_after-transfer.result c.state_after-block.result c.if-is_held.block c.in-Ok.is written.1 c.transfer_after-transfer.ensures c.state_after-block.ensures places)
     written.0 (rw c.data_of-data.ensures at c.collect_data.ensures)

@@ -10,7 +10,7 @@ use Rattle.guest_memory.specs.Places.{regions_of}
 use Rattle.guest_memory.specs.Lent.{lent}
 use Rattle.guest_memory.specs.declared.Regions.{Regions}
 use Rattle.delivery.specs.Completing.{delivery_questions}
-use Rattle.delivery.proofs.CallLaws.{delivers-no, log-long, delivers-yes}
+use Rattle.delivery.proofs.CallLaws.{delivers-no, delivers-yes}
 use Rattle.delivery.proofs.complete_and_carry_out.Goals.{After-ask}
 use Rattle.delivery.proofs.complete_and_carry_out.Goals as goal
 
@@ -26,11 +26,6 @@ module _ (c : After-ask) where
 pub returns-in-Err-clause-delivered : goal.returns-in-Err-clause-delivered
 returns-in-Err-clause-delivered c =
     delivers-no c.args.block c.args.res c.args.data.now c.args.log.now (lent c.args.memory.now) (Err c.in-Err.refusal) result.Ok (sym (ap number_of c.in-Err.is) ∙ number (goal.at.returns-in-Err-clause-delivered c).After-ask) refl
-
-pub carry_out_first-requires : goal.carry_out_first-requires
-carry_out_first-requires c =
-    log-long c.args.block c.args.res c.args.data.now c.args.log.now (lent c.args.memory.now) (none (goal.at.carry_out_first-requires c).After-ask c.in-Ok.is) c.next_completion-done.result c.next_completion-done.new.log
-    c.next_completion-done.ensures
 
 pub returns-in-Ok-clause-delivered : goal.returns-in-Ok-clause-delivered
 returns-in-Ok-clause-delivered c =

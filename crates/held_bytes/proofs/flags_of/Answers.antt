@@ -21,5 +21,5 @@ joined y c i s m d hy hc hi hs hm hd =
 
 pub returns : goal.returns
 returns c =
-    let a = c.args in
-    simp byte-of-bit (joined _ _ _ _ _ _ (bit-small a.cycle) (bit-small a.chain) (bit-small a.completion) (bit-small a.short) (bit-small a.immediate) (bit-small a.direction))
+    let f = c.args.flags in
+    simp byte-of-bit (joined _ _ _ _ _ _ (bit-small f.cycle) (bit-small f.chain) (bit-small f.interrupt_on_completion) (bit-small f.interrupt_on_short) (bit-small f.immediate_data) (bit-small f.direction))

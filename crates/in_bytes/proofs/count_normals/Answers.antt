@@ -1,18 +1,16 @@
 -- `in_bytes::count_normals` meets its contract. The loop's invariant: those counted and those left are all that there are. Assumes nothing.
 use Prim.Native.Nat.{ℕ, ◌+◌, ◌≤◌}
-use mathlib.Core.Path.{◌≡◌, refl, ap}
+use mathlib.Core.Path.{◌≡◌, refl}
 use mathlib.Core.Bool.{Bool, true, false, cond}
+use mathlib.Core.List.{List, map}
 use mir.Val.{bool_byte}
-use mathlib.Core.List.{List}
 use native.Mathlib.Nat.{zero-add}
 use native.Mathlib.Omega.{arith}
-use lib.ListN.{take, drop}
-use lib.Seq.{length-take-le}
-use Rattle.trb.specs.Limits.{max_held}
-use Rattle.in_td.specs.Td.{normals}
+use lib.ListN.{length, length-map, drop}
+use Rattle.held.specs.declared.EndpointKind.TheVariants.{In}
 use Rattle.in_block.proofs.TestLaws.{normals-length}
-use Rattle.in_bytes.specs.Layout.{places}
-use Rattle.in_bytes.proofs.HeldLaws.{few-places, normals-in, normals-next, normals-none}
+use Rattle.held_bytes.specs.Places.{place_of}
+use Rattle.in_bytes.proofs.HeldLaws.{normals-in, normals-next, normals-none}
 use Rattle.in_bytes.proofs.count_normals.Goals.{After-is_normal}
 use Rattle.in_bytes.proofs.count_normals.Goals as goal
 
@@ -21,21 +19,20 @@ as-byte true = refl
 as-byte false = refl
 
 -- what is left, in a turn: the TRB that is read, and the rest
-turn : (c : After-is_normal) →
-    normals-in (drop c.loop-place.place-index c.held_places-place-items.result.now) ≡ bool_byte c.is_normal.result + normals-in (drop (c.loop-place.place-index + 1) c.held_places-place-items.result.now)
-turn c = rw (as-byte c.is_normal.result, c.is_normal.ensures) (normals-next c.held_places-place-items.result.now c.loop-place.place-index c.loop-place-test.true)
+turn : (c : After-is_normal) → normals-in (drop c.loop-place.place-index c.args.places.now) ≡ bool_byte c.is_normal.result + normals-in (drop (c.loop-place.place-index + 1) c.args.places.now)
+turn c = rw (as-byte c.is_normal.result, c.is_normal.ensures) (normals-next c.args.places.now c.loop-place.place-index c.loop-place-test.true)
 
-few : (b : List ℕ) (n : ℕ) → n ≤ max_held → normals (take n (places b)) ≤ max_held
-few b n h = omega (arith, normals-length (take n (places b)), length-take-le n (places b) (few-places b n h))
+few : (cells : List (List ℕ)) → normals-in cells ≤ length cells
+few cells = omega (arith, normals-length (map (place_of In) cells), length-map cells (place_of In))
 
 pub loop-place-init : goal.loop-place-init
 loop-place-init c = zero-add _
 
 pub overflow_add-count : goal.overflow_add-count
-overflow_add-count c = omega (arith, turn c, few c.args.block.now c.args.held c.requires.0, ap normals c.held_places-place-items.ensures.trbs, c.loop-place.invariant)
+overflow_add-count c = omega (arith, turn c, few c.args.places.now, c.loop-place.invariant, c.requires)
 
 pub loop-place-preserved : goal.loop-place-preserved
 loop-place-preserved c = omega (arith, turn c, c.loop-place.invariant)
 
 pub returns : goal.returns
-returns c = omega (arith, c.loop-place.invariant, normals-none c.held_places-place-items.result.now c.loop-place.place-index c.loop-place-test.false, ap normals c.held_places-place-items.ensures.trbs)
+returns c = omega (arith, c.loop-place.invariant, normals-none c.args.places.now c.loop-place.place-index c.loop-place-test.false)

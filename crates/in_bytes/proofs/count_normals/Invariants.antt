@@ -5,4 +5,4 @@ use Rattle.in_bytes.proofs.HeldLaws.{normals-in}
 use Rattle.in_bytes.proofs.count_normals.Given as goal
 
 abbrev pub invariant-loop-place : goal.invariant-loop-place
-invariant-loop-place l = l.count + normals-in (drop l.place-index l.place-items) ≡ normals-in l.place-items
+invariant-loop-place l = l.count + normals-in (drop l.place-index l.places) ≡ normals-in l.places

@@ -5,4 +5,4 @@ use Rattle.in_bytes.proofs.HeldLaws.{requested-in}
 use Rattle.in_bytes.proofs.requested_length.Given as goal
 
 abbrev pub invariant-loop-place : goal.invariant-loop-place
-invariant-loop-place l = l.sum + requested-in (drop l.place-index l.place-items) ≡ requested-in l.place-items
+invariant-loop-place l = l.sum + requested-in (drop l.place-index l.places) ≡ requested-in l.places

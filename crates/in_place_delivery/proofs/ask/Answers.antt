@@ -1,16 +1,14 @@
 -- `in_place_delivery::ask` meets its contract: behind 1 and 13 the number is that of a completion's questions, and where each was answered with yes, question 11 is
 -- told by the places held. Assumes nothing.
-use Prim.Native.Nat.{ℕ, ◌≤◌}
+use Prim.Native.Nat.{ℕ}
 use mathlib.Core.Bool.{cond}
 use mathlib.Core.Path.{◌≡◌, ap, ◌∙◌}
 use native.Mathlib.Omega.{arith}
 use lib.ListN.{take}
 use Rattle.trb.specs.Answers.{is_accepted}
-use Rattle.trb.specs.Limits.{max_held}
 use Rattle.trb.specs.declared.TdBasedNormalSubmissionState.{TdBasedNormalSubmissionState}
 use Rattle.in_block.specs.Blocks.{held_of}
 use Rattle.in_block.specs.Facts.{awaits_device, facts_of}
-use Rattle.in_block.proofs.SoundLaws.{sound-held}
 use Rattle.in_questions.proofs.PassedLaws.{PassedCompletion}
 use Rattle.in_bytes.specs.Layout.{held_count, places, block_of}
 use Rattle.delivery_laws.specs.Ranges.{writes_inside}
@@ -25,10 +23,6 @@ module _ (c : In_ok-ask_completion) where
       let s = c.args in
       known s.log_length (block_of s.block.now) s.res s.data_length s.regions (search rules) (search rules) c.ask_completion.result c.ask_completion.ensures (ap is_accepted c.in_ok-ask_completion.was)
 
-  few : held_count c.args.block.now ≤ max_held
-  unfolding block_of
-  few = sound-held (facts_of (block_of c.args.block.now)) completes.sound
-
 pub returns-in_err-ask_completion : goal.returns-in_err-ask_completion
 returns-in_err-ask_completion c =
     let s = c.args in
@@ -41,9 +35,6 @@ overflow_cast-data_length c =
     let short = (completes (goal.at.overflow_cast-data_length c).In_ok-ask_completion).short in
     search rules
 
-pub writes_inside-requires : goal.writes_inside-requires
-writes_inside-requires c = (omega (arith, c.le16-held.ensures, few (goal.at.writes_inside-requires c).In_ok-ask_completion), c.requires)
-
 -- the places that are walked hold the TRBs held
 inside : (c : After-writes_inside) → let s = c.args in
     c.writes_inside.result ≡ writes_inside s.regions (cond (awaits_device (block_of s.block.now).state) s.data_length 0) (held_of (block_of s.block.now))
@@ -52,9 +43,9 @@ inside c =
     let s = c.args in
     let b = s.block.now in
     c.writes_inside.ensures
-    ∙ ap (λ (n : ℕ). writes_inside s.regions n (take c.le16-held.result (places b)))
+    ∙ ap (writes_inside s.regions c.bytes_given-given.result) c.held_places-places.ensures.trbs
+    ∙ ap (λ (n : ℕ). writes_inside s.regions n (take (held_count b) (places b)))
     (c.bytes_given-given.ensures ∙ ap (λ (x : TdBasedNormalSubmissionState). cond (awaits_device x) s.data_length 0) c.state_of-state.ensures)
-    ∙ ap (λ (n : ℕ). writes_inside s.regions (cond (awaits_device (block_of b).state) s.data_length 0) (take n (places b))) c.le16-held.ensures
 
 pub returns : goal.returns
 returns c =

@@ -7,4 +7,4 @@ use Rattle.in_place_delivery.proofs.writes_inside.Given as goal
 
 abbrev pub invariant-loop-place : goal.invariant-loop-place
 invariant-loop-place l =
-    Left l.regions (take (length l.place-items) (map (place_of In) l.place-items)) l.given l.left l.place-index
+    Left l.regions (take (length l.places) (map (place_of In) l.places)) l.given l.left l.place-index

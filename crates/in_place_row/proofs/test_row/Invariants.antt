@@ -1,7 +1,7 @@
-use lib.ListN.{take}
 use Rattle.row_questions.proofs.RowTestLaws.{Testing}
-use Rattle.row_bytes.specs.Layout.{trbs_in, results_in}
+use Rattle.row_bytes.specs.Layout.{results_in}
+use Rattle.in_place_row.proofs.KeptLaws.{trbs_of}
 use Rattle.in_place_row.proofs.test_row.Given as goal
 
-abbrev pub invariant-loop-j : goal.invariant-loop-j
-invariant-loop-j l = Testing l.regions (results_in l.results) (take l.count (trbs_in l.row)) l.test l.j
+abbrev pub invariant-loop-place : goal.invariant-loop-place
+invariant-loop-place l = Testing l.regions (results_in l.results) (trbs_of l.row) l.test l.place-index

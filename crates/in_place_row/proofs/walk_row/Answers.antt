@@ -1,13 +1,13 @@
 -- `in_place_row::walk_row` meets its contract. After i TDs, what the walk over the TDs left makes of the present state and log is what the row
 -- makes of the first; a TD's request and its walk from where it stands are its step; one that fails ends the row. Assumes nothing.
-use Prim.Native.Nat.{ℕ, ◌+◌, ◌-◌, ◌*◌, ◌/◌, ◌<◌, ◌≤◌, ◌^◌}
+use Prim.Native.Nat.{ℕ, ◌+◌, ◌-◌, ◌*◌, ◌<◌, ◌≤◌, ◌^◌}
 use mathlib.Core.Path.{◌≡◌, sym, ap, ◌∙◌}
 use mathlib.Core.Bool.{true, false, not}
-use mathlib.Core.List.{List}
+use mathlib.Core.List.{List, map}
 use native.Mathlib.Omega.{arith}
 use lib.Dec.{eqb}
-use lib.ListN.{length, take, drop, get_or}
-use Rattle.trb.specs.Limits.{record_length, max_held}
+use lib.ListN.{length, length-take, take, drop, get_or}
+use Rattle.trb.specs.Limits.{record_length}
 use Rattle.trb.specs.declared.TransferTrb.{TransferTrb}
 use Rattle.call_log.specs.Calls.{Meets, counted}
 use Rattle.call_log.specs.Records.{in_request, when}
@@ -22,11 +22,10 @@ use Rattle.row_walk.specs.declared.TdResult.{TdResult}
 use Rattle.row_walk.specs.Rows.{td_done, process_row, from, td_from, past_results}
 use Rattle.row_walk.proofs.TdsLaws.{Found}
 use Rattle.row_walk.proofs.RowLaws.{le_trans_lt, within-as, room_as, walked_as, RowWalked, row-none, row-end, row_more, row-data, row-space, row_room, row-stop, row-turn}
-use Rattle.held_bytes.specs.Places.{place_length, places_of}
-use Rattle.row_bytes.specs.Layout.{trbs_in, results_in}
-use Rattle.row_bytes.proofs.CellLaws.{length-trbs_in}
+use Rattle.held_bytes.specs.Places.{place_of}
+use Rattle.row_bytes.specs.Layout.{results_in}
 use Rattle.row_walk.proofs.TdsLaws.{found_at}
-use Rattle.in_place_row.proofs.KeptLaws.{places-from}
+use Rattle.in_place_row.proofs.KeptLaws.{trbs_of, as_many, read_at, kept-part}
 use Rattle.in_place_row.proofs.walk_row.Goals.{After-log_request-records, After-look_at_td-end, After-unprocessed_from-from, In-loop-i}
 use Rattle.in_place_row.proofs.walk_row.Goals as goal
 
@@ -35,8 +34,11 @@ module _ (c : In-loop-i) where
   left : c.loop-i.i < length (results_in c.args.results.now)
   left = omega (arith, c.loop-i-test.true, c.result_count-tds.ensures)
 
-  inside : c.loop-i.first < length (trbs_in c.args.row.now)
+  inside : c.loop-i.first < length (trbs_of c.args.row.now)
   inside = row_more _ _ _ _ _ _ c.requires.1.1.1 _ _ _ _ c.loop-i.invariant left
+
+  placed : c.loop-i.first < length c.args.row.now
+  placed = omega (arith, inside, as_many c.args.row.now)
 
 -- where it was looked at
 module _ (c : After-look_at_td-end) where
@@ -47,8 +49,8 @@ module _ (c : After-look_at_td-end) where
   given-for : get_or (results_in c.args.results.now) c.loop-i.i past_results ≡ given
   given-for = sym c.result_at-given.ensures
 
-  found : c.loop-i.first < length (trbs_in c.args.row.now) → Found (trbs_in c.args.row.now) c.loop-i.first c.look_at_td-end.result.asked c.look_at_td-end.result.end
-  found inside = found_at (trbs_in c.args.row.now) c.loop-i.first c.look_at_td-end.result inside c.look_at_td-end.ensures
+  found : c.loop-i.first < length (trbs_of c.args.row.now) → Found (trbs_of c.args.row.now) c.loop-i.first c.look_at_td-end.result.asked c.look_at_td-end.result.end
+  found inside = found_at (trbs_of c.args.row.now) c.loop-i.first c.look_at_td-end.result inside c.look_at_td-end.ensures
 
   data-fits : c.loop-i.i < length (results_in c.args.results.now) → c.loop-i.so_far.start + given.length < 2 ^ 32
   data-fits left =
@@ -56,15 +58,17 @@ module _ (c : After-look_at_td-end) where
       (let h = row-data _ _ _ _ _ _ c.requires.1.1.1 _ _ _ _ c.loop-i.invariant left in le_trans_lt h c.requires.1.1.1.given)
 
 -- where its request was logged
-request-met : (c : After-log_request-records) →
-    Meets (counted c.loop-i.so_far.records (when (not (eqb c.look_at_td-end.result.asked.normals 0)) (in_request (get_or (trbs_in c.args.row.now) c.loop-i.first past_end).addr c.look_at_td-end.result.asked.length c.args.endpoint_id c.args.slot_id)))
+request-met : (c : After-log_request-records) → c.loop-i.first < length c.args.row.now →
+    Meets (counted c.loop-i.so_far.records (when (not (eqb c.look_at_td-end.result.asked.normals 0)) (in_request (get_or (trbs_of c.args.row.now) c.loop-i.first past_end).addr c.look_at_td-end.result.asked.length c.args.endpoint_id c.args.slot_id)))
     c.loop-i.so_far.records c.loop-i.log c.log_request-records.result c.log_request-records.new.log
-request-met c = rw c.trb_at-head.ensures at c.log_request-records.ensures
+request-met c h =
+    let read : c.trb_in-head.result ≡ get_or (trbs_of c.args.row.now) c.loop-i.first past_end = c.trb_in-head.ensures ∙ sym (read_at c.args.row.now c.loop-i.first h) in
+    rw read at c.log_request-records.ensures
 
 -- where its TRBs are walked
 module _ (c : After-unprocessed_from-from) where
   abbrev trbs : List TransferTrb
-  trbs = trbs_in c.args.row.now
+  trbs = trbs_of c.args.row.now
 
   abbrev results : List TdResult
   results = results_in c.args.results.now
@@ -94,18 +98,12 @@ module _ (c : After-unprocessed_from-from) where
         room_as _ _ _ _ c.td_from-td.ensures c.unprocessed_from-from.ensures (2 * size) (length c.log_request-records.new.log)
         (row_room _ _ _ _ _ _ c.requires.1.1.1 _ _ _ _ c.loop-i.invariant left _ _ bounds _ _ met)
 
-    few-trbs : c.loop-i.first + size ≤ length trbs
-    few-trbs = omega (arith, bounds.some, bounds.inside)
-
     -- the places that are walked
-    walked-trbs : take size (places_of In max_held (drop (place_length * c.loop-i.first) c.args.row.now)) ≡ take size (drop c.loop-i.first trbs)
-    walked-trbs =
-        let row = c.args.row.now in
-        sym (ap (λ (ts : List TransferTrb). take size (drop c.loop-i.first ts)) c.requires.1.1.0
-        ∙ places-from row (length row / place_length) c.loop-i.first size (omega (arith, few-trbs, length-trbs_in row)) (omega (arith, few-trbs, c.requires.0)))
+    walked-trbs : map (place_of In) (take size (drop c.loop-i.first c.args.row.now)) ≡ take size (drop c.loop-i.first trbs)
+    walked-trbs = kept-part c.args.row.now c.loop-i.first size c.requires.1.1.0
 
     module _ (l : List ℕ) (p : TdProcessed)
-        (q : Meets (walk (process_trb td) ended begun (take size (places_of In max_held (drop (place_length * c.loop-i.first) c.args.row.now)))) begun.progress.records c.log_request-records.new.log p l) where
+        (q : Meets (walk (process_trb td) ended begun (map (place_of In) (take size (drop c.loop-i.first c.args.row.now)))) begun.progress.records c.log_request-records.new.log p l) where
       walked_here : Meets (walk (process_trb (td_from c.args.endpoint_id c.args.slot_id c.args.mode c.loop-i.so_far.start for_it)) ended (from c.loop-i.so_far.start c.log_request-records.result c.look_at_td-end.result.asked.normals) (take size (drop c.loop-i.first trbs)))
           c.log_request-records.result c.log_request-records.new.log p l
       walked_here = walked_as _ _ _ _ c.td_from-td.ensures c.unprocessed_from-from.ensures _ _ _ _ (rw walked-trbs at q)
@@ -124,10 +122,16 @@ pub loop-i-init : goal.loop-i-init
 loop-i-init c = rw c.at_start_of_row-so_far.ensures (row-none _ _ _ _ _ _)
 
 pub look_at_td-end-requires : goal.look_at_td-end-requires
-look_at_td-end-requires c = (inside (goal.at.look_at_td-end-requires c).In-loop-i, (c.requires.0, (c.requires.1.1.1.whole, c.requires.1.1.1.asked)))
+look_at_td-end-requires c = (placed (goal.at.look_at_td-end-requires c).In-loop-i, (c.requires.0, (c.requires.1.1.1.whole, c.requires.1.1.1.asked)))
 
-pub trb_at-head-requires : goal.trb_at-head-requires
-trb_at-head-requires c = inside (goal.at.trb_at-head-requires c).In-loop-i
+pub offset_bounds-row-first : goal.offset_bounds-row-first
+offset_bounds-row-first c = omega (arith, placed (goal.at.offset_bounds-row-first c).In-loop-i, c.requires.0)
+
+pub offset_bounds-row-first-in-loop-i : goal.offset_bounds-row-first-in-loop-i
+offset_bounds-row-first-in-loop-i c = omega (arith, placed (goal.at.offset_bounds-row-first-in-loop-i c).In-loop-i, c.requires.0)
+
+pub bounds-row-first : goal.bounds-row-first
+bounds-row-first c = placed (goal.at.bounds-row-first c).In-loop-i
 
 pub log_request-records-requires : goal.log_request-records-requires
 log_request-records-requires c =
@@ -138,23 +142,20 @@ td_from-td-requires c =
     let g = goal.at.td_from-td-requires c in
     data-fits g.After-look_at_td-end (left g.In-loop-i)
 
-pub overflow_mul-first : goal.overflow_mul-first
-overflow_mul-first c = omega (arith, inside (goal.at.overflow_mul-first c).In-loop-i, c.requires.0)
-
-pub overflow_sub-end : goal.overflow_sub-end
-overflow_sub-end c =
-    let g = goal.at.overflow_sub-end c in
-    omega (arith, (found g.After-look_at_td-end (inside g.In-loop-i)).some)
+pub slice_bounds-walk_places-end : goal.slice_bounds-walk_places-end
+slice_bounds-walk_places-end c =
+    let g = goal.at.slice_bounds-walk_places-end c in
+    let bounds = found g.After-look_at_td-end (inside g.In-loop-i) in
+    omega (arith, bounds.some, bounds.inside, as_many c.args.row.now)
 
 pub walk_places-processed-requires : goal.walk_places-processed-requires
 walk_places-processed-requires c =
     let g = goal.at.walk_places-processed-requires c in
     let u = g.After-unprocessed_from-from in
     let bounds = found g.After-look_at_td-end (inside g.In-loop-i) in
-    let met = request-met g.After-log_request-records in
+    let met = request-met g.After-log_request-records (placed g.In-loop-i) in
     let for-it = given-for g.After-look_at_td-end in
-    let few = few-trbs u (left g.In-loop-i) bounds for-it met in
-    (omega (arith, few, length-trbs_in c.args.row.now), (omega (arith, few, c.requires.0), (begun-room u (left g.In-loop-i) bounds for-it met, (begun-within u, ap ended c.unprocessed_from-from.ensures))))
+    (omega (arith, begun-room u (left g.In-loop-i) bounds for-it met, length-take (size u) (drop c.loop-i.first c.args.row.now)), (begun-within u, ap ended c.unprocessed_from-from.ensures))
 
 pub td_done-so_far-requires : goal.td_done-so_far-requires
 td_done-so_far-requires c =
@@ -166,7 +167,7 @@ returns-then-is_error c =
     let g = goal.at.returns-then-is_error c in
     let w = c.walk_places-processed in
     rw c.td_done-so_far.ensures
-    (stops g.After-unprocessed_from-from (left g.In-loop-i) (found g.After-look_at_td-end (inside g.In-loop-i)) (given-for g.After-look_at_td-end) (request-met g.After-log_request-records) w.new.log w.result w.ensures
+    (stops g.After-unprocessed_from-from (left g.In-loop-i) (found g.After-look_at_td-end (inside g.In-loop-i)) (given-for g.After-look_at_td-end) (request-met g.After-log_request-records (placed g.In-loop-i)) w.new.log w.result w.ensures
     (sym c.is_error.ensures ∙ c.if-is_error.true))
 
 pub loop-i-preserved : goal.loop-i-preserved
@@ -174,7 +175,7 @@ loop-i-preserved c =
     let g = goal.at.loop-i-preserved c in
     let w = c.walk_places-processed in
     rw c.td_done-so_far.ensures
-    (turns g.After-unprocessed_from-from (left g.In-loop-i) (found g.After-look_at_td-end (inside g.In-loop-i)) (given-for g.After-look_at_td-end) (request-met g.After-log_request-records) w.new.log w.result w.ensures
+    (turns g.After-unprocessed_from-from (left g.In-loop-i) (found g.After-look_at_td-end (inside g.In-loop-i)) (given-for g.After-look_at_td-end) (request-met g.After-log_request-records (placed g.In-loop-i)) w.new.log w.result w.ensures
     (sym c.is_error.ensures ∙ c.if-is_error.false))
 
 pub returns : goal.returns

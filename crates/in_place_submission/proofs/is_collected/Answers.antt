@@ -38,7 +38,7 @@ returns-then-not-share_none c = λ yes. absurd (true≢false (sym yes))
 
 pub ask_of_normal-answer-requires : goal.ask_of_normal-answer-requires
 unfolding block_of
-ask_of_normal-answer-requires c = omega (arith, c.le16-held.ensures, sound-held (facts_of (block_of c.args.block.now)) (in-state (goal.at.ask_of_normal-answer-requires c).Else-not-is_sound_in).sound)
+ask_of_normal-answer-requires c = omega (arith, c.held-held.ensures, sound-held (facts_of (block_of c.args.block.now)) (in-state (goal.at.ask_of_normal-answer-requires c).Else-not-is_sound_in).sound)
 
 pub returns : goal.returns
 returns c =
@@ -47,5 +47,5 @@ returns c =
     let n = s.numbers in
     collected s.block.now s.log_length n s.regions c.if-numbers-ne-NORMAL.false (sym c.bit.ensures ∙ c.if-not-bit.false) (in-state (goal.at.returns c).Else-not-is_sound_in) c.if-log_length-lt-MIN_LOG.false
     (not-true _ (sym c.share_none.ensures ∙ c.if-not-share_none.false))
-    (ap (λ (held : ℕ). first_no (trb_questions held (Normal (normal_of n.flags n.value n.transfer_length)) s.regions)) (sym c.le16-held.ensures)
+    (ap (λ (held : ℕ). first_no (trb_questions held (Normal (normal_of n.flags n.value n.transfer_length)) s.regions)) (sym c.held-held.ensures)
     ∙ answered-all c.ask_of_normal-answer.result _ c.ask_of_normal-answer.ensures (accepted-ok _ (sym c.is_ok.ensures.value ∙ yes)))

@@ -1,6 +1,5 @@
 -- `in_place_submission::submit_trb` meets its contract. Assumes nothing.
 use mathlib.Core.Path.{◌≡◌}
-use native.Mathlib.Omega.{arith}
 use lib.ListN.{length}
 use Rattle.held_bytes.specs.Numbers.{trb_of}
 use Rattle.in_place_questions.specs.Lent.{lent_log}
@@ -23,7 +22,7 @@ pub store-requires : goal.store-requires
 store-requires c =
     let s = c.args in
     let fits = collected-fits s.block.now (trb_of s.numbers) c.args.regions (length s.log.now) (c.is_collected.ensures c.if-is_collected.true) in
-    record { block_length_in_bounds = (c.if-block-lt-BLOCK.false, (c.le16-held.ensures, omega (arith, c.le16-held.ensures, fits.0))); numbers_bound = fits.1 }
+    record { block_length_in_bounds = (c.if-block-lt-BLOCK.false, fits.0); numbers_bound = fits.1 }
 
 pub returns-then-is_collected : goal.returns-then-is_collected
 returns-then-is_collected c =

@@ -1,4 +1,4 @@
--- `row_plan::ask` meets its contract: the questions are completion's, of the row's facts, and the plan is by their answer. Assumes nothing.
+-- `row_plan::ask` meets its contract: the questions are completion's, of the row's facts, and the TD is by their answer. Assumes nothing.
 use Rattle.std.proofs.Common.{◌≡◌, ◌≤◌, sym, Err, arith, rules}
 use Rattle.trb.specs.Limits.{max_data}
 use Rattle.trb.proofs.AnswerLaws.{refusal_of-number, refusal_number-positive}
@@ -21,4 +21,4 @@ overflow_cast-data_length c =
 
 pub returns : goal.returns
 unfolding row_plan
-returns c = rw (c.td_of.ensures, c.status_of-status.ensures, c.unprocessed.ensures, ← c.in_ok-ask_completion.ensures)
+returns c = rw (c.td_of.ensures, c.status_of-status.ensures, ← c.in_ok-ask_completion.ensures)

@@ -1,10 +1,6 @@
-use Prim.Native.Nat.{◌-◌}
-use lib.ListN.{length}
+use mathlib.Core.Bool.{true}
 use Rattle.row_walk.proofs.TdsLaws.{Looked}
 use Rattle.row_walk.proofs.look_at_td.Given as goal
 
-abbrev pub invariant-loop-more : goal.invariant-loop-more
-invariant-loop-more l = Looked l.row l.first l.asked l.end l.more
-
-abbrev pub decreases-loop-more : goal.decreases-loop-more
-decreases-loop-more l = length l.row - l.end
+abbrev pub invariant-loop-last : goal.invariant-loop-last
+invariant-loop-last l = Looked l.row l.first l.asked l.last true

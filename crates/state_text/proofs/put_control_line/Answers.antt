@@ -13,7 +13,7 @@ returns c =
     (wrote-append
     c.put_standing.ensures
     c.put_decimal_behind.ensures)
-    c.put_decimal_behind-2.ensures)
+    (rw c.count.ensures at c.put_decimal_behind-2.ensures))
     c.put_hex_behind.ensures)
     c.put_request.ensures)
     c.put_char.ensures

@@ -33,12 +33,12 @@ returns-in_err-ask c =
     let told : c.from_residual.result ≡ Err BufferTooShort = grind arith in
     rw told (record { number = sym no; count = simp no; after = simp no })
 
-pub returns-in_err-ask-2 : goal.returns-in_err-ask-2
-returns-in_err-ask-2 c =
+pub returns-in_err-check : goal.returns-in_err-check
+returns-in_err-check c =
     let room : length c.args.log.now / record_length ≤ length c.args.text.now / max_line = search rules in
     let bad : well_formed c.args.log.now ≡ false = search rules in
     let no = malformed c.args.log.now c.args.text.now room bad in
-    let told : c.from_residual-in_err-ask-2.result ≡ Err MalformedLog = grind arith in
+    let told : c.from_residual-in_err-check.result ≡ Err MalformedLog = grind arith in
     rw told (record { number = sym no; count = simp no; after = simp no })
 
 pub returns : goal.returns

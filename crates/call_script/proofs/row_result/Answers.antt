@@ -1,9 +1,0 @@
--- `call_script::row_result` meets its contract: each number is at most its limit. Assumes nothing.
-use native.Mathlib.Omega.{arith}
-use lib.Dec.{lit<}
-use mathlib.Core.Path.{sym, ◌∙◌}
-use Rattle.script_fields.proofs.FieldLaws.{within_limits-at}
-use Rattle.call_script.proofs.row_result.Goals as goal
-
-pub overflow_cast-result : goal.overflow_cast-result
-overflow_cast-result c = omega (arith, within_limits-at _ _ 1 (sym c.within_limits.ensures ∙ c.if-not-within_limits.false) (lit< tt))
