@@ -57,7 +57,7 @@ pub fn normal_at(i: u32, data_pointer: u64, transfer_length: u32, chain: bool) -
     }
 }
 
-// What the device gives, if this TRB has ended the TD.
+// What the device gives, if this TRB has ended the TD: from 3 on every status is a disconnect.
 pub fn result_at(ends: bool, status: u8) -> Option<InTrbProcessingStatus> {
-    ends.then_some(answer_numbers::status_of(status))
+    ends.then_some(answer_numbers::status_of(status.min(3)))
 }

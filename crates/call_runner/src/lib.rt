@@ -2,6 +2,7 @@
 #![tactic(auto)]
 
 ghost use Rattle.std.specs.Prelude.{◌≡◌, ◌≤◌, length, IfOk};
+ghost use Rattle.call_script.specs.Limits.{max_window, max_lent_log, max_lent_collect, max_script_data};
 ghost use Rattle.session_calls.specs.Buffers.{SameBuffers};
 ghost use Rattle.session_calls.specs.Answers.{state_in};
 ghost use Rattle.state_text.specs.Widths.{max_answer};
@@ -167,19 +168,48 @@ fn run_input<R: Read, W: Write>(
     Ok(progress)
 }
 
+// ---- Buffers
+
 // Bytes of the text that is not yet written out: room for two answers at least.
 const TEXT: usize = 2 * state_text::MAX_ANSWER;
+
+// As much log as a script may lend.
+pub fn log_buffer() -> [u8; call_script::MAX_LENT_LOG]
+    ensures { length result ≡ max_lent_log }
+{
+    input_bytes::zeros()
+}
+
+// As much collect buffer as a script may lend.
+pub fn collect_buffer() -> [u8; call_script::MAX_LENT_COLLECT]
+    ensures { length result ≡ max_lent_collect }
+{
+    input_bytes::zeros()
+}
+
+// Either region may have all of guest memory.
+pub fn region_buffer() -> [u8; call_script::MAX_WINDOW]
+    ensures { length result ≡ max_window }
+{
+    input_bytes::zeros()
+}
+
+// The device's data, of which a call is given the first bytes.
+pub fn data_buffer() -> [u8; call_script::MAX_SCRIPT_DATA]
+    ensures { length result ≡ max_script_data }
+{
+    input_bytes::zeros()
+}
 
 // Runs the call script that the reader gives and writes the answers. What it reads and writes is all that it does.
 pub fn run<R: Read, W: Write>(reader: &mut R, writer: &mut W) -> io::Result<()> {
     let mut input = input_bytes::zeros::<{ script_lines::PIECE }>();
     let mut text = input_bytes::zeros::<TEXT>();
-    // As much of each as a script may lend: either region may have all of guest memory.
-    let mut log = input_bytes::zeros::<{ call_script::MAX_LENT_LOG }>();
-    let mut collect = input_bytes::zeros::<{ call_script::MAX_LENT_COLLECT }>();
-    let mut low = input_bytes::zeros::<{ call_script::MAX_WINDOW }>();
-    let mut high = input_bytes::zeros::<{ call_script::MAX_WINDOW }>();
-    let mut data = input_bytes::zeros::<{ call_script::MAX_SCRIPT_DATA }>();
+    let mut log = log_buffer();
+    let mut collect = collect_buffer();
+    let mut low = region_buffer();
+    let mut high = region_buffer();
+    let mut data = data_buffer();
     script_bytes::fill_device(&mut data);
     script_bytes::fill_guest(&mut low, session::FIRST_BASE);
     let mut buffers = LentBuffers {

@@ -95,7 +95,7 @@ fn write_file(src: &[u8], link: LinkType, dst: &mut [u8])
         buffers::le32(src, 8),
         buffers::le32(src, 12),
         buffers::le32(src, 16),
-        other,
+        u32::from(other),
     ));
     write_records(
         &src[FILE_HEADER_LENGTH..],

@@ -106,8 +106,8 @@ pub struct Survey {
 }
 
 // The bytes of a file header.
-pub fn file_head(zone: u32, accuracy: u32, snap: u32, link: LinkType) -> [u8; FILE_HEADER_LENGTH]
-    ensures { result ≡ file_head zone accuracy snap (link_number link) }
+pub fn file_head(zone: u32, accuracy: u32, snap: u32, link: u32) -> [u8; FILE_HEADER_LENGTH]
+    ensures { result ≡ file_head zone accuracy snap link }
 {
     let mut cells = [0; FILE_HEADER_LENGTH];
     cells[0..4].copy_from_slice(&MAGIC.to_le_bytes());
@@ -116,7 +116,7 @@ pub fn file_head(zone: u32, accuracy: u32, snap: u32, link: LinkType) -> [u8; FI
     cells[8..12].copy_from_slice(&zone.to_le_bytes());
     cells[12..16].copy_from_slice(&accuracy.to_le_bytes());
     cells[16..20].copy_from_slice(&snap.to_le_bytes());
-    cells[20..24].copy_from_slice(&u32::from(link).to_le_bytes());
+    cells[20..24].copy_from_slice(&link.to_le_bytes());
     cells
 }
 

@@ -62,7 +62,12 @@ fn write_merged(a: &[u8], b: &[u8], link: LinkType, dst: &mut [u8])
 {
     let snap = buffers::le32(a, 16).max(buffers::le32(b, 16));
     let mut out = Text { bytes: dst, end: 0 };
-    out.put_word(&capture_file::file_head(buffers::le32(a, 8), buffers::le32(a, 12), snap, link));
+    out.put_word(&capture_file::file_head(
+        buffers::le32(a, 8),
+        buffers::le32(a, 12),
+        snap,
+        u32::from(link),
+    ));
     merge_records(
         &a[FILE_HEADER_LENGTH..],
         &b[FILE_HEADER_LENGTH..],

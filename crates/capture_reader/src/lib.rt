@@ -73,7 +73,7 @@ fn is_head(input: &[u8]) -> bool
     ensures answer { result ≡ made_head input.now }
     ensures within { OnTrue result (24 ≤ length input.now) }
 {
-    let cells = capture_file::file_head(0, 0, capture_record::SNAP_LENGTH, LinkType::Short);
+    let cells = capture_file::file_head(0, 0, capture_record::SNAP_LENGTH, LinkType::Short as u32);
     input.starts_with(&cells)
 }
 

@@ -152,11 +152,11 @@ pub fn run<R: Read, W: Write>(reader: &mut R, writer: &mut W) -> io::Result<()> 
     let mut input = Input::new(&mut piece);
     let mut output = input_bytes::zeros::<OUTPUT>();
     let mut text = input_bytes::zeros::<{ state_text::MAX_ANSWER }>();
-    let mut log = input_bytes::zeros::<{ call_script::MAX_LENT_LOG }>();
-    let mut collect = input_bytes::zeros::<{ call_script::MAX_LENT_COLLECT }>();
-    let mut longer = input_bytes::zeros::<{ call_script::MAX_WINDOW }>();
+    let mut log = call_runner::log_buffer();
+    let mut collect = call_runner::collect_buffer();
+    let mut longer = call_runner::region_buffer();
     let mut shorter = input_bytes::zeros::<SHORTER_REGION>();
-    let mut data = input_bytes::zeros::<{ call_script::MAX_SCRIPT_DATA }>();
+    let mut data = call_runner::data_buffer();
     script_bytes::fill_device(&mut data);
     script_bytes::fill_guest(&mut longer, session::FIRST_BASE);
     // OUTPUT has room for a header: no refusal comes.

@@ -40,7 +40,7 @@ pub fn write_file_header(output: &mut [u8]) -> Result<usize, NotWritten>
     if output.len() < FILE_HEADER_LENGTH {
         return Err(NotWritten::OutputTooShort);
     }
-    let cells = capture_file::file_head(0, 0, capture_record::SNAP_LENGTH, LinkType::Short);
+    let cells = capture_file::file_head(0, 0, capture_record::SNAP_LENGTH, LinkType::Short as u32);
     buffers::copy_into(output, 0, &cells);
     Ok(FILE_HEADER_LENGTH)
 }

@@ -58,15 +58,22 @@ pub fn result_of(status: u8) -> Option<InTrbProcessingStatus>
     (status <= 3).then_some(answer_numbers::status_of(status))
 }
 
-// Is a TD collected, no device result given, and does every question say yes? So it is behind every TRB of a TD but the last.
+// Is a TD collected, no device result given, and does every question say yes? So it is behind every TRB of a TD but the last. The tests
+// stand one behind the other: as one condition two of them are compiled into one, of two instructions more for each TRB.
 fn goes_on(log_length: usize, block: &[u8], status: u8, data_length: usize) -> bool
     requires { block_length ≤ length block.now }
     ensures { result ≡ true → GoesOn log_length (result_of status) data_length block.now }
 {
-    4 <= status
-        && in_place_questions::is_sound_in(in_bytes::COLLECTING, block)
-        && trb::MIN_LOG <= log_length
-        && data_length <= trb::MAX_DATA
+    if status < 4 {
+        return false;
+    }
+    if !in_place_questions::is_sound_in(in_bytes::COLLECTING, block) {
+        return false;
+    }
+    if log_length < trb::MIN_LOG {
+        return false;
+    }
+    data_length <= trb::MAX_DATA
 }
 
 // Completes what was submitted last; ports `next_completion`. Of the device's data only the length is asked for. Status: 0 Success, 1 Stall,

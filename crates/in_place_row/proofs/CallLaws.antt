@@ -134,7 +134,7 @@ module _ (b row results : List ℕ) (n : ℕ) (regions : Regions) (l : List ℕ)
 
     module _ (accepts : is_accepted a ≡ true) where
       -- behind every yes, what the walk asks for
-      walkable-row : (length (trbs_in row) ≤ max_row) × ((length (results_in results) ≤ max_row) × ((trbs_in row ≡ places_of In (length row / place_length) row) × Walkable (trbs_in row) (results_in results) (length l)))
+      pub walkable-row : (length (trbs_in row) ≤ max_row) × ((length (results_in results) ≤ max_row) × ((trbs_in row ≡ places_of In (length row / place_length) row) × Walkable (trbs_in row) (results_in results) (length l)))
       walkable-row =
           let known = known-row (block_of b) (row_count row results) (trbs_in row) (length (results_in results)) (results_in results) n regions l a e accepts in
           let fits = row_fits row results known.few in

@@ -2,6 +2,7 @@
 #![tactic(auto)]
 
 ghost use Rattle.std.specs.Prelude.{◌≡◌};
+ghost use Rattle.std.specs.Fn.{FnOnceTakesAtMut, FnOnceReturnsAtMut};
 ghost use Rattle.lent_laws.specs.Layers.{returned_with, TakesCompletion, CompletesBy, TakesSubmission, SubmitsBy, TakesCollecting, CollectsBy};
 
 use trb::{Logged, Returned};
@@ -12,6 +13,14 @@ pub fn cancel_layer<B: Copy, F: FnOnce(B) -> B>(block: &mut B, callee: F)
     ensures { F.post callee block.old block.new }
 {
     *block = callee(*block);
+}
+
+// A slice is lent again, for the time of a call, and comes back as the call left it.
+pub fn lent_again<T, R, F: FnOnce(&mut [T]) -> R>(row: &mut [T], callee: F) -> R
+    requires { FnOnceTakesAtMut F.FnOnce callee row.old }
+    ensures { FnOnceReturnsAtMut F.FnOnce callee row.old result row.new }
+{
+    callee(row)
 }
 
 // The block that the callee returned is left in the place of the one that was lent; the answer and the number of records stay.

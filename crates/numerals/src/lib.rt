@@ -110,3 +110,12 @@ pub fn subtract_power(n: u32, power: u32) -> Place
     }
     Place { digit, rest }
 }
+
+// The character of a decimal digit.
+#[tactic(auto, unfolding(crate::specs::Digits::digit_char))]
+pub fn decimal_char(digit: u8) -> u8
+    requires { digit < 10 }
+    ensures { result ≡ digit_char digit }
+{
+    b'0' + digit
+}

@@ -60,7 +60,7 @@ fn all_at_most(numbers: &[u64], limits: &[u64]) -> bool
 }
 
 // Has the line as many numbers as there are limits, and is each at most its limit?
-fn within_limits(fields: Fields, limits: &[u64]) -> bool
+pub fn within_limits(fields: Fields, limits: &[u64]) -> bool
     requires { length limits.now ≤ max_numbers }
     ensures { result ≡ within_limits limits.now fields }
 {

@@ -1,7 +1,7 @@
 // The lines of an input, each ended by a line feed, and the text that answers them.
 #![tactic(auto)]
 
-ghost use Rattle.std.specs.Prelude.{◌≡◌, ◌+◌, ◌-◌, ◌≤◌, ◌<◌, not, eqb, [], ◌++◌, length, take, IfOk, OnOk};
+ghost use Rattle.std.specs.Prelude.{◌≡◌, ◌+◌, ◌-◌, ◌≤◌, ◌<◌, not, eqb, [], ◌++◌, length, take, IfOk, OnOk, OnErr};
 ghost use Rattle.std.specs.List.{take_while};
 ghost use Rattle.std.specs.Io.KnownBytes.{Appends, Consumes, IsAtEnd};
 ghost use Rattle.script_lines.specs.Lines.{max_line, line_feed, LineEnd, MakesRoom, KeepsText, bad_line_text, counted};
@@ -84,6 +84,7 @@ fn move_to_front(input: &mut Input<'_>)
 #[tactic(auto, using(crate::proofs::LineLaws::read_part))]
 fn read_behind<R: Read>(reader: &mut R, input: &mut Input<'_>) -> io::Result<()>
     ensures same { input.new.bytes.ghost_name ≡ input.old.bytes.ghost_name }
+    ensures size { length input.new.bytes.now ≡ length input.old.bytes.now }
     ensures behind { IfOk result (λ _. ReadBehind input.old input.new) }
     ensures bytes { IfOk result (λ _. Consumes (R.remaining reader.old) (R.remaining reader.new) (bytes_behind input.old.filled input.new)) }
     ensures end { IfOk result (λ _. input.new.filled ≡ input.old.filled → input.old.filled < length input.old.bytes.now → IsAtEnd (R.remaining reader.new)) }
@@ -107,6 +108,7 @@ fn at_end(held: usize) -> Refilled
 #[tactic(auto, using(crate::proofs::LineLaws::piece_read))]
 pub fn refill<R: Read>(reader: &mut R, input: &mut Input<'_>) -> io::Result<Refilled>
     ensures same { input.new.bytes.ghost_name ≡ input.old.bytes.ghost_name }
+    ensures size { length input.new.bytes.now ≡ length input.old.bytes.now }
     ensures refills { IfOk result (λ r. Refills r input.old input.new) }
     ensures bytes { IfOk result (λ r. Consumes (R.remaining reader.old) (R.remaining reader.new) (refill_bytes r (left input.old) input.new)) }
     ensures end { IfOk result (λ r. refill_bytes r (left input.old) input.new ≡ [] → left input.old ≤ max_line → left input.old < length input.old.bytes.now → IsAtEnd (R.remaining reader.new)) }
@@ -126,6 +128,7 @@ pub fn refill<R: Read>(reader: &mut R, input: &mut Input<'_>) -> io::Result<Refi
 // The next line of the input, or a further piece of it. A line is taken: what is left stands behind it.
 pub fn next_line<R: Read>(reader: &mut R, input: &mut Input<'_>) -> io::Result<Found>
     ensures same { input.new.bytes.ghost_name ≡ input.old.bytes.ghost_name }
+    ensures size { length input.new.bytes.now ≡ length input.old.bytes.now }
     ensures next { IfOk result (λ f. NextLine input.old f input.new) }
     ensures bytes { IfOk result (λ f. Consumes (R.remaining reader.old) (R.remaining reader.new) (found_bytes f (left input.old) input.new)) }
 {
@@ -152,6 +155,7 @@ pub fn make_room<W: Write>(writer: &mut W, text: &mut Text<'_>, most: usize) -> 
     requires { most ≤ length text.old.bytes.now }
     ensures same { text.new.bytes.ghost_name ≡ text.old.bytes.ghost_name }
     ensures bytes { text.new.bytes.now ≡ text.old.bytes.now }
+    ensures kept { OnErr result (text.new.end ≡ text.old.end) }
     ensures room { IfOk result (λ _. MakesRoom most text.old text.new) }
     ensures text { IfOk result (λ _. KeepsText text.old text.new (W.contents writer.old) (W.contents writer.new)) }
 {

@@ -46,7 +46,7 @@ const CHAINED_FLAGS: u8 = CYCLE | CHAIN | INTERRUPT_ON_COMPLETION;
 const UNRECOGNIZED: u8 = 0;
 
 // B is at most this where the kind has it.
-const MAX_LENGTH: u64 = 0xffff_ffff;
+pub const MAX_LENGTH: u64 = 0xffff_ffff;
 
 // Is the flag one that the kind has, if it is set?
 fn allows(flags: u8, kind_has: u8, flag: u8) -> bool

@@ -14,11 +14,13 @@ pub fn put_decimal(text: &mut Text<'_>, n: u32)
     ensures { Wrote decimal_places text.old (decimal_of n) text.new }
 {
     let mut rest = n;
-    for place in (0..numerals::first_place(n) + 1).rev() {
+    for place in (1..numerals::first_place(n) + 1).rev() {
         let high = numerals::subtract_power(rest, numerals::power_of_ten(place));
-        text.put_char(numerals::digit_char(high.digit));
+        text.put_char(numerals::decimal_char(high.digit));
         rest = high.rest;
     }
+    // The last digit is what is left.
+    text.put_char(numerals::decimal_char(rest as u8));
 }
 
 // Writes digits, all of them.

@@ -51,7 +51,7 @@ returns c =
     let to : c.extra-2.result ≡ extra_of (other_link (le_field 20 4 l)) = c.extra-2.ensures.0 ∙ ap extra_of other in
     let front : List ℕ = file_head (le_field 8 4 l) (le_field 12 4 l) (le_field 16 4 l) (other_link (le_field 20 4 l)) in
     let cells : c.file_head.result ≡ front =
-    c.file_head.ensures ∙ (λ i. file_head (c.le32.ensures i) (c.le32-2.ensures i) (c.le32-3.ensures i) (other i)) in
+    c.file_head.ensures ∙ (λ i. file_head (c.le32.ensures i) (c.le32-2.ensures i) (c.le32-3.ensures i) ((c.from.ensures ∙ other) i)) in
     let wrote = wrote-append (rw cells at c.put_word.ensures) (rw (part-from l 24, from, to) at c.write_records.ensures) in
     let last = wrote.bytes ∙ ap (patch c.args.dst.now 0) (sym (converted_bytes-are l)) in
     search rules

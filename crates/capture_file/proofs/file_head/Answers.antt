@@ -22,5 +22,4 @@ returns c =
       c.to_le_bytes-5.ensures ∙ le_bytes_4 _,
       c.to_le_bytes-6.ensures ∙ le_bytes_4 _,
       c.to_le_bytes-7.ensures ∙ le_bytes_4 _,
-      c.from.ensures,
     ) refl

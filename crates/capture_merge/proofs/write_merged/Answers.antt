@@ -78,7 +78,7 @@ returns c =
     let chosen : c.max-snap.result ≡ snap = rw (← c.le32-2.ensures, ← c.le32.ensures) (c.max-snap.ensures ∙ max-larger _ _) in
     let front : List ℕ = file_head (le_field 8 4 a) (le_field 12 4 a) snap (le_field 20 4 a) in
     let cells : c.file_head.result ≡ front =
-    c.file_head.ensures ∙ rw (chosen, c.le32-4.ensures, c.le32-3.ensures, c.requires.linked.0) in
+    c.file_head.ensures ∙ rw (chosen, c.le32-4.ensures, c.le32-3.ensures, c.from.ensures, c.requires.linked.0) in
     let wrote = wrote-append (rw cells at c.put_word.ensures) (rw (part-from a 24, part-from b 24, extra) at c.merge_records.ensures) in
     let last = wrote.bytes ∙ ap (patch c.args.dst.now 0) (sym (merged_file_bytes-are a b c.requires.linked.1)) in
     search rules
